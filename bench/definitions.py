@@ -170,7 +170,7 @@ def files_of(cell, crates):
     """The files that a row names. One without a folder is of the crate of the file before it, or else of one of those above the table."""
     files = {}
     for name in re.findall(r"`([\w/]+\.antt)`", cell):
-        crates = [name.split("/")[0]] if "/" in name else crates
+        crates = [name.split("/")[0]] if "/" in name.removeprefix("steps/") else crates
         files[name] = [f"{crate}/specs/{name.split('specs/')[-1]}" for crate in crates]
     return files
 

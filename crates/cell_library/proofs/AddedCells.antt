@@ -26,10 +26,10 @@ use Rattle.cell_tree.proofs.SizeLaws.{child_is_lower}
 use Rattle.cell_tree.proofs.ArrivalLaws.{above_as_deep}
 use Rattle.cell_library.specs.declared.faults.LibFault.{LibFault}
 use Rattle.cell_library.specs.declared.faults.LibFault.TheVariants.{Cycle, Memory}
-use Rattle.cell_library.specs.AddedCells.{AreCellsAdded, AreFitFor, HasNearLabels, TreeRefusesAll, contents_with, held_from, names_in, new_views}
+use Rattle.cell_library.specs.steps.AddedCells.{AreCellsAdded, AreFitFor, HasNearLabels, TreeRefusesAll, contents_with, held_from, names_in, new_views}
 use Rattle.cell_library.specs.Additions.{AddAllIsRefused, AreNextCells, CanBeAdded, IsBelowItself, first_scale}
 use Rattle.cell_library.specs.Additions.{kept_cell, kept_use, names_with, with_all}
-use Rattle.cell_library.specs.CellEdits.{of_tree}
+use Rattle.cell_library.specs.steps.CellEdits.{of_tree}
 use Rattle.cell_library.specs.Contents.{Held, held_at}
 use Rattle.cell_library.specs.Libraries.{LibraryParts, IsLawfulLibrary, IsLawfulHeld, IsLawfulScale, HasUseIds, cells_seen, uses_in, seen, edits_of}
 use Rattle.cell_library.specs.Limits.{AreStatesOf, GoesPast}

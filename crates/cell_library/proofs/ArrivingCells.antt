@@ -20,7 +20,7 @@ use Rattle.cell_tree.specs.declared.new_cells.NewCell.{NewCell}
 use Rattle.cell_tree.specs.declared.use_tables.UseBody.{UseBody}
 use Rattle.cell_tree.specs.Additions.{new_state, new_states}
 use Rattle.cell_tree.specs.Sizes.{CellState}
-use Rattle.cell_library.specs.AddedCells.{AreFitFor, AreUsesAmong, contents_with, held_from, kept_uses, names_in, new_views, views_from}
+use Rattle.cell_library.specs.steps.AddedCells.{AreFitFor, AreUsesAmong, contents_with, held_from, kept_uses, names_in, new_views, views_from}
 use Rattle.cell_library.specs.Additions.{kept_cell, kept_use}
 use Rattle.cell_library.specs.Contents.{Held, held_at, no_held, position_of}
 use Rattle.cell_library.specs.Limits.{AreStatesOf}

@@ -34,7 +34,7 @@ use Rattle.cell_tree.specs.Hulls.{IsLawfulBox}
 use Rattle.cell_tree.specs.Sizes.{CellState, AreUsesBelow}
 use Rattle.cell_tree.specs.Trees.{IsLawfulOwn}
 use Rattle.cell_tree.specs.Uses.{IsLawfulUse}
-use Rattle.cell_library.specs.AddedCells.{AreUsesAmong, kept_uses, names_in}
+use Rattle.cell_library.specs.steps.AddedCells.{AreUsesAmong, kept_uses, names_in}
 use Rattle.cell_library.specs.Additions.{kept_use}
 use Rattle.cell_library.specs.Contents.{Held, position_of}
 use Rattle.cell_library.specs.Edits.{transform_of}

@@ -28,7 +28,7 @@ use Rattle.cell_tree.specs.Uses.{displacements, IsLawfulGrid, IsLawfulUse, IsShi
 use Rattle.cell_library.specs.declared.spots.Spot.{Spot}
 use Rattle.cell_library.specs.declared.spots.UseSearch.{UseSearch}
 use Rattle.cell_library.specs.LayoutTrees.{element_transform}
-use Rattle.cell_library.specs.Spans.{IsGridOf, spot_at, spots_to, seen_by, seen_low_x, seen_high_x, seen_low_y, seen_high_y, CanBeDropped}
+use Rattle.cell_library.specs.steps.Spans.{IsGridOf, spot_at, spots_to, seen_by, seen_low_x, seen_high_x, seen_low_y, seen_high_y, CanBeDropped}
 use Rattle.cell_library.specs.Spots.{AddsSpots, HasRoomToMove}
 use Rattle.cell_library.proofs.PlacedRects.{back_on}
 use Rattle.cell_library.proofs.SpotLaws.{spots_at-more, spots_both, spots_one, spots_none, spots_dropped}

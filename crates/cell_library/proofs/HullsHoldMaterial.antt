@@ -36,7 +36,7 @@ use Rattle.layout_model.specs.CellTrees.Elements.{no_elements, element_and}
 use Rattle.layout_model.specs.FlatSets.{flat_sets, sets_below, sets_in}
 use Rattle.cell_library.specs.LayoutTrees.{element_transform, elements_at, elements_from, tree_to}
 use Rattle.cell_library.specs.Limits.{AreStatesOf}
-use Rattle.cell_library.specs.MaterialBelow.{HasMaterial, HasMaterialBelow}
+use Rattle.cell_library.specs.steps.MaterialBelow.{HasMaterial, HasMaterialBelow}
 use Rattle.cell_library.specs.OwnBoxes.{OwnBoxIs}
 use Rattle.cell_library.specs.Views.{CellView, LibraryView, no_cell, view_at}
 use Rattle.layout_model.proofs.SetUnions.{union_some}

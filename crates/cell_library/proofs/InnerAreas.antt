@@ -17,7 +17,7 @@ use Rattle.tech_model.proofs.WellFormedLaws.{In-range_with_len}
 use Rattle.layout_model.specs.Layouts.{Layout, IsMaterial}
 use Rattle.layout_model.specs.Places.{Place}
 use Rattle.cell_library.specs.OwnBoxes.{HasOwn, HoldsOwn, IsOwnBox}
-use Rattle.cell_library.specs.OwnRestorations.{is_inside}
+use Rattle.cell_library.specs.steps.OwnRestorations.{is_inside}
 
 -- ---- whether there is material
 

@@ -28,7 +28,7 @@ use Rattle.cell_library.specs.declared.faults.LibFault.{LibFault}
 use Rattle.cell_library.specs.declared.faults.LibFault.TheVariants.{OutOfRange, NoUse, TooMany}
 use Rattle.cell_library.specs.declared.limits.LibraryLimit.TheVariants.{Elements as ElementsLimit, Edits}
 use Rattle.cell_library.specs.declared.limits.TheConstants.{MOST_EDITS}
-use Rattle.cell_library.specs.CellEdits.{of_tree, IsArrayedIn, GridIsRefused, IsMovedIn, ShiftIsRefused, HasUseAt}
+use Rattle.cell_library.specs.steps.CellEdits.{of_tree, IsArrayedIn, GridIsRefused, IsMovedIn, ShiftIsRefused, HasUseAt}
 use Rattle.cell_library.specs.Edits.{with_grid, moved, moved_use, with_use_changed}
 use Rattle.cell_library.specs.Libraries.{LibraryParts, IsLawfulLibrary, HasUseIds, cells_seen, seen, edits_of}
 use Rattle.cell_library.specs.Limits.{AreStatesOf, GoesPast}

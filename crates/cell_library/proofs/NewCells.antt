@@ -20,7 +20,7 @@ use Rattle.cell_library.specs.declared.faults.LibFault.{LibFault}
 use Rattle.cell_library.specs.declared.faults.LibFault.TheVariants.{CellExists, TooMany}
 use Rattle.cell_library.specs.declared.limits.LibraryLimit.TheVariants.{Cells}
 use Rattle.cell_library.specs.declared.limits.TheConstants.{MOST_CELLS}
-use Rattle.cell_library.specs.CellEdits.{IsCellAdded}
+use Rattle.cell_library.specs.steps.CellEdits.{IsCellAdded}
 use Rattle.cell_library.specs.Contents.{Held, position_of}
 use Rattle.cell_library.specs.Edits.{empty_cell, with_new_cell}
 use Rattle.cell_library.specs.Libraries.{LibraryParts, IsLawfulLibrary, IsLawfulHeld, IsLawfulScale, HasUseIds, IsNextCell, cells_seen, uses_in, seen, edits_of}

@@ -19,7 +19,7 @@ use Rattle.cell_tree.specs.declared.sizes.Dimension.TheVariants.{Hull}
 use Rattle.cell_tree.specs.Trees.{Tree, IsLawfulTree, cell_at, with_own, empty_cell as empty_state}
 use Rattle.cell_library.specs.declared.faults.LibFault.{LibFault}
 use Rattle.cell_library.specs.declared.faults.LibFault.TheVariants.{NoLabel}
-use Rattle.cell_library.specs.CellEdits.{with_area, BoxIsRefused, IsErasedIn, IsLabelledIn, IsUnlabelledIn}
+use Rattle.cell_library.specs.steps.CellEdits.{with_area, BoxIsRefused, IsErasedIn, IsLabelledIn, IsUnlabelledIn}
 use Rattle.cell_library.specs.Contents.{Held, held_at, no_held, with_label, without_labels}
 use Rattle.cell_library.specs.Edits.{erased, labelled}
 use Rattle.cell_library.specs.Libraries.{LibraryParts, IsLawfulLibrary, cells_seen, uses_in, seen, edits_of}

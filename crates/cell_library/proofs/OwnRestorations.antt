@@ -35,7 +35,7 @@ use Rattle.cell_library.specs.Contents.{Held, held_at, with_labels, without_last
 use Rattle.cell_library.specs.Libraries.{LibraryParts, IsLawfulLibrary, cells_seen, uses_in, seen}
 use Rattle.cell_library.specs.Limits.{AreStatesOf}
 use Rattle.cell_library.specs.OwnBoxes.{OwnBoxIs}
-use Rattle.cell_library.specs.OwnRestorations.{HasRoomFor, IsBoxBefore, IsPutBackIn, IsRelabelledIn}
+use Rattle.cell_library.specs.steps.OwnRestorations.{HasRoomFor, IsBoxBefore, IsPutBackIn, IsRelabelledIn}
 use Rattle.cell_library.specs.Refusals.{EditIsRefused, NothingElse}
 use Rattle.cell_library.specs.LawfulViews.{IsLawfulView}
 use Rattle.cell_library.specs.Restorations.{relabelled}

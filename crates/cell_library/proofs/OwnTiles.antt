@@ -26,7 +26,7 @@ use Rattle.cell_library.specs.declared.part_tiles.PartTile.{PartTile}
 use Rattle.cell_library.specs.declared.spots.Spot.{Spot}
 use Rattle.cell_library.specs.Spots.{standing_at, tile_at, AddsOwn}
 use Rattle.cell_library.specs.Views.{LibraryView, view_at}
-use Rattle.cell_library.specs.VisitedTiles.{IsCutOf, HasTileAt, HasThere, AreOwnTold, AddsTiles}
+use Rattle.cell_library.specs.steps.VisitedTiles.{IsCutOf, HasTileAt, HasThere, AreOwnTold, AddsTiles}
 use Rattle.cell_library.proofs.PlacedRects.{cut_there, rect_back, rect_proper, rect_unproper, covers_back}
 
 -- ---- pieces

@@ -20,7 +20,7 @@ use Rattle.cell_tree.specs.declared.sizes.Dimension.TheVariants.{Hull}
 use Rattle.cell_tree.specs.Sizes.{CellState}
 use Rattle.cell_tree.specs.Trees.{Tree, IsLawfulTree, cell_at, empty_cell as empty_state}
 use Rattle.cell_library.specs.declared.faults.LibFault.{LibFault}
-use Rattle.cell_library.specs.CellEdits.{with_area, BoxIsRefused, IsPaintedIn}
+use Rattle.cell_library.specs.steps.CellEdits.{with_area, BoxIsRefused, IsPaintedIn}
 use Rattle.cell_library.specs.Contents.{Held, held_at, no_held}
 use Rattle.cell_library.specs.Edits.{painted}
 use Rattle.cell_library.specs.Libraries.{LibraryParts, IsLawfulLibrary, IsLawfulHeld, cells_seen, uses_in, seen, edits_of}

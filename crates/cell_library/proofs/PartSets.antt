@@ -24,7 +24,7 @@ use Rattle.cell_library.specs.declared.part_tiles.PartTile.{PartTile}
 use Rattle.cell_library.specs.LayoutTrees.{tree_at, tree_to}
 use Rattle.cell_library.specs.Views.{LibraryView}
 use Rattle.cell_library.specs.PartTiles.{set_from, set_of_part, set_of_tiles, IsPartTileIn}
-use Rattle.cell_library.specs.VisitedTiles.{placed_cells, placed_below, AddsTiles, IsCutOf, HasThere, AreTold}
+use Rattle.cell_library.specs.steps.VisitedTiles.{placed_cells, placed_below, AddsTiles, IsCutOf, HasThere, AreTold}
 use Rattle.cell_library.proofs.PlacedCells.{standings_placed}
 use Rattle.cell_library.proofs.PlacedRects.{back_on, identity_back, then_identity}
 use Rattle.layout_model.proofs.SetUnions.{union_none, none_union, union_assoc}

@@ -21,9 +21,9 @@ use Rattle.layout_model.specs.CellTrees.CellTree.{cell_tree}
 use Rattle.layout_model.specs.CellTrees.Elements.{no_elements, element_and}
 use Rattle.cell_library.specs.LayoutTrees.{elements_at, elements_from, tree_to}
 use Rattle.cell_library.specs.Limits.{AreStatesOf}
-use Rattle.cell_library.specs.MaterialBelow.{HasMaterial, HasMaterialBelow}
+use Rattle.cell_library.specs.steps.MaterialBelow.{HasMaterial, HasMaterialBelow}
 use Rattle.cell_library.specs.Views.{LibraryView, view_at}
-use Rattle.cell_library.specs.VisitedTiles.{placed_cells, placed_below, HasThere, AreOutside}
+use Rattle.cell_library.specs.steps.VisitedTiles.{placed_cells, placed_below, HasThere, AreOutside}
 use Rattle.cell_library.proofs.ElementCounts.{size_elements}
 use Rattle.cell_library.proofs.HullsHoldMaterial.{hull_holds_material, state_uses}
 use Rattle.cell_library.proofs.PlacedRects.{back_on, composed_assoc, identity_then, then_identity}

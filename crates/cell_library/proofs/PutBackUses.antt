@@ -28,7 +28,7 @@ use Rattle.cell_tree.proofs.ShrinkLaws.{AreAmong}
 use Rattle.cell_tree.proofs.StateLaws.{among_get, among_inserted, get_new}
 use Rattle.cell_library.specs.declared.faults.LibFault.{LibFault}
 use Rattle.cell_library.specs.declared.limits.TheConstants.{MOST_EDITS}
-use Rattle.cell_library.specs.CellEdits.{TreeRefusesMove, HasUseAt}
+use Rattle.cell_library.specs.steps.CellEdits.{TreeRefusesMove, HasUseAt}
 use Rattle.cell_library.specs.Edits.{with_use_changed}
 use Rattle.cell_library.specs.Libraries.{LibraryParts, IsLawfulLibrary, HasUseIds, cells_seen, seen}
 use Rattle.cell_library.specs.Limits.{AreStatesOf}

@@ -29,10 +29,10 @@ use Rattle.cell_tree.specs.Sizes.{size_at}
 use Rattle.cell_tree.specs.Uses.{displacements, IsLawfulGrid, IsLawfulUse, IsShift}
 use Rattle.cell_library.specs.declared.spots.Spot.{Spot}
 use Rattle.cell_library.specs.declared.spots.UseSearch.{UseSearch}
-use Rattle.cell_library.specs.Spans.{HoldsMultiples, IsGridOf, spots_to, seen_low_x, seen_high_x, seen_low_y, seen_high_y, CanBeDropped, AddsRow}
-use Rattle.cell_library.specs.Spans.{SpansFar}
+use Rattle.cell_library.specs.steps.Spans.{HoldsMultiples, IsGridOf, spots_to, seen_low_x, seen_high_x, seen_low_y, seen_high_y, CanBeDropped, AddsRow}
+use Rattle.cell_library.specs.steps.Spans.{SpansFar}
 use Rattle.cell_library.specs.Spots.{spots_at, AddsSpots, StandsApart}
-use Rattle.cell_library.specs.UsePlaces.{IsApart}
+use Rattle.cell_library.specs.steps.UsePlaces.{IsApart}
 use Rattle.cell_library.proofs.GridSpots.{IsStepSmall, displaced_at, dropped_from, length-displacements, rows_dropped}
 use Rattle.cell_library.proofs.SpotLaws.{sifted_weaken, spots_dropped}
 

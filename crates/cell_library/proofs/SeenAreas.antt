@@ -11,7 +11,7 @@ use Rattle.geo_core.proofs.ElementLaws.{columns, rows}
 use Rattle.cell_tree.specs.Hulls.{IsPaintable}
 use Rattle.cell_tree.specs.Uses.{IsShift}
 use Rattle.cell_library.specs.declared.spots.UseSearch.{UseSearch}
-use Rattle.cell_library.specs.Spans.{seen_by, seen_low_x, seen_high_x, seen_low_y, seen_high_y, HasRoomFor, HoldsMultiples, IsGridOf}
+use Rattle.cell_library.specs.steps.Spans.{seen_by, seen_low_x, seen_high_x, seen_low_y, seen_high_y, HasRoomFor, HoldsMultiples, IsGridOf}
 use Rattle.cell_library.proofs.RowSpots.{holds_same, kept, kept_columns, kept_rows, kept_shift, seen_far, IsFarther, SpansFarther}
 
 -- The rectangle is what is seen of the area, not too far away.

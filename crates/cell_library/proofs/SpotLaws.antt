@@ -17,7 +17,7 @@ use Rattle.cell_library.specs.declared.part_tiles.PartTile.{PartTile}
 use Rattle.cell_library.specs.declared.spots.Spot.{Spot}
 use Rattle.cell_library.specs.LayoutTrees.{element_transform, elements_at, elements_from}
 use Rattle.cell_library.specs.Spots.{spots_at, spots_from, own_elements, cells_at, AreSifted, AreSiftedBy, AreNumbered, AreToldTo, AddsSpots}
-use Rattle.cell_library.specs.VisitedTiles.{placed_cells, placed_below, AddsTiles, AreOutside}
+use Rattle.cell_library.specs.steps.VisitedTiles.{placed_cells, placed_below, AddsTiles, AreOutside}
 use Rattle.cell_library.proofs.PlacedCells.{cells_in, length-placed}
 use Rattle.cell_library.proofs.ToldTiles.{adds_none, adds_both}
 

@@ -16,7 +16,7 @@ use Rattle.geo_core.proofs.StripSets.{strip_within}
 use Rattle.layout_model.specs.Places.{Place}
 use Rattle.layout_model.specs.CellTrees.{Standing}
 use Rattle.cell_library.specs.declared.part_tiles.PartTile.{PartTile}
-use Rattle.cell_library.specs.VisitedTiles.{IsCutOf, HasThere, AreTold, AddsTiles, AreOutside}
+use Rattle.cell_library.specs.steps.VisitedTiles.{IsCutOf, HasThere, AreTold, AddsTiles, AreOutside}
 
 -- ---- places in lists
 

@@ -30,7 +30,7 @@ use Rattle.cell_tree.proofs.WholeLaws.{cell_is}
 use Rattle.cell_library.specs.declared.faults.LibFault.{LibFault}
 use Rattle.cell_library.specs.declared.faults.LibFault.TheVariants.{OutOfRange, NoUse, Cycle, TooMany, Memory}
 use Rattle.cell_library.specs.declared.limits.LibraryLimit.TheVariants.{Uses as UsesLimit, Depth as DepthLimit, Elements as ElementsLimit}
-use Rattle.cell_library.specs.CellEdits.{of_tree, TreeRefusesUse, IsPlacedIn, IsDeletedIn}
+use Rattle.cell_library.specs.steps.CellEdits.{of_tree, TreeRefusesUse, IsPlacedIn, IsDeletedIn}
 use Rattle.cell_library.specs.Contents.{held_at, no_held}
 use Rattle.cell_library.specs.Edits.{placed, transform_of, single_use}
 use Rattle.cell_library.specs.Libraries.{LibraryParts, IsLawfulLibrary, HasUseIds, cells_seen, uses_in, seen, edits_of}

@@ -31,7 +31,7 @@ use Rattle.cell_library.specs.declared.use_trees.UseStart.{UseStart}
 use Rattle.cell_library.specs.declared.use_trees.UseTree.{UseTree}
 use Rattle.cell_library.specs.LayoutTrees.{element_transform}
 use Rattle.cell_library.specs.Spots.{spots_from, AddsSpots, AreSiftedBy}
-use Rattle.cell_library.specs.UsePlaces.{spots_before, spots_of_use, spots_under, HasRoomBelow, IsApart}
+use Rattle.cell_library.specs.steps.UsePlaces.{spots_before, spots_of_use, spots_under, HasRoomBelow, IsApart}
 use Rattle.cell_library.specs.UseTrees.{place_at, start_at, use_box, IsUseTree}
 use Rattle.cell_library.proofs.HullsHoldMaterial.{covered_by_all, covers_from_back, element_image, In-element_hulls}
 use Rattle.cell_library.proofs.PlacedRects.{back_on}

@@ -19,7 +19,7 @@ use Rattle.cell_tree.specs.Uses.{HasIdAt, IsShift, IsLawfulUse}
 use Rattle.cell_tree.specs.Sizes.{CellState}
 use Rattle.cell_tree.specs.Trees.{Tree, IsLawfulTree, cell_at}
 use Rattle.cell_tree.proofs.WholeLaws.{cell_is}
-use Rattle.cell_library.specs.CellEdits.{HasUseAt}
+use Rattle.cell_library.specs.steps.CellEdits.{HasUseAt}
 use Rattle.cell_library.specs.Edits.{transform_of, single_use}
 use Rattle.cell_library.specs.Refusals.{has_id, are_displacements}
 use Rattle.cell_library.proofs.UseLists.{has_there}

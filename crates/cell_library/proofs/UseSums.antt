@@ -20,7 +20,7 @@ use Rattle.cell_library.specs.declared.spots.Spot.{Spot}
 use Rattle.cell_library.specs.declared.spots.UsePlace.{UsePlace}
 use Rattle.cell_library.specs.LayoutTrees.{element_transform}
 use Rattle.cell_library.specs.Spots.{spots_at, spots_from, own_elements, AddsSpots, HasRoomToMove, CanBeVisited}
-use Rattle.cell_library.specs.UsePlaces.{HasRoomBelow, spots_before, spots_of_use, spots_under}
+use Rattle.cell_library.specs.steps.UsePlaces.{HasRoomBelow, spots_before, spots_of_use, spots_under}
 use Rattle.cell_library.specs.UseTrees.{place_at, start_at, start_behind}
 use Rattle.cell_library.proofs.GridSpots.{element_moves, room_below, room_for_less}
 use Rattle.cell_library.proofs.ElementCounts.{size_elements}

@@ -29,12 +29,12 @@ use Rattle.cell_library.specs.declared.part_tiles.PartTile.{PartTile}
 use Rattle.cell_library.specs.declared.spots.Spot.{Spot}
 use Rattle.cell_library.specs.LayoutTrees.{elements_from, tree_to}
 use Rattle.cell_library.specs.Libraries.{LibraryParts, IsLawfulLibrary, seen}
-use Rattle.cell_library.specs.Spans.{SpansFar}
+use Rattle.cell_library.specs.steps.Spans.{SpansFar}
 use Rattle.cell_library.specs.Spots.{cells_at, standing_at, AreNumbered, AreSifted, AreSiftedBy, AreToldTo, CanBeVisited, HasRoomToMove}
-use Rattle.cell_library.specs.UsePlaces.{IsApart, spots_under}
+use Rattle.cell_library.specs.steps.UsePlaces.{IsApart, spots_under}
 use Rattle.cell_library.specs.Views.{view_at}
-use Rattle.cell_library.specs.Visits.{HullIsAt}
-use Rattle.cell_library.specs.VisitedTiles.{placed_cells, placed_below, AddsTiles, AreOutside}
+use Rattle.cell_library.specs.steps.Visits.{HullIsAt}
+use Rattle.cell_library.specs.steps.VisitedTiles.{placed_cells, placed_below, AddsTiles, AreOutside}
 use Rattle.cell_library.proofs.HullsHoldMaterial.{hull_holds_material, state_uses}
 use Rattle.cell_library.proofs.OwnTiles.{HullHoldsOwn}
 use Rattle.cell_library.proofs.PlacedCells.{cells_counted, outside_hull}

@@ -4,9 +4,7 @@ pub use Rattle.cell_paint.specs as CellPaint
 pub use Rattle.cell_tree.specs as CellTree
 pub use Rattle.layout_model.specs as LayoutModel
 pub use Rattle.tech_model.specs as TechModel
-pub mod AddedCells
 pub mod Additions
-pub mod CellEdits
 pub mod Contents
 pub mod Edits
 pub mod ElementBoxes
@@ -15,19 +13,14 @@ pub mod LawfulViews
 pub mod LayoutTrees
 pub mod Libraries
 pub mod Limits
-pub mod MaterialBelow
 pub mod OwnBoxes
-pub mod OwnRestorations
 pub mod PartCounts
 pub mod PartTiles
 pub mod PutBackUses
 pub mod Refusals
 pub mod Restorations
 pub mod Seen
-pub mod Spans
 pub mod Spots
-pub mod UsePlaces
 pub mod UseTrees
 pub mod Views
-pub mod VisitedTiles
-pub mod Visits
+pub mod steps

@@ -7,7 +7,7 @@ use Rattle.cell_tree.specs.declared.use_tables.UseBody.{UseBody}
 use Rattle.cell_tree.specs.Sizes.{CellState}
 use Rattle.cell_tree.specs.Trees.{Tree, IsEdited, IsLawfulTree, cell_at, with_inserted, with_moved}
 use Rattle.cell_library.specs.declared.limits.TheConstants.{MOST_EDITS}
-use Rattle.cell_library.specs.CellEdits.{HasUseAt}
+use Rattle.cell_library.specs.steps.CellEdits.{HasUseAt}
 
 -- the place of the use with the id
 abbrev pub place_of : List (List ℕ × UseBody) → List ℕ → Option ℕ

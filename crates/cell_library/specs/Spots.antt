@@ -18,7 +18,7 @@ use Rattle.cell_library.specs.declared.part_tiles.PartTile.{PartTile}
 use Rattle.cell_library.specs.declared.spots.Spot.{Spot}
 use Rattle.cell_library.specs.LayoutTrees.{element_transform, own_cell}
 use Rattle.cell_library.specs.Views.{LibraryView}
-use Rattle.cell_library.specs.VisitedTiles.{placed_cells, AreOutside, AreOwnTold, AddsTiles}
+use Rattle.cell_library.specs.steps.VisitedTiles.{placed_cells, AreOutside, AreOwnTold, AddsTiles}
 
 -- Where elements of one use stand that are displaced so far each, in a cell that itself stands under a transform. The first has this part
 -- and this number. The parts rise by this step, and the numbers by this size.

@@ -3,7 +3,7 @@ ghost use Rattle.std.specs.Prelude.{◌≡◌, ◌≤◌, ◌<◌, ◌++◌, ◌
 ghost use Rattle.layout_model.specs.Places.{Place};
 ghost use Rattle.cell_paint.specs.Paints.{layout_of};
 ghost use Rattle.cell_tree.specs.Trees.{IsAdded};
-ghost use Rattle.cell_library.specs.CellEdits.{IsCellAdded};
+ghost use Rattle.cell_library.specs.steps.CellEdits.{IsCellAdded};
 ghost use Rattle.cell_library.specs.Contents.{held_of, position_of};
 ghost use Rattle.cell_library.specs.Refusals.{EditIsRefused, FirstOf, NothingElse, HasFaultOrLacksMemory};
 

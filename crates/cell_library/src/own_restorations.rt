@@ -9,7 +9,7 @@ ghost use Rattle.cell_tree.specs.declared.sizes.Dimension.TheVariants.{Hull};
 ghost use Rattle.cell_tree.specs.Trees.{cell_at, with_own, IsEdited, IsLawfulOwn, WouldPass};
 ghost use Rattle.cell_library.specs.Contents.{held_at, without_last, IsRepainted};
 ghost use Rattle.cell_library.specs.OwnBoxes.{OwnBoxIs};
-ghost use Rattle.cell_library.specs.OwnRestorations.{are_between, is_inside, HasRoomFor, IsBoxBefore, IsPutBackIn, IsRelabelledIn};
+ghost use Rattle.cell_library.specs.steps.OwnRestorations.{are_between, is_inside, HasRoomFor, IsBoxBefore, IsPutBackIn, IsRelabelledIn};
 ghost use Rattle.cell_library.specs.Refusals.{EditIsRefused, NothingElse, HasFaultOrLacksMemory};
 
 use crate::checks::check_edits;

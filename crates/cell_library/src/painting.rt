@@ -4,7 +4,7 @@ ghost use Rattle.cell_bodies.specs.Numbers.{has_sides};
 ghost use Rattle.cell_paint.specs.Paints.{layout_of};
 ghost use Rattle.cell_tree.specs.Hulls.{IsLawfulBox};
 ghost use Rattle.cell_tree.specs.Trees.{cell_at, with_own, IsEdited, WouldKeepWithin};
-ghost use Rattle.cell_library.specs.CellEdits.{with_area, BoxIsRefused, IsPaintedIn, IsErasedIn, IsLabelledIn, IsUnlabelledIn};
+ghost use Rattle.cell_library.specs.steps.CellEdits.{with_area, BoxIsRefused, IsPaintedIn, IsErasedIn, IsLabelledIn, IsUnlabelledIn};
 ghost use Rattle.cell_library.specs.Contents.{held_at, IsRepainted};
 ghost use Rattle.cell_library.specs.Libraries.{IsLawfulHeld};
 ghost use Rattle.cell_library.specs.OwnBoxes.{OwnBoxIs, box_with};

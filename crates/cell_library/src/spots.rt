@@ -10,9 +10,9 @@ ghost use Rattle.cell_tree.specs.Sizes.{size_at};
 ghost use Rattle.cell_tree.specs.Trees.{cell_at, IsLawfulTree};
 ghost use Rattle.cell_tree.specs.declared.limits.TheConstants.{MOST_ELEMENTS_BELOW};
 ghost use Rattle.cell_library.specs.Spots.{AddsSpots, HasRoomToMove};
-ghost use Rattle.cell_library.specs.Spans.{AddsRow, CanBeDropped, HasRoomFor, HoldsMultiples, IsGridOf, SpansFar};
-ghost use Rattle.cell_library.specs.Spans.{seen_high_x, seen_low_x, spot_at, spots_to};
-ghost use Rattle.cell_library.specs.UsePlaces.{IsApart, spots_of_use};
+ghost use Rattle.cell_library.specs.steps.Spans.{AddsRow, CanBeDropped, HasRoomFor, HoldsMultiples, IsGridOf, SpansFar};
+ghost use Rattle.cell_library.specs.steps.Spans.{seen_high_x, seen_low_x, spot_at, spots_to};
+ghost use Rattle.cell_library.specs.steps.UsePlaces.{IsApart, spots_of_use};
 
 use cell_tree::{CellTree, UseBody};
 use ext_model::CellKey;

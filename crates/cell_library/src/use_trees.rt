@@ -5,9 +5,9 @@ ghost use Rattle.cell_tree.specs.declared.limits.TheConstants.{MOST_ELEMENTS_BEL
 ghost use Rattle.cell_tree.specs.Sizes.{size_at};
 ghost use Rattle.cell_tree.specs.Trees.{IsLawfulTree};
 ghost use Rattle.cell_tree.specs.Uses.{displacements, IsLawfulUse};
-ghost use Rattle.cell_library.specs.Spans.{SpansFar};
+ghost use Rattle.cell_library.specs.steps.Spans.{SpansFar};
 ghost use Rattle.cell_library.specs.Spots.{AreSiftedBy};
-ghost use Rattle.cell_library.specs.UsePlaces.{IsApart, HasRoomBelow, spots_under};
+ghost use Rattle.cell_library.specs.steps.UsePlaces.{IsApart, HasRoomBelow, spots_under};
 ghost use Rattle.cell_library.specs.UseTrees.{use_box, place_at, start_behind, AreUseTrees, IsUseTree};
 
 use crate::spots::{Spot, UsePlace, add_use, element_count, use_of};

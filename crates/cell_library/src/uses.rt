@@ -5,8 +5,8 @@ ghost use Rattle.cell_bodies.specs.Numbers.{is_displacement, is_index, are_few_e
 ghost use Rattle.geo_core.specs.declared.grids.Grid.{Grid as OneGrid};
 ghost use Rattle.cell_tree.specs.Uses.{IsShift, IsLawfulGrid, IsLawfulUse};
 ghost use Rattle.cell_tree.specs.Trees.{cell_at, with_inserted, with_moved, IsEdited};
-ghost use Rattle.cell_library.specs.CellEdits.{of_tree, TreeRefusesUse, IsPlacedIn, HasUseAt, TreeRefusesMove, IsArrayedIn, GridIsRefused, IsMovedIn};
-ghost use Rattle.cell_library.specs.CellEdits.{ShiftIsRefused, IsDeletedIn};
+ghost use Rattle.cell_library.specs.steps.CellEdits.{of_tree, TreeRefusesUse, IsPlacedIn, HasUseAt, TreeRefusesMove, IsArrayedIn, GridIsRefused, IsMovedIn};
+ghost use Rattle.cell_library.specs.steps.CellEdits.{ShiftIsRefused, IsDeletedIn};
 ghost use Rattle.cell_library.specs.Edits.{transform_of, moved_use};
 ghost use Rattle.cell_library.specs.Refusals.{EditIsRefused, FirstOf, NothingElse, HasFaultOrLacksMemory, has_id, are_displacements, stands_in_range};
 ghost use Rattle.cell_library.specs.Refusals.{PlacingIsRefused};

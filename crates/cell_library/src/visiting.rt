@@ -16,8 +16,8 @@ ghost use Rattle.cell_library.specs.LayoutTrees.{tree_at, tree_to};
 ghost use Rattle.cell_library.specs.Libraries.{seen};
 ghost use Rattle.cell_library.specs.PartTiles.{set_of_part, set_of_tiles, IsPartTileIn};
 ghost use Rattle.cell_library.specs.Spots.{standing_at, tile_at, CanBeVisited};
-ghost use Rattle.cell_library.specs.Visits.{AddsPlane, HullIsAt, IsNearPart, IsNearSpot};
-ghost use Rattle.cell_library.specs.VisitedTiles.{placed_cells, AddsTiles};
+ghost use Rattle.cell_library.specs.steps.Visits.{AddsPlane, HullIsAt, IsNearPart, IsNearSpot};
+ghost use Rattle.cell_library.specs.steps.VisitedTiles.{placed_cells, AddsTiles};
 ghost use Rattle.cell_library.specs.UseTrees.{AreUseTrees};
 
 use crate::library::Library;

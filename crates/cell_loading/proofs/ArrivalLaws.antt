@@ -18,7 +18,7 @@ use Rattle.cell_loading.specs.declared.loading.Loaded.TheVariants as loaded
 use Rattle.cell_loading.specs.Arrivals.{Arrives}
 use Rattle.cell_loading.specs.Loads.{AreRead, LoadGives, LoadIsRefused}
 use Rattle.cell_loading.specs.Readings.{cell_files}
-use Rattle.cell_loading.specs.Walks.{files_read}
+use Rattle.cell_loading.specs.steps.Walks.{files_read}
 use Rattle.cell_loading.proofs.ReadingLaws.{files_same}
 
 -- there are more cells than before

@@ -14,7 +14,7 @@ use Rattle.cell_library.specs.declared.limits.TheConstants.{MOST_CELLS}
 use Rattle.cell_library.specs.Libraries.{LibraryParts, seen}
 use Rattle.cell_library.specs.Views.{cell_named, names_of}
 use Rattle.cell_library.proofs.ContentLaws.{position_past}
-use Rattle.cell_loading.specs.ReadCells.{is_among, names_in}
+use Rattle.cell_loading.specs.steps.ReadCells.{is_among, names_in}
 
 found_or_not : (test : List ℕ → Bool) (names : List (List ℕ)) (found : Option ℕ) → position test names ≡ found
     → is_some (position test names) ≡ list_any test names

@@ -12,8 +12,8 @@ use Rattle.cell_library.specs.Views.{LibraryView}
 use Rattle.cell_loading.specs.declared.walks.Frame.{Frame}
 use Rattle.cell_loading.specs.declared.walks.Next.{Next}
 use Rattle.cell_loading.specs.declared.walks.Next.TheVariants as next
-use Rattle.cell_loading.specs.ReadCells.{children_of, is_among, no_read, uses_at}
-use Rattle.cell_loading.specs.Walks.{names_left, rest_of, AreFrames, Takes, TakesFrom}
+use Rattle.cell_loading.specs.steps.ReadCells.{children_of, is_among, no_read, uses_at}
+use Rattle.cell_loading.specs.steps.Walks.{names_left, rest_of, AreFrames, Takes, TakesFrom}
 
 -- the names of a frame on top come first
 pub names_left-push : (cells : List (List ℕ × CellBody)) (frames : List Frame) (frame : Frame)

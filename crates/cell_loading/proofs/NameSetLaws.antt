@@ -11,7 +11,7 @@ use Rattle.std.proofs.lemmas.List.Folds.{list_any-append}
 use Rattle.std.proofs.lemmas.List.Sorted.{list_any-IsPermutation}
 use Rattle.cell_bodies.specs.declared.bodies.CellBody.{CellBody}
 use Rattle.mag_text.proofs.UseIdLaws.{or_same, or_swapped}
-use Rattle.cell_loading.specs.ReadCells.{AreNamesOf, names_in}
+use Rattle.cell_loading.specs.steps.ReadCells.{AreNamesOf, names_in}
 
 abbrev is_word : List ℕ → Vec ℕ Global → Bool
 is_word name word = bytes_eq name word.items

@@ -8,7 +8,7 @@ use Rattle.outside_io.specs.Files.{Files}
 use Rattle.session_model.specs.declared.stops.Stop.{Stop}
 use Rattle.session_model.specs.declared.stops.Stop.TheVariants.{Refused, Halted}
 use Rattle.session_model.specs.FileTrees.{Reads, StopsAsking, files_of}
-use Rattle.session_model.specs.Stops.{IfRefused}
+use Rattle.session_model.specs.steps.Stops.{IfRefused}
 use Rattle.session_model.proofs.FileTreeLaws.{goes_by, goes_past, goes_to_end, stops_asking_here}
 use Rattle.tech_model.specs.declared.raw.RawTech.{RawTech}
 use Rattle.cell_bodies.specs.declared.bodies.CellBody.{CellBody}
@@ -20,9 +20,9 @@ use Rattle.mag_text.specs.MagTexts.{HasAllOf, mag_in}
 use Rattle.cell_loading.specs.declared.faults.LoadFault.{LoadFault}
 use Rattle.cell_loading.specs.CellFiles.{ReadCell, cell_file, draft_gives, file_gives, read_gives, is_known, names_read, scale_of_first}
 use Rattle.cell_loading.specs.Loads.{AreBodiesOf, AreRead}
-use Rattle.cell_loading.specs.ReadCells.{children_of, is_among, names_in}
+use Rattle.cell_loading.specs.steps.ReadCells.{children_of, is_among, names_in}
 use Rattle.cell_loading.specs.Readings.{cell_files, children_said, with_name}
-use Rattle.cell_loading.specs.Walks.{GoesOnToBodies, files_read}
+use Rattle.cell_loading.specs.steps.Walks.{GoesOnToBodies, files_read}
 
 abbrev Cells : Type 0
 Cells = List (List ℕ × CellBody)

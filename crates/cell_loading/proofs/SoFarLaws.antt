@@ -2,12 +2,12 @@
 use Rattle.std.proofs.Common.{◌≡◌, inl, inr, ◌<◌, ◌≤◌, ◌+◌, ℕ, Bool, true, false, List}
 use Rattle.std.proofs.Common.{[], ◌∷◌, ◌++◌, length, length-append, refl, sym, ap, subst, ◌∙◌, arith}
 use Rattle.std.proofs.Common.{append-nil, append_assoc, true≢false, map, get_or}
-use Rattle.std.specs.Prelude.{◌==◌, ◌&&◌, ◌||◌, All, IsTrue, Option, Some, None}
+use Rattle.std.specs.Prelude.{◌==◌, ◌||◌, All, IsTrue, Option, Some, None}
 use Rattle.std.specs.List.{list_any}
 use Rattle.std.specs.Option.{option_or}
 use Rattle.std.specs.Str.{bytes_eq}
 use Rattle.std.specs.Cmp.Lexicographic.{same_text}
-use Rattle.std.proofs.lemmas.Bool.{cases_Bool, eqb-true}
+use Rattle.std.proofs.lemmas.Bool.{cases_Bool, eqb-true, and_parts}
 use Rattle.std.proofs.lemmas.List.{map-append, length-map}
 use Rattle.std.proofs.lemmas.List.Elements.{All-append, All-head, All-map, All-nil, All-push, All-tail, All-weaker, All-cons}
 use Rattle.std.proofs.lemmas.Slice.Eq.{bytes_eq-Decides}
@@ -26,8 +26,8 @@ use Rattle.cell_library.specs.Libraries.{IsLawfulLibrary, LibraryParts, seen, us
 use Rattle.cell_library.specs.Views.{LibraryView, CellView, names_of}
 use Rattle.cell_library.proofs.ViewLaws.{names_seen}
 use Rattle.cell_loading.specs.CellFiles.{has_scale}
-use Rattle.cell_loading.specs.ReadCells.{children_of, is_among, names_in}
-use Rattle.cell_loading.specs.Walks.{AreSoFar, MayFollow}
+use Rattle.cell_loading.specs.steps.ReadCells.{children_of, is_among, names_in}
+use Rattle.cell_loading.specs.steps.Walks.{AreSoFar, MayFollow}
 
 abbrev Cells : Type 0
 Cells = List (List ℕ × CellBody)
@@ -59,13 +59,9 @@ in_list name (first ∷ names) found = elim (cases_Bool (bytes_eq name first)) [
 
 -- ---- the scale
 
-both_true : (a b : Bool) → (a && b) ≡ true → (a ≡ true) × (b ≡ true)
-both_true true b both = (refl, both)
-both_true false b both = absurd (true≢false (sym both))
-
 same_scale : (asked scale : ℕ × ℕ) → has_scale (Some asked) scale ≡ true → scale ≡ asked
 same_scale asked scale has =
-    let both = both_true (asked.0 == scale.0) (asked.1 == scale.1) has in
+    let both = and_parts (asked.0 == scale.0) (asked.1 == scale.1) has in
     λ i. (sym (eqb-true asked.0 scale.0 both.0) i, sym (eqb-true asked.1 scale.1 both.1) i)
 
 one_scale-push : (scale : Option (ℕ × ℕ)) (cells : Cells) (cell : List ℕ × CellBody)

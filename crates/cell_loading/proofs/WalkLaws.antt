@@ -21,8 +21,8 @@ use Rattle.mag_text.specs.MagTexts.{HasAllOf}
 use Rattle.cell_loading.specs.declared.walks.Frame.{Frame}
 use Rattle.cell_loading.specs.CellFiles.{ReadCell, cell_file, file_gives}
 use Rattle.cell_loading.specs.Loads.{AreBodiesOf, AreRead}
-use Rattle.cell_loading.specs.ReadCells.{children_of, is_among, names_in}
-use Rattle.cell_loading.specs.Walks.{files_read, names_left, AreFrames, AreSoFar, GoesOnToBodies, MayFollow}
+use Rattle.cell_loading.specs.steps.ReadCells.{children_of, is_among, names_in}
+use Rattle.cell_loading.specs.steps.Walks.{files_read, names_left, AreFrames, AreSoFar, GoesOnToBodies, MayFollow}
 use Rattle.cell_loading.proofs.LeftLaws.{names_left-read, AreFrames-more}
 use Rattle.cell_loading.proofs.ReadingLaws.{all_read, goes_on_by, goes_on_here, goes_on_past}
 use Rattle.cell_loading.proofs.SoFarLaws.{so_far_end, so_far_passed, so_far_read, so_far_start}

@@ -1,6 +1,5 @@
 pub mod Arrivals
 pub mod CellFiles
 pub mod Loads
-pub mod ReadCells
 pub mod Readings
-pub mod Walks
+pub mod steps

@@ -3,7 +3,7 @@ ghost use Rattle.std.specs.Prelude.{◌≡◌, ◌≢◌, ◌+◌, nat_le, lengt
 ghost use Rattle.std.specs.Option.{option_or};
 ghost use Rattle.outside_io.specs.Files.{Files};
 ghost use Rattle.session_model.specs.Causes.{HasCauses};
-ghost use Rattle.session_model.specs.Stops.{AsksOnce, answer_of, kinds_of_told, ComesFromInside, IfRefused};
+ghost use Rattle.session_model.specs.steps.Stops.{AsksOnce, answer_of, kinds_of_told, ComesFromInside, IfRefused};
 ghost use Rattle.cell_library.specs.Additions.{first_scale};
 ghost use Rattle.cell_library.specs.Libraries.{seen};
 ghost use Rattle.cell_bodies.specs.Bodies.{IsBody};
@@ -11,8 +11,8 @@ ghost use Rattle.mag_text.specs.Drafts.{Draft};
 ghost use Rattle.mag_text.specs.MagTexts.{HasAllOf, mag_in};
 ghost use Rattle.cell_loading.specs.CellFiles.{cell_file, draft_gives, file_gives, has_scale, read_gives, scale_of_first, ReadCell};
 ghost use Rattle.cell_loading.specs.Loads.{AreBodiesOf, cause_of_load};
-ghost use Rattle.cell_loading.specs.ReadCells.{is_among};
-ghost use Rattle.cell_loading.specs.Walks.{MayFollow};
+ghost use Rattle.cell_loading.specs.steps.ReadCells.{is_among};
+ghost use Rattle.cell_loading.specs.steps.Walks.{MayFollow};
 
 use crate::faults::LoadFault;
 use crate::read_cells::ReadCells;

@@ -5,14 +5,14 @@ ghost use Rattle.outside_io.specs.Files.{Files};
 ghost use Rattle.session_model.specs.Causes.{HasCauses};
 ghost use Rattle.session_model.specs.Effects.{GivesFetching, after_fetches};
 ghost use Rattle.session_model.specs.FileTrees.{StopsAsking};
-ghost use Rattle.session_model.specs.Stops.{answer_of, kinds_of_told, IfRefused};
+ghost use Rattle.session_model.specs.steps.Stops.{answer_of, kinds_of_told, IfRefused};
 ghost use Rattle.cell_library.specs.Additions.{CanBeAdded};
 ghost use Rattle.cell_library.specs.Libraries.{IsSame, seen};
 ghost use Rattle.cell_loading.specs.Arrivals.{ArriveWithStamps, Arrives};
 ghost use Rattle.cell_loading.specs.Loads.{end_fault, AreRead, HasMoreIfLoaded, KeepsIfRefused, LoadGives, cause_of_load, kinds_of_loaded};
-ghost use Rattle.cell_loading.specs.ReadCells.{is_among};
+ghost use Rattle.cell_loading.specs.steps.ReadCells.{is_among};
 ghost use Rattle.cell_loading.specs.Readings.{cell_files};
-ghost use Rattle.cell_loading.specs.Walks.{files_read};
+ghost use Rattle.cell_loading.specs.steps.Walks.{files_read};
 
 use crate::faults::LoadFault;
 use crate::walks::Walk;

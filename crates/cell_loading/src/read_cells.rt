@@ -3,7 +3,7 @@ ghost use Rattle.std.specs.Prelude.{◌≡◌, ◌<◌, [], ◌∷◌, ◌++◌,
 ghost use Rattle.std.specs.List.{list_any};
 ghost use Rattle.std.specs.Str.{bytes_eq};
 ghost use Rattle.cell_library.specs.Additions.{first_scale};
-ghost use Rattle.cell_loading.specs.ReadCells.{names_in, uses_at};
+ghost use Rattle.cell_loading.specs.steps.ReadCells.{names_in, uses_at};
 
 use cell_bodies::{CellBody, CellUse};
 use names_lists::Name;
@@ -23,7 +23,7 @@ pub struct ReadCells {
 impl Model for ReadCells {
     ghost use Rattle.std.specs.Prelude.{List, ℕ};
     ghost use Rattle.cell_bodies.specs.declared.bodies.CellBody.{CellBody};
-    ghost use Rattle.cell_loading.specs.ReadCells.{AreNamesOf};
+    ghost use Rattle.cell_loading.specs.steps.ReadCells.{AreNamesOf};
 
     ghost Value = { List (List ℕ × CellBody) };
 

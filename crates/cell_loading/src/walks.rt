@@ -5,14 +5,14 @@ ghost use Rattle.outside_io.specs.Files.{Files};
 ghost use Rattle.session_model.specs.Causes.{HasCauses};
 ghost use Rattle.session_model.specs.Effects.{after_fetches};
 ghost use Rattle.session_model.specs.FileTrees.{StopsAsking};
-ghost use Rattle.session_model.specs.Stops.{answer_of, kinds_of_told, ComesFromInside, IfRefused};
+ghost use Rattle.session_model.specs.steps.Stops.{answer_of, kinds_of_told, ComesFromInside, IfRefused};
 ghost use Rattle.cell_tree.specs.declared.limits.TheConstants.{MOST_USES};
 ghost use Rattle.cell_library.specs.Libraries.{seen};
 ghost use Rattle.cell_loading.specs.CellFiles.{ReadCell};
 ghost use Rattle.cell_loading.specs.Loads.{AreBodiesOf, cause_of_load};
-ghost use Rattle.cell_loading.specs.ReadCells.{is_among};
+ghost use Rattle.cell_loading.specs.steps.ReadCells.{is_among};
 ghost use Rattle.cell_loading.specs.Readings.{cell_files};
-ghost use Rattle.cell_loading.specs.Walks.{files_read, names_left, rest_of, work_left, AreFrames, AreSoFar, GoesOnToBodies, Takes, TakesFrom};
+ghost use Rattle.cell_loading.specs.steps.Walks.{files_read, names_left, rest_of, work_left, AreFrames, AreSoFar, GoesOnToBodies, Takes, TakesFrom};
 
 use crate::cell_files::{is_known, read_cell_file};
 use crate::faults::LoadFault;

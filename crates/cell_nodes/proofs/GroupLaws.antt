@@ -20,7 +20,7 @@ use Rattle.flood_nodes.specs.SoundTiles.{IsSoundTile}
 use Rattle.flood_nodes.specs.TileShares.{no_tile, tile_at}
 use Rattle.names.specs.declared.nodes.NamedNode.{NamedNode}
 use Rattle.names.specs.NamedNodes.{AreOneNamedNode, least_of, AreNamedNodes}
-use Rattle.cell_nodes.specs.NodeNumbers.{AreNodeNumbers, numbers_at}
+use Rattle.cell_nodes.specs.steps.NodeNumbers.{AreNodeNumbers, numbers_at}
 use Rattle.cell_nodes.proofs.NodePlaces.{AreOneNamedNode-sym}
 
 -- the region of a tile in which a place lies

@@ -5,7 +5,7 @@ use Rattle.std.proofs.lemmas.Bool.{cases_eq}
 use Rattle.std.proofs.lemmas.List.{get_or-set_same, get_or-set_other, take_more}
 use Rattle.finite_sets.specs.Lists.{In}
 use Rattle.finite_sets.proofs.Members.{In-append_left, In-push, In-push_cases}
-use Rattle.cell_nodes.specs.NodeNumbers.{AreNumbered}
+use Rattle.cell_nodes.specs.steps.NodeNumbers.{AreNumbered}
 
 -- one region more
 pub region_more : (regions : List ℕ) (number i : ℕ) (old now : List ℕ) → i < length regions → length now ≡ length old → get_or regions i 0 < length old

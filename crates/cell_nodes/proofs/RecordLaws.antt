@@ -31,9 +31,9 @@ use Rattle.measures.specs.declared.tables.MeasureRow.{MeasureRow}
 use Rattle.measures.proofs.BoundLaws.{measures_are_small}
 use Rattle.names.specs.declared.nodes.NamedNode.{NamedNode}
 use Rattle.names.specs.NamedNodes.{AreOneNamedNode, least_of, IsNameOf, IsNamedNode, AreNamedNodes}
-use Rattle.cell_nodes.specs.NodeNumbers.{AreNodeNumbers, AreNodeMeasures, numbers_at}
+use Rattle.cell_nodes.specs.steps.NodeNumbers.{AreNodeNumbers, AreNodeMeasures, numbers_at}
 use Rattle.cell_nodes.specs.NodeRecords.{IsNodeRecord, AreNodeRecords}
-use Rattle.cell_nodes.specs.Records.{IsRecordOf, AreMade, AreRecordsOf, row_at}
+use Rattle.cell_nodes.specs.steps.Records.{IsRecordOf, AreMade, AreRecordsOf, row_at}
 use Rattle.cell_nodes.specs.RegionNodes.{AreNodesOfRegions}
 use Rattle.cell_nodes.proofs.NodePlaces.{material_along, node_is_named}
 use Rattle.cell_nodes.proofs.GroupLaws.{group_in_node, node_in_group}

@@ -18,7 +18,7 @@ use Rattle.flood_nodes.specs.SoundTiles.{IsSoundTile}
 use Rattle.flood_nodes.specs.TileShares.{no_tile, tile_at}
 use Rattle.names.specs.declared.nodes.NamedNode.{NamedNode}
 use Rattle.names.specs.NamedNodes.{AreOneNamedNode, least_of, AreNamedNodes}
-use Rattle.cell_nodes.specs.NodeNumbers.{AreNodeNumbers}
+use Rattle.cell_nodes.specs.steps.NodeNumbers.{AreNodeNumbers}
 
 module _ (raw : RawTech) (layout : Layout) (labels : List Label) (tiles : List RegionTile) (count : ℕ) (nodes : List NamedNode) (numbers : List ℕ)
     (regions : AreRegions (connects raw) layout tiles count) (named : AreNamedNodes raw layout labels tiles nodes)

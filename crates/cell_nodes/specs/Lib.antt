@@ -6,7 +6,6 @@ pub use Rattle.layout_model.specs as LayoutModel
 pub use Rattle.measures.specs as Measures
 pub use Rattle.names.specs as Names
 pub use Rattle.tech_model.specs as TechModel
-pub mod NodeNumbers
 pub mod NodeRecords
-pub mod Records
 pub mod RegionNodes
+pub mod steps

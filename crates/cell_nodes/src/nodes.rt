@@ -11,10 +11,10 @@ ghost use Rattle.measures.specs.Bounds.{IsNearPlace};
 ghost use Rattle.names.specs.Attachments.{AreUnattached};
 ghost use Rattle.names.specs.Labels.{IsLabelOf};
 ghost use Rattle.names.specs.declared.nodes.NamedNode.{NamedNode as OneNode};
-ghost use Rattle.cell_nodes.specs.NodeNumbers.{AreNodeNumbers, AreNodeMeasures};
+ghost use Rattle.cell_nodes.specs.steps.NodeNumbers.{AreNodeNumbers, AreNodeMeasures};
 ghost use Rattle.cell_nodes.specs.NodeRecords.{AreNodeRecords};
 ghost use Rattle.cell_nodes.specs.RegionNodes.{AreNodesOfRegions};
-ghost use Rattle.cell_nodes.specs.Records.{AreMade, AreRecordsOf};
+ghost use Rattle.cell_nodes.specs.steps.Records.{AreMade, AreRecordsOf};
 
 use crate::groups::{grouped, node_numbers};
 use crate::records::record_of;

@@ -3,7 +3,7 @@ ghost use Rattle.std.specs.Prelude.{◌≡◌, ◌≢◌, ◌∷◌, [], All, If
 ghost use Rattle.tech_model.specs.Types.{is_type};
 ghost use Rattle.layout_model.specs.Technologies.{rules_of};
 ghost use Rattle.measures.specs.Bounds.{IsSmallMeasure};
-ghost use Rattle.cell_nodes.specs.Records.{IsRecordOf};
+ghost use Rattle.cell_nodes.specs.steps.Records.{IsRecordOf};
 
 use crate::capacitances::capacitance_of;
 use ext_model::NodeRec;

@@ -16,10 +16,10 @@ use Rattle.geo_core.proofs.CoveringLaws.{corner_covered, within_covers}
 use Rattle.tech_model.specs.declared.raw.TypeId.{TypeId}
 use Rattle.tile_plane.specs.Listings.{ArePiecesIn}
 use Rattle.layout_model.specs.Layouts.{Layout}
-use Rattle.cell_paint.specs.Changes.{kind_after, AreKnown, changed_piece, is_changed, changed_pieces}
+use Rattle.cell_paint.specs.steps.Changes.{kind_after, AreKnown, changed_piece, is_changed, changed_pieces}
 use Rattle.cell_paint.specs.Painting.{kinds_on, with_columns_where, is_in_some}
 use Rattle.cell_paint.specs.Paints.{PlaneValue, number_on, no_plane, layout_on}
-use Rattle.cell_paint.specs.Settings.{IsSettable, AreChanges}
+use Rattle.cell_paint.specs.steps.Settings.{IsSettable, AreChanges}
 use Rattle.cell_paint.proofs.AreaLaws.{some_area, in_some}
 
 -- each piece has the value of its lower left square

@@ -31,7 +31,7 @@ use Rattle.layout_model.specs.Places.{Place}
 use Rattle.layout_model.specs.Layouts.{Layout}
 use Rattle.cell_paint.specs.Painting.{place_at, kinds_on, column_at, with_columns_where, with_paint, with_all_painted, is_in_some, paint_range}
 use Rattle.cell_paint.specs.Paints.{PlaneValue, layout_on, IsSoundPaint, AreCellPlanes}
-use Rattle.cell_paint.specs.Settings.{pieces_for, AreSettable, AreAllSet, AreChanges, AreAllChanges}
+use Rattle.cell_paint.specs.steps.Settings.{pieces_for, AreSettable, AreAllSet, AreChanges, AreAllChanges}
 use Rattle.cell_paint.proofs.AgainLaws.{painted_column-again}
 use Rattle.cell_paint.proofs.ColumnsLaws.{column_type}
 use Rattle.cell_paint.proofs.PlaneLaws.{space_past}

@@ -26,7 +26,7 @@ use Rattle.layout_model.specs.Layouts.{Layout}
 use Rattle.cell_paint.specs.Painting.{place_at, kinds_on}
 use Rattle.cell_paint.specs.Paints.{PlaneValue, layout_on, IsSoundPaint, AreCellPlanes}
 use Rattle.cell_paint.specs.Pieces.{kind_by, pieces_on, with_pieces, AreTakenOut, CanStandIn}
-use Rattle.cell_paint.specs.Settings.{IsSettable, AreAllSet, AreChanges, AreAllChanges}
+use Rattle.cell_paint.specs.steps.Settings.{IsSettable, AreAllSet, AreChanges, AreAllChanges}
 use Rattle.cell_paint.proofs.AreaLaws.{near_within}
 use Rattle.cell_paint.proofs.PaintLaws.{whole_sound, changed_to, all_set_from}
 use Rattle.cell_paint.proofs.PlaneLaws.{space_past}

@@ -18,7 +18,7 @@ use Rattle.layout_model.specs.Places.{Place}
 use Rattle.layout_model.specs.Layouts.{IsMaterial}
 use Rattle.cell_paint.specs.Painting.{place_at}
 use Rattle.cell_paint.specs.Paints.{PlaneValue, number_on, no_plane, IsReadyFor, layout_on, IsPaintBox}
-use Rattle.cell_paint.specs.Settings.{pieces_for, IsSettable, AreSettable}
+use Rattle.cell_paint.specs.steps.Settings.{pieces_for, IsSettable, AreSettable}
 
 -- the plane of this number, and one without paint past the last
 abbrev pub plane_at : List PlaneValue → ℕ → PlaneValue

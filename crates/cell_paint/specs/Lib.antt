@@ -1,6 +1,5 @@
-pub mod Changes
 pub mod Faults
 pub mod Painting
 pub mod Paints
 pub mod Pieces
-pub mod Settings
+pub mod steps

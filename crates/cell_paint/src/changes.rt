@@ -3,10 +3,10 @@ ghost use Rattle.std.specs.Prelude.{◌≡◌, ◌<◌, ◌≤◌, length, IfOk,
 ghost use Rattle.geo_core.specs.Areas.{AreDisjoint, IsNear, corner_of};
 ghost use Rattle.geo_core.specs.Covering.{IsProper};
 ghost use Rattle.tech_model.specs.Columns.{brushed_column};
-ghost use Rattle.cell_paint.specs.Changes.{kind_after, AreKnown, changed_pieces};
+ghost use Rattle.cell_paint.specs.steps.Changes.{kind_after, AreKnown, changed_pieces};
 ghost use Rattle.cell_paint.specs.Painting.{kinds_on, with_columns_where, is_in_some};
 ghost use Rattle.cell_paint.specs.Paints.{layout_on, AreCellPlanes};
-ghost use Rattle.cell_paint.specs.Settings.{AreChanges};
+ghost use Rattle.cell_paint.specs.steps.Settings.{AreChanges};
 
 use crate::brushes::Stroke;
 use crate::faults::PaintFault;

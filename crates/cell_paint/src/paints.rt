@@ -13,7 +13,7 @@ ghost use Rattle.cell_paint.specs.Painting.{kinds_on, with_columns_where, is_in_
 ghost use Rattle.cell_paint.specs.Painting.{is_coordinate, is_in_range, area_fault, first_area_fault};
 ghost use Rattle.cell_paint.specs.Paints.{layout_of, layout_on, number_on, KeepsTypes, IsPaintBox, IsSoundPaint, AreCellPlanes};
 ghost use Rattle.cell_paint.specs.Pieces.{with_pieces, AreTakenOut, CanStandIn};
-ghost use Rattle.cell_paint.specs.Settings.{AreAllChanges};
+ghost use Rattle.cell_paint.specs.steps.Settings.{AreAllChanges};
 
 use crate::brushes::Stroke;
 use crate::changes::changes_on;

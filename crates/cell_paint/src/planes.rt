@@ -6,7 +6,7 @@ ghost use Rattle.geo_core.specs.Covering.{IsProper};
 ghost use Rattle.layout_model.specs.Places.{Place};
 ghost use Rattle.cell_paint.specs.Painting.{column_at};
 ghost use Rattle.cell_paint.specs.Paints.{layout_on, IsPaintBox};
-ghost use Rattle.cell_paint.specs.Settings.{AreSettable, AreAllReady, AreAllSet};
+ghost use Rattle.cell_paint.specs.steps.Settings.{AreSettable, AreAllReady, AreAllSet};
 
 use crate::faults::PaintFault;
 use geo_core::{Piece, Plane, Rect, Square};

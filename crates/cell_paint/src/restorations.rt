@@ -8,7 +8,7 @@ ghost use Rattle.layout_model.specs.Places.{Place};
 ghost use Rattle.cell_paint.specs.Painting.{kinds_on};
 ghost use Rattle.cell_paint.specs.Paints.{layout_on};
 ghost use Rattle.cell_paint.specs.Pieces.{kind_by, pieces_on, with_pieces, AreTakenOut, CanStandIn};
-ghost use Rattle.cell_paint.specs.Settings.{AreAllChanges, IsSettable};
+ghost use Rattle.cell_paint.specs.steps.Settings.{AreAllChanges, IsSettable};
 
 use crate::faults::PaintFault;
 use crate::planes::{PaintPlane, commit_all, reserve_all};

@@ -26,7 +26,7 @@ use Rattle.finite_sets.proofs.Pairs.{Pairwise}
 use Rattle.finite_sets.proofs.Searches.{list_any-In, All-In, list_any-source}
 use Rattle.finite_sets.proofs.Sums.{sum_on-push, sum_on-nothing}
 use Rattle.flood_nodes.proofs.StackLaws.{same_from_test}
-use Rattle.cell_records.specs.Joined.{is_to, length_in, length_told, AreJoined}
+use Rattle.cell_records.specs.steps.Joined.{is_to, length_in, length_told, AreJoined}
 
 -- what each terminal is named by
 abbrev pub key : {N : Type 0} → N × ℤ → N

@@ -15,7 +15,7 @@ use Rattle.layout_model.specs.Places.{Place, AreNeighbours}
 use Rattle.layout_model.specs.Transistors.{AreOneChannel, IsTerminalOf, Transistor, IsTransistor, gate_length}
 use Rattle.flood_nodes.proofs.StackLaws.{same_from_test}
 use Rattle.own_record_laws.proofs.FetSizes.{edges_to_some, terminals_total}
-use Rattle.cell_records.specs.Joined.{is_to, length_in, AreJoined}
+use Rattle.cell_records.specs.steps.Joined.{is_to, length_in, AreJoined}
 use Rattle.cell_records.proofs.JoinedLaws.{key, told_some, told_here, sum_some, keys_once, keys_of_part}
 
 -- The place is of a region that has the number.

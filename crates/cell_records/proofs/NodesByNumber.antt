@@ -19,7 +19,7 @@ use Rattle.cell_nodes.proofs.NodePlaces.{AreOneNamedNode-sym, material_along}
 use Rattle.own_record_laws.specs.TreeRecords.FetRecords.{IsOfNode, IsNodeBefore}
 use Rattle.own_record_laws.proofs.NodesByName.{one_name_one_node}
 use Rattle.own_record_laws.proofs.PreferredNames.{one_least, preferred_is_first}
-use Rattle.cell_records.specs.FetsOfRegions.{no_node, name_at}
+use Rattle.cell_records.specs.steps.FetsOfRegions.{no_node, name_at}
 
 abbrev pub origin : Place
 origin = record { plane = 0; square = record { x = pos 0; y = pos 0 } }

@@ -36,7 +36,7 @@ use Rattle.cell_nodes.specs.RegionNodes.{AreNodesOfRegions}
 use Rattle.own_record_laws.specs.TreeRecords.FetRecords.{IsOfNode, IsNodeBefore, IsFetRecord, AreFetRecords, terminal_names}
 use Rattle.own_record_laws.proofs.FetSizes.{few_edges, terminals_total}
 use Rattle.own_record_laws.proofs.SomeEdges.{some_edge}
-use Rattle.cell_records.specs.FetsOfRegions.{name_at, term_of, IsSmallFet, IsRecordOfFet, AreRecordsOfFets}
+use Rattle.cell_records.specs.steps.FetsOfRegions.{name_at, term_of, IsSmallFet, IsRecordOfFet, AreRecordsOfFets}
 use Rattle.cell_records.proofs.JoinedLaws.{key, joined_below}
 use Rattle.cell_records.proofs.JoinedTransistors.{IsOfNumber, joined_transistor, joined_is, joined_gate_length}
 use Rattle.cell_records.proofs.NodesByNumber.{origin, least_at, of_number, to_number, one_number, one_name_at, number_before}

@@ -3,7 +3,7 @@ ghost use Rattle.std.specs.Prelude.{◌≡◌, ◌==◌, ◌<◌, find, option_c
 ghost use Rattle.finite_sets.specs.Lists.{In};
 ghost use Rattle.finite_sets.specs.Total.{sum_on};
 ghost use Rattle.tech_model.specs.ChannelRoles.{is_channel};
-ghost use Rattle.cell_records.specs.FetsOfRegions.{name_at, term_of, AreRecordsOfFets, IsRecordOfFet, IsSmallFet};
+ghost use Rattle.cell_records.specs.steps.FetsOfRegions.{name_at, term_of, AreRecordsOfFets, IsRecordOfFet, IsSmallFet};
 
 use crate::joining::joined;
 use crate::node_names::name_at;

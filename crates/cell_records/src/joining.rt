@@ -3,7 +3,7 @@ ghost use Rattle.std.specs.Prelude.{◌≡◌, ◌<◌, ◌^◌, ℕ, pos, ◌<�
 ghost use Rattle.std.specs.BTreeMap.{get, IsOrdered};
 ghost use Rattle.std.specs.Ordering.{nat_cmp};
 ghost use Rattle.finite_sets.specs.Total.{sum_on};
-ghost use Rattle.cell_records.specs.Joined.{AreJoined, length_told};
+ghost use Rattle.cell_records.specs.steps.Joined.{AreJoined, length_told};
 
 use std::alloc::{AllocError, Global};
 use std::collections::BTreeMap;

@@ -1,6 +1,6 @@
 //! Names of nodes.
 ghost use Rattle.std.specs.Prelude.{◌≡◌, ◌<◌, IfOk, length};
-ghost use Rattle.cell_records.specs.FetsOfRegions.{name_at};
+ghost use Rattle.cell_records.specs.steps.FetsOfRegions.{name_at};
 
 use ext_model::NodeRec;
 use names_lists::Name;

@@ -5,7 +5,7 @@ ghost use Rattle.ext_model.specs.Lawful.{IsLawful};
 ghost use Rattle.names.specs.Attachments.{AreUnattached};
 ghost use Rattle.names.specs.Labels.{IsLabelOf};
 ghost use Rattle.own_record_laws.specs.TreeRecords.OwnRecords.{IsOwnRecord, class_values};
-ghost use Rattle.cell_records.specs.Exts.{IsExtOf};
+ghost use Rattle.cell_records.specs.steps.Exts.{IsExtOf};
 
 use crate::fet_records::fet_records;
 use cell_nodes::{CellRegions, cell_regions};

@@ -16,7 +16,7 @@ use Rattle.cell_tree.specs.declared.sizes.Size.{Size}
 use Rattle.cell_tree.specs.Sizes.{CellState, size_at, size_of, with_use, depth_below, AreUsesBelow}
 use Rattle.cell_tree.specs.Trials.{IsTried, PassesFirst}
 use Rattle.cell_tree.specs.Books.{IsReady, SaysTheSame}
-use Rattle.cell_tree.specs.Edits.{AreUsersKept}
+use Rattle.cell_tree.specs.steps.Edits.{AreUsersKept}
 use Rattle.cell_tree.specs.Cells.{state_of, states, Uses, IsAbove}
 use Rattle.cell_tree.specs.Trees.{cell_at, with_inserted, with_use_set, with_uses, without_use, IsLawfulTree, RefusesMove, WouldPass}
 use Rattle.cell_tree.specs.Whole.{tree_of, IsWhole}

@@ -12,7 +12,7 @@ use Rattle.cell_tree.specs.Cells.{states, users_of, Uses}
 use Rattle.cell_tree.specs.Above.{IsUserOf}
 use Rattle.cell_tree.specs.Trees.{cell_at}
 use Rattle.cell_tree.specs.Trials.{AreLawfulCells}
-use Rattle.cell_tree.specs.Edits.{AreUsersKept, knows}
+use Rattle.cell_tree.specs.steps.Edits.{AreUsersKept, knows}
 use Rattle.cell_tree.specs.Arrivals.{AreForgotten, ChildIs, KnowUsersFrom, KnowUsersTo}
 use Rattle.cell_tree.proofs.FindLaws.{length-states}
 use Rattle.cell_tree.proofs.UserLaws.{knows_contains, contains_knows, insert_rest, insert_more}

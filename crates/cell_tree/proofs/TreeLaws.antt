@@ -15,7 +15,7 @@ use Rattle.cell_tree.specs.Trials.{IsTried, FitsIn, PassesFirst}
 use Rattle.cell_tree.specs.Trees.{cell_at, with_own, IsLawfulOwn, IsEdited, RefusesBox}
 use Rattle.cell_tree.specs.Books.{IsReady, IsBooked}
 use Rattle.cell_tree.specs.Whole.{tree_of, IsWhole}
-use Rattle.cell_tree.specs.Edits.{AreUsersKept, AreUsersBut}
+use Rattle.cell_tree.specs.steps.Edits.{AreUsersKept, AreUsersBut}
 use Rattle.cell_tree.proofs.SizeLaws.{size_is}
 use Rattle.cell_tree.proofs.ShrinkLaws.{IsUpright, IsSmaller, AreAmong}
 use Rattle.cell_tree.proofs.EditLaws.{child_is_not_above, shrunk_within, smaller_keeps, tried_exists}

@@ -10,7 +10,7 @@ use Rattle.cell_tree.specs.declared.cells.TreeCell.{TreeCell}
 use Rattle.cell_tree.specs.Uses.{HasChild}
 use Rattle.cell_tree.specs.Cells.{states, users_of}
 use Rattle.cell_tree.specs.Trees.{cell_at}
-use Rattle.cell_tree.specs.Edits.{AreUsersKept, AreUsersBut, knows}
+use Rattle.cell_tree.specs.steps.Edits.{AreUsersKept, AreUsersBut, knows}
 
 -- the test tells what stands in the list
 pub knows_contains : (ks : List ℕ) (user : ℕ) → knows ks user ≡ true → Contains ks user

@@ -18,7 +18,7 @@ use Rattle.cell_tree.specs.Trials.{IsTried, PassesFirst, FitsIn}
 use Rattle.cell_tree.specs.Trees.{stamp_at, empty_cell, cell_at, IsLawfulCell, IsEdited, WouldPass, WouldKeepWithin}
 use Rattle.cell_tree.specs.Books.{IsReady, AreLawful, IsBooked}
 use Rattle.cell_tree.specs.Whole.{tree_of, IsWhole}
-use Rattle.cell_tree.specs.Edits.{AreUsersKept, AreUsersBut}
+use Rattle.cell_tree.specs.steps.Edits.{AreUsersKept, AreUsersBut}
 use Rattle.cell_tree.proofs.EditLaws.{tried_is_right, tried_exists}
 use Rattle.cell_tree.proofs.DecideLaws.{above_or_not}
 use Rattle.cell_tree.proofs.FindLaws.{length-states}

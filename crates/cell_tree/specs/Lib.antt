@@ -9,6 +9,6 @@ pub mod Trials
 pub mod Trees
 pub mod Books
 pub mod Whole
-pub mod Edits
 pub mod Additions
 pub mod Arrivals
+pub mod steps

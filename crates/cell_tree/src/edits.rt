@@ -5,7 +5,7 @@ ghost use Rattle.cell_tree.specs.Uses.{HasIdAt};
 ghost use Rattle.cell_tree.specs.Cells.{states, users_of};
 ghost use Rattle.cell_tree.specs.Trees.{cell_at, with_inserted, with_own, with_use_set, without_use};
 ghost use Rattle.cell_tree.specs.Above.{IsUserOf};
-ghost use Rattle.cell_tree.specs.Edits.{AreUsersBut, AreUsersKept, HasRoomFor, knows, uses_room, users_room};
+ghost use Rattle.cell_tree.specs.steps.Edits.{AreUsersBut, AreUsersKept, HasRoomFor, knows, uses_room, users_room};
 
 use crate::cells::TreeCell;
 use crate::use_tables::UseBody;

@@ -13,7 +13,7 @@ use Rattle.cif_expansion.specs.Expansions.{IsExpanded}
 use Rattle.line_answers.proofs.InsideLaws.{both_inside, no_lines_inside, reply_inside}
 use Rattle.line_answers.specs.LineEffects.{IsOfInside, reply}
 use Rattle.cif_commands.specs.CommandCifstat.{HasSquares, TellsLayers, layer_line, stat_lines, sum_text}
-use Rattle.cif_commands.specs.Layers.{layer_area}
+use Rattle.cif_commands.specs.steps.Layers.{layer_area}
 use Rattle.cif_commands.proofs.StripTotals.{strips_total}
 
 -- the areas of the strips of layers

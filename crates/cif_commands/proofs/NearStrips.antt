@@ -14,7 +14,7 @@ use Rattle.cif_model.specs.Cifs.{CifParts}
 use Rattle.cif_model.specs.Meanings.{IsMeant}
 use Rattle.cif_expansion.specs.declared.expansion.LayerStrips.{LayerStrips}
 use Rattle.cif_expansion.specs.Expansions.{IsExpanded, StaysInRange}
-use Rattle.cif_commands.specs.Layers.{HasNearStrips, IsNearStrip}
+use Rattle.cif_commands.specs.steps.Layers.{HasNearStrips, IsNearStrip}
 
 -- a square that the text gives to some layer lies in the range
 record LiesInRange (square : Square) : Type 0 where

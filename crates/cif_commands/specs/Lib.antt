@@ -1,5 +1,5 @@
 pub mod CommandCif
 pub mod CommandCifstat
-pub mod Layers
 pub mod OneEffects
 pub mod Refusals
+pub mod steps

@@ -4,7 +4,7 @@ ghost use Rattle.geo_core.specs.FiniteSets.Total.{sum_on};
 ghost use Rattle.rect_contacts.specs.Squares.{area_of};
 ghost use Rattle.line_answers.specs.LineEffects.{reply};
 ghost use Rattle.cif_commands.specs.CommandCifstat.{layer_line, stat_lines, sum_text};
-ghost use Rattle.cif_commands.specs.Layers.{HasNearStrips, IsNearStrip, layer_area};
+ghost use Rattle.cif_commands.specs.steps.Layers.{HasNearStrips, IsNearStrip, layer_area};
 
 use cif_expansion::LayerStrips;
 use geo_core::Rect;

@@ -6,7 +6,7 @@ use Rattle.std.proofs.Common.{get_or-set_other, get_or-set_same, length-set}
 use Rattle.std.proofs.lemmas.Bool.Decides.{eqb_tells}
 use Rattle.finite_sets.specs.Lists.{In}
 use Rattle.finite_sets.proofs.Members.{In-append_cases, In-append_left, In-append_right}
-use Rattle.cif_expansion.specs.Drawings.{list_at, AreAdded}
+use Rattle.cif_expansion.specs.steps.Drawings.{list_at, AreAdded}
 
 -- nothing is added
 pub added-none : {X : Type 0} (P : ℕ → X → Type 0) (lists : List (List X)) → ((place : ℕ) (x : X) → P place x → ⊥) → AreAdded P lists lists

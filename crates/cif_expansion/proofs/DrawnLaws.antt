@@ -13,7 +13,7 @@ use Rattle.cif_model.specs.declared.cifs.CifItem.{CifItem}
 use Rattle.cif_model.specs.declared.cifs.CifItem.TheVariants.{Area, Call}
 use Rattle.cif_model.specs.declared.cifs.CifMove.{CifMove}
 use Rattle.cif_model.specs.Meanings.{moved}
-use Rattle.cif_expansion.specs.Drawings.{list_at, AreAdded, IsBoxOf, IsCallOf, IsDrawn, IsRangeFault, LeavesRange}
+use Rattle.cif_expansion.specs.steps.Drawings.{list_at, AreAdded, IsBoxOf, IsCallOf, IsDrawn, IsRangeFault, LeavesRange}
 use Rattle.cif_expansion.specs.declared.faults.ExpansionFault.{ExpansionFault}
 use Rattle.cif_expansion.specs.declared.faults.ExpansionFault.TheVariants.{TooMany, OutOfRange, Memory}
 use Rattle.cif_expansion.specs.Reach.{LiesInRange, MovesWithin, call_reach}

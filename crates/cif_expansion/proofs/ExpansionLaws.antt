@@ -20,7 +20,7 @@ use Rattle.cif_model.specs.Sizes.{size_of}
 use Rattle.cif_model.proofs.RectLaws.{rect_image-composed, rect_image-identity}
 use Rattle.cif_model.proofs.SizeLaws.{depth_of, depth-falls}
 use Rattle.cif_expansion.specs.declared.limits.TheConstants.{LONGEST_CHAIN}
-use Rattle.cif_expansion.specs.Drawings.{list_at, IsBoxOf, IsCallOf, IsDrawn, LeavesRange}
+use Rattle.cif_expansion.specs.steps.Drawings.{list_at, IsBoxOf, IsCallOf, IsDrawn, LeavesRange}
 use Rattle.cif_expansion.specs.Expansions.{Expands, StandsOutside, AreBoxesOf}
 use Rattle.cif_expansion.specs.Reach.{LiesInRange, MovesWithin, call_reach, chain_reach}
 use Rattle.cif_expansion.proofs.ReachLaws.{composed-within, identity-within, within_weaker}

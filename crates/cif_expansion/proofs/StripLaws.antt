@@ -11,7 +11,7 @@ use Rattle.cif_model.specs.Cifs.{CifParts}
 use Rattle.cif_model.specs.Meanings.{IsMeant}
 use Rattle.cif_model.specs.Sizes.{size_of}
 use Rattle.cif_expansion.specs.declared.expansion.LayerStrips.{LayerStrips}
-use Rattle.cif_expansion.specs.Drawings.{list_at}
+use Rattle.cif_expansion.specs.steps.Drawings.{list_at}
 use Rattle.cif_expansion.specs.Expansions.{AreBoxesOf, IsExpanded}
 use Rattle.cif_expansion.specs.Limits.{IsWithinLimits}
 

@@ -9,7 +9,7 @@ use Rattle.cif_model.specs.Sizes.{size_of}
 use Rattle.cif_expansion.specs.declared.expansion.LayerStrips.{LayerStrips}
 use Rattle.cif_expansion.specs.declared.faults.ExpansionFault.{ExpansionFault}
 use Rattle.cif_expansion.specs.declared.faults.ExpansionFault.TheVariants.{TooMany, OutOfRange, Memory}
-use Rattle.cif_expansion.specs.Drawings.{list_at}
+use Rattle.cif_expansion.specs.steps.Drawings.{list_at}
 use Rattle.cif_expansion.specs.Limits.{IsWithinLimits, IsFirstPast}
 use Rattle.cif_expansion.specs.Reach.{LiesInRange}
 

@@ -1,6 +1,4 @@
 pub mod Limits
-pub mod CappedSizes
 pub mod Reach
-pub mod WideRects
-pub mod Drawings
 pub mod Expansions
+pub mod steps

@@ -4,7 +4,7 @@ ghost use Rattle.geo_core.specs.Images.{composed, rect_image};
 ghost use Rattle.cif_model.specs.Cifs.{IsLawfulItem, IsLawfulMove, HasScaledEdges};
 ghost use Rattle.cif_model.specs.Meanings.{moved};
 ghost use Rattle.cif_model.specs.Sizes.{size_of};
-ghost use Rattle.cif_expansion.specs.Drawings.{list_at, AreAdded, AreInRange, IsBoxOf, IsCallOf, IsDrawn, IsRangeFault, LeavesRange, LeavesRangeIn};
+ghost use Rattle.cif_expansion.specs.steps.Drawings.{list_at, AreAdded, AreInRange, IsBoxOf, IsCallOf, IsDrawn, IsRangeFault, LeavesRange, LeavesRangeIn};
 ghost use Rattle.cif_expansion.specs.Expansions.{AreBoxesOf, StandsOutside};
 ghost use Rattle.cif_expansion.specs.Reach.{LiesInRange, MovesWithin, call_reach, chain_reach};
 

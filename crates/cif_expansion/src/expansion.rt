@@ -2,7 +2,7 @@
 ghost use Rattle.std.specs.Prelude.{◌≡◌, ℕ, length, map, slice_get, Some, IfOk, MatchResult};
 ghost use Rattle.geo_core.specs.Strips.{IsInUnion, IsStrips};
 ghost use Rattle.cif_expansion.specs.declared.expansion.LayerStrips.{LayerStrips as OneLayer};
-ghost use Rattle.cif_expansion.specs.Drawings.{list_at};
+ghost use Rattle.cif_expansion.specs.steps.Drawings.{list_at};
 ghost use Rattle.cif_expansion.specs.Expansions.{IsExpanded, IsRefused};
 
 use crate::drawing::boxes_of;

@@ -3,7 +3,7 @@ ghost use Rattle.std.specs.Prelude.{◌≡◌, ◌↔◌, ◌^◌, pos, All, IsT
 ghost use Rattle.geo_core.specs.Images.{composed, identity, point_x, point_y, rect_image};
 ghost use Rattle.cif_model.specs.Cifs.{IsLawfulMove};
 ghost use Rattle.cif_model.specs.Meanings.{moved, transform_of, turned};
-ghost use Rattle.cif_expansion.specs.WideRects.{area_of};
+ghost use Rattle.cif_expansion.specs.steps.WideRects.{area_of};
 ghost use Rattle.cif_expansion.specs.Reach.{IsAtMost, IsPaintable, LiesInRange, MovesWithin, call_reach, chain_reach};
 
 use cif_model::CifMove;

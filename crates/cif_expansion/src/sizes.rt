@@ -1,7 +1,7 @@
 //! How much a text stands for, counted before anything is expanded.
 ghost use Rattle.std.specs.Prelude.{◌≡◌, ◌+◌, ◌<◌, ◌^◌, List, map, IfOk, IfSome, MatchOption};
 ghost use Rattle.cif_model.specs.Sizes.{CifSize, beside, size_of_item, size_of_items, size_of_symbol, sizes_of, size_of};
-ghost use Rattle.cif_expansion.specs.CappedSizes.{capped, up_to};
+ghost use Rattle.cif_expansion.specs.steps.CappedSizes.{capped, up_to};
 ghost use Rattle.cif_expansion.specs.Limits.{IsFirstPast, IsWithinLimits};
 
 use crate::limits::{CifLimit, LONGEST_CHAIN, MOST_BOXES, MOST_INSTANCES};

@@ -24,12 +24,12 @@ use Rattle.cif_reading.specs.declared.faults.CifFault.{CifFault}
 use Rattle.cif_reading.specs.declared.faults.CifFault.TheVariants.{Form, LeftOut, NoSymbol, SymbolTwice, Range}
 use Rattle.cif_reading.specs.Scales.{IsScale}
 use Rattle.cif_reading.specs.Boxes.{area_is_in_range, area_said, has_short_side, is_in_range}
-use Rattle.cif_reading.specs.Steps.{call_is_in_range}
+use Rattle.cif_reading.specs.SaidSteps.{call_is_in_range}
 use Rattle.cif_reading.specs.Drafts.{Draft, IsLawfulOpened, has_symbol, layer_place, scale_of, nothing_yet}
 use Rattle.cif_reading.specs.Faults.{area_faults, call_faults, fault_in, faults_there, first_fault, is_factor, lacks_semicolon, start_faults}
 use Rattle.cif_reading.specs.Faults.{uses_what_is_left_out}
 use Rattle.cif_reading.specs.Additions.{call_said, takes, with_area, with_finish, with_item, with_layer, with_start}
-use Rattle.cif_reading.specs.LawfulDrafts.{IsLawfulDraft}
+use Rattle.cif_reading.specs.steps.LawfulDrafts.{IsLawfulDraft}
 use Rattle.cif_reading.specs.CifTexts.{cif_in, parts_of, read_of, step, unless}
 use Rattle.cif_reading.proofs.NumberLaws.{edges-scaled, moves-lawful, scale_of_factors}
 use Rattle.cif_reading.proofs.PlaceLaws.{layer_place-within, layers-more, symbol_place-within}

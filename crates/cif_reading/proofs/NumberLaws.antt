@@ -1,11 +1,12 @@
 -- Numbers that are scaled stay near.
-use Rattle.std.proofs.Common.{◌≡◌, ◌<◌, ◌≤◌, ◌*◌, ◌^◌, ℕ, ℤ, pos, negsuc, Bool, true, false, ◌&&◌, List, [], ◌∷◌, map, refl, if◌then◌else◌, arith}
+use Rattle.std.proofs.Common.{◌≡◌, ◌<◌, ◌≤◌, ◌*◌, ◌^◌, ℕ, ℤ, pos, negsuc, Bool, true, false, ◌&&◌, List, [], ◌∷◌, map, if◌then◌else◌, arith}
 use Rattle.std.specs.Prelude.{◌+ℤ◌, int_le, int_lt, All}
 use Rattle.std.specs.List.{list_all}
 use Rattle.std.specs.Prelude.{◌*ℤ◌, ◌≤ℤ◌, unsigned_abs}
 use Rattle.std.specs.Int.{int_div_euclid}
 use Rattle.std.proofs.lemmas.Int.{ints, unsigned_abs-mul}
 use Rattle.std.proofs.lemmas.List.Elements.{All-nil, All-cons}
+use Rattle.std.proofs.lemmas.Bool.{and_parts}
 use Rattle.std.proofs.Math.Nat.{mul-le-mul_left, mul-le-mul_right}
 use Rattle.cif_forms.specs.declared.commands.SaidMove.{SaidMove}
 use Rattle.cif_forms.specs.declared.commands.SaidMove.TheVariants.{Shift, MirrorX, MirrorY, Toward}
@@ -14,7 +15,7 @@ use Rattle.cif_reading.specs.declared.limits.TheConstants.{MOST_FACTOR, MOST_SCA
 use Rattle.cif_reading.specs.declared.scales.Scale.{Scale}
 use Rattle.cif_reading.specs.Scales.{IsScale, scaled}
 use Rattle.cif_reading.specs.Boxes.{area_is_in_range, area_said, halved, high_edge, is_in_range, low_edge}
-use Rattle.cif_reading.specs.Steps.{call_is_in_range, move_is_in_range, move_said, quarters}
+use Rattle.cif_reading.specs.SaidSteps.{call_is_in_range, move_is_in_range, move_said, quarters}
 use Rattle.cif_reading.specs.Faults.{is_factor}
 
 quotient_is_near : (a b : ℤ) → pos 1 ≤ℤ b → unsigned_abs (int_div_euclid a b) ≤ unsigned_abs a
@@ -38,11 +39,6 @@ scaled-near scale z up down near =
     omega arith
 
 -- ---- the numbers of boxes and shifts
-
-both : (a b : Bool) → (a && b) ≡ true → (a ≡ true) × (b ≡ true)
-both true true e = (refl, refl)
-both true false e = absurd (cc)
-both false b e = absurd (cc)
 
 pub near_in_range : (z : ℤ) → is_in_range z ≡ true → unsigned_abs z ≤ 2 ^ 31
 near_in_range z e = grind (arith, ints)
@@ -72,9 +68,9 @@ high_is_scaled scale is centre size p q =
 pub edges-scaled : (scale : Scale) → IsScale scale → (l w x y : ℤ) → area_is_in_range l w x y ≡ true → HasScaledEdges (area_said scale l w x y)
 unfolding area_is_in_range
 edges-scaled scale is l w x y e =
-    let third = both (is_in_range l && is_in_range w && is_in_range x) (is_in_range y) e in
-    let second = both (is_in_range l && is_in_range w) (is_in_range x) third.0 in
-    let first = both (is_in_range l) (is_in_range w) second.0 in
+    let third = and_parts (is_in_range l && is_in_range w && is_in_range x) (is_in_range y) e in
+    let second = and_parts (is_in_range l && is_in_range w) (is_in_range x) third.0 in
+    let first = and_parts (is_in_range l) (is_in_range w) second.0 in
     record {
       xlo = low_is_scaled scale is x l second.1 first.0;
       ylo = low_is_scaled scale is y w third.1 first.1;
@@ -96,7 +92,7 @@ quarters_are_few p q = few (int_lt (pos 0) p) (int_lt (pos 0) q) (int_lt p (pos 
 
 move_is_lawful : (scale : Scale) → IsScale scale → (move : SaidMove) → move_is_in_range move ≡ true → IsLawfulMove (move_said scale move)
 move_is_lawful scale is (Shift x y) e =
-    let each = both (is_in_range x) (is_in_range y) e in (number_is_scaled scale is x each.0, number_is_scaled scale is y each.1)
+    let each = and_parts (is_in_range x) (is_in_range y) e in (number_is_scaled scale is x each.0, number_is_scaled scale is y each.1)
 move_is_lawful scale is MirrorX e = tt
 move_is_lawful scale is MirrorY e = tt
 move_is_lawful scale is (Toward p q) e = quarters_are_few p q
@@ -105,7 +101,7 @@ each_is_lawful : (scale : Scale) → IsScale scale → (moves : List SaidMove) �
     → All IsLawfulMove (map (move_said scale) moves)
 each_is_lawful scale is [] e = All-nil IsLawfulMove
 each_is_lawful scale is (move ∷ moves) e =
-    let first = both (move_is_in_range move) (list_all move_is_in_range moves) e in
+    let first = and_parts (move_is_in_range move) (list_all move_is_in_range moves) e in
     All-cons IsLawfulMove (move_said scale move) (map (move_said scale) moves) (move_is_lawful scale is move first.0)
     (each_is_lawful scale is moves first.1)
 
@@ -113,12 +109,12 @@ each_is_lawful scale is (move ∷ moves) e =
 pub moves-lawful : (scale : Scale) → IsScale scale → (n : ℤ) (moves : List SaidMove) → call_is_in_range n moves ≡ true
     → All IsLawfulMove (map (move_said scale) moves)
 unfolding call_is_in_range
-moves-lawful scale is n moves e = each_is_lawful scale is moves (both (is_in_range n) (list_all move_is_in_range moves) e).1
+moves-lawful scale is n moves e = each_is_lawful scale is moves (and_parts (is_in_range n) (list_all move_is_in_range moves) e).1
 
 -- a scale whose numbers are factors
 pub scale_of_factors : (a b : ℤ) → (is_factor a && is_factor b) ≡ true → IsScale (record { up = a; down = b })
 scale_of_factors a b e =
-    let each = both (is_factor a) (is_factor b) e in
-    let up = both (int_le (pos 1) a) (int_le a (pos MOST_FACTOR)) each.0 in
-    let down = both (int_le (pos 1) b) (int_le b (pos MOST_FACTOR)) each.1 in
+    let each = and_parts (is_factor a) (is_factor b) e in
+    let up = and_parts (int_le (pos 1) a) (int_le a (pos MOST_FACTOR)) each.0 in
+    let down = and_parts (int_le (pos 1) b) (int_le b (pos MOST_FACTOR)) each.1 in
     record { up = grind (arith, ints); down = grind (arith, ints); down_limit = grind (arith, ints) }

@@ -10,7 +10,7 @@ use Rattle.cif_model.specs.declared.cifs.CifItem.{CifItem}
 use Rattle.cif_model.specs.declared.cifs.CifItem.TheVariants.{Area, Call}
 use Rattle.cif_reading.specs.declared.drafts.Opened.{Opened}
 use Rattle.cif_reading.specs.Boxes.{area_said}
-use Rattle.cif_reading.specs.Steps.{move_said}
+use Rattle.cif_reading.specs.SaidSteps.{move_said}
 use Rattle.cif_reading.specs.Drafts.{Draft, layer_place, scale_of, symbol_place}
 
 -- the layers with this one, which is put at their end if it is new

@@ -8,7 +8,7 @@ use Rattle.cif_reading.specs.declared.faults.CifFault.{CifFault}
 use Rattle.cif_reading.specs.declared.faults.CifFault.TheVariants.{Form, LeftOut, NoSymbol, SymbolTwice, NotWhole, Range, NoLayer}
 use Rattle.cif_reading.specs.declared.limits.TheConstants.{MOST_FACTOR}
 use Rattle.cif_reading.specs.Boxes.{area_is_in_range, area_is_whole, has_short_side, is_in_range}
-use Rattle.cif_reading.specs.Steps.{call_is_in_range, is_along_axis, move_is_whole}
+use Rattle.cif_reading.specs.SaidSteps.{call_is_in_range, is_along_axis, move_is_whole}
 use Rattle.cif_reading.specs.Drafts.{Draft, has_symbol, scale_of}
 
 -- a command of a kind that is left out, a box with a direction, and a call with a turn that is not along an axis

@@ -1,9 +1,9 @@
 pub mod Scales
 pub mod Boxes
-pub mod Steps
+pub mod SaidSteps
 pub mod Drafts
 pub mod Faults
 pub mod Additions
 pub mod CifTexts
-pub mod LawfulDrafts
 pub mod RefusedTexts
+pub mod steps

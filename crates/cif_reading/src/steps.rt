@@ -2,7 +2,7 @@
 ghost use Rattle.std.specs.Prelude.{◌≡◌, ◌++◌, ◌∷◌, [], map, true, IfOk, OnOk};
 ghost use Rattle.std.specs.List.{list_all};
 ghost use Rattle.cif_reading.specs.Scales.{IsScale};
-ghost use Rattle.cif_reading.specs.Steps.{call_is_in_range, is_along_axis, move_is_in_range, move_is_whole, move_said, quarters};
+ghost use Rattle.cif_reading.specs.SaidSteps.{call_is_in_range, is_along_axis, move_is_in_range, move_is_whole, move_said, quarters};
 
 use crate::boxes::is_in_range;
 use crate::scales::{Scale, is_whole, scaled};
@@ -43,7 +43,7 @@ fn are_in_range(moves: &[SaidMove]) -> bool
 }
 
 /// Whether all numbers of a call have 32 bits.
-#[tactic(auto, unfolding(crate::specs::Steps::call_is_in_range))]
+#[tactic(auto, unfolding(crate::specs::SaidSteps::call_is_in_range))]
 pub fn call_is_in_range(n: i64, moves: &[SaidMove]) -> bool
     ensures value { result ≡ call_is_in_range n moves.now }
     ensures moves { result ≡ true → list_all move_is_in_range moves.now ≡ true }

@@ -22,7 +22,7 @@ use Rattle.cif_writing.specs.Commands.{start_command, name_command, layer_comman
 use Rattle.cif_writing.specs.Commands.{end_line}
 use Rattle.cif_writing.specs.Parts.{HoldsPart}
 use Rattle.cif_writing.specs.Symbols.{elements_of_use, symbol_number, AreCalls, AreParts, AreSymbols, IsCifText, IsPart, IsSymbol, IsUse}
-use Rattle.cif_writing.specs.Writing.{Writes, IsTooLongWith, AreTooLong}
+use Rattle.cif_writing.specs.steps.Writing.{Writes, IsTooLongWith, AreTooLong}
 use Rattle.cif_writing.proofs.OneText.{one_list_of_parts, one_list_of_symbols, one_use}
 use Rattle.cif_writing.proofs.WritingLaws.{longer, too_long_among}
 

@@ -11,7 +11,7 @@ use Rattle.cif_writing.specs.declared.faults.CifWriteFault.{CifWriteFault}
 use Rattle.cif_writing.specs.declared.faults.CifWriteFault.TheVariants.{Memory}
 use Rattle.cif_writing.specs.declared.limits.TheConstants.{LONGEST_TEXT}
 use Rattle.cif_writing.specs.Symbols.{AreRuns}
-use Rattle.cif_writing.specs.Writing.{Writes, IsTooLongWith, AreTooLong}
+use Rattle.cif_writing.specs.steps.Writing.{Writes, IsTooLongWith, AreTooLong}
 use Rattle.cif_writing.proofs.LineLaws.{lines_more, lines_cut, one_list_of_lines, HasOne, LinesCut}
 
 -- ---- lines behind a text

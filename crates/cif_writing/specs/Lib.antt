@@ -1,4 +1,4 @@
 pub mod Commands
 pub mod Parts
 pub mod Symbols
-pub mod Writing
+pub mod steps

@@ -14,7 +14,7 @@ ghost use Rattle.cif_writing.specs.declared.faults.CifWriteFault.TheVariants.{Me
 ghost use Rattle.cif_writing.specs.Commands.{start_command, name_command, part_lines, box_command, call_command};
 ghost use Rattle.cif_writing.specs.Parts.{part_sets};
 ghost use Rattle.cif_writing.specs.Symbols.{elements_of_use, AreParts, IsUse, AreCalls, IsSymbol, AreSymbols, IsCifText};
-ghost use Rattle.cif_writing.specs.Writing.{Writes, IsTooLongWith, AreTooLong};
+ghost use Rattle.cif_writing.specs.steps.Writing.{Writes, IsTooLongWith, AreTooLong};
 
 use crate::commands::{
     write_box, write_call, write_end, write_finish, write_layer, write_name, write_start,

@@ -25,7 +25,7 @@ use Rattle.cif_reading.specs.declared.faults.CifFault.TheVariants.{Form, LeftOut
 use Rattle.cif_reading.specs.Boxes.{is_in_range}
 use Rattle.cif_reading.specs.Drafts.{Draft, has_symbol, scale_of, symbol_place}
 use Rattle.cif_reading.specs.Faults.{fault_in, lacks_semicolon, uses_what_is_left_out}
-use Rattle.cif_reading.specs.Steps.{call_is_in_range, is_along_axis, move_is_in_range, move_is_whole, move_said}
+use Rattle.cif_reading.specs.SaidSteps.{call_is_in_range, is_along_axis, move_is_in_range, move_is_whole, move_said}
 use Rattle.cif_writing.specs.Commands.{call_command, mirror_words, plain_call, shift_words, turn_words}
 use Rattle.cif_written.proofs.HalfNumbers.{half, count_fits, fits_in_range, shift_read, shift_whole, twice_fits, IsNear, near_edge}
 use Rattle.cif_written.proofs.ReadCommands.{behind_symbols, in_symbol, not_so, passes}

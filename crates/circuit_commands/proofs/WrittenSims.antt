@@ -13,7 +13,7 @@ use Rattle.sim_records.specs.declared.limits.TheConstants.{MOST_SWITCHES}
 use Rattle.sim_records.specs.SimRecords.{HasTooManySwitches, sim_of}
 use Rattle.circuit_commands.specs.declared.circuits.Written.{Written}
 use Rattle.circuit_commands.specs.declared.circuits.Written.TheVariants.{Stored, Passed}
-use Rattle.circuit_commands.specs.Given.{limit_passed}
+use Rattle.circuit_commands.specs.steps.Given.{limit_passed}
 use Rattle.circuit_commands.specs.Circuits.{IsSimWritten, bare_lines, counts_text}
 
 -- the line that tells of a sim file

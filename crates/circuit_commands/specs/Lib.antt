@@ -1,4 +1,4 @@
 pub mod Circuits
-pub mod Given
 pub mod CommandExt2sim
 pub mod Refusals
+pub mod steps

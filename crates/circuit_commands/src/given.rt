@@ -3,7 +3,7 @@ ghost use Rattle.std.specs.Prelude.{◌≡◌, ◌≢◌, List, IfOk, IsOkUnless
 ghost use Rattle.ext_model.specs.declared.records.FetRec.{FetRec as FlatFet};
 ghost use Rattle.flatten.specs.Sinks.{with_fets};
 ghost use Rattle.circuit_commands.specs.Circuits.{IsSimWritten};
-ghost use Rattle.circuit_commands.specs.Given.{HasSimFets, limit_passed};
+ghost use Rattle.circuit_commands.specs.steps.Given.{HasSimFets, limit_passed};
 
 use crate::circuits::{Written, add_bare, store_sim};
 use crate::limits::Limit;
@@ -25,7 +25,7 @@ pub struct SimFets {
 
 impl FetSink for SimFets {
     ghost use Rattle.sim_records.specs.SimRecords.{HasLetterAndLengths};
-    ghost use Rattle.circuit_commands.specs.Given.{HasSimFets};
+    ghost use Rattle.circuit_commands.specs.steps.Given.{HasSimFets};
 
     ghost fits = { HasLetterAndLengths };
 

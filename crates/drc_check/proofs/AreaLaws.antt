@@ -12,7 +12,7 @@ use Rattle.square_sets.specs.Reaches.{IsBounded}
 use Rattle.tech_model.specs.declared.raw.TypeId.{TypeId}
 use Rattle.cell_library.specs.CellTree.Hulls.{SpansInRange}
 use Rattle.drc_check.specs.declared.pieces.ListedPiece.{ListedPiece}
-use Rattle.drc_check.specs.Checks.{areas_of_list, is_of_list, IsSoundPiece}
+use Rattle.drc_check.specs.steps.Checks.{areas_of_list, is_of_list, IsSoundPiece}
 
 -- what lies in the range of paint is bounded
 spans_bounded : (area : Rect) → SpansInRange area → IsBounded SET_EDGE area

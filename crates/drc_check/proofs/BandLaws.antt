@@ -8,7 +8,7 @@ use Rattle.finite_sets.proofs.Members.{In-append_left, In-push, In-push_cases}
 use Rattle.geo_core.specs.declared.squares.Rect.{Rect}
 use Rattle.geo_core.specs.Areas.{IsNear, LiesWithin}
 use Rattle.cell_library.specs.CellTree.Hulls.{SpansInRange}
-use Rattle.drc_check.specs.Bands.{AreBandsBelow}
+use Rattle.drc_check.specs.steps.Bands.{AreBandsBelow}
 
 -- the rows of a hull between two of its rows
 abbrev pub rows_between : Rect → ℤ → ℤ → Rect

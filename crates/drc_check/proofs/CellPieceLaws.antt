@@ -22,8 +22,8 @@ use Rattle.cell_library.proofs.VisitLaws.{hull_spans}
 use Rattle.drc_rules.specs.declared.rules.Rule.{Rule}
 use Rattle.drc_rules.specs.LawfulRules.{IsLawfulRule}
 use Rattle.drc_check.specs.declared.pieces.ListedPiece.{ListedPiece}
-use Rattle.drc_check.specs.CellPieces.{AreCellPieces, AreListedPiecesOf}
-use Rattle.drc_check.specs.Pieces.{IsListedAt}
+use Rattle.drc_check.specs.steps.CellPieces.{AreCellPieces, AreListedPiecesOf}
+use Rattle.drc_check.specs.steps.Pieces.{IsListedAt}
 use Rattle.drc_check.proofs.ListedLaws.{listed_is_material}
 
 -- a part of a hull lies in the range of paint

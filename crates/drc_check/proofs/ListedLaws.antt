@@ -11,7 +11,7 @@ use Rattle.tech_model.proofs.TypeLaws.{or_left, or_right}
 use Rattle.tech_model.proofs.WellFormedLaws.{type_bounds}
 use Rattle.drc_rules.specs.declared.rules.Rule.{Rule}
 use Rattle.drc_rules.specs.LawfulRules.{AreTypesOn, IsLawfulRule}
-use Rattle.drc_check.specs.Listed.{has_plane, IsListedType}
+use Rattle.drc_check.specs.steps.Listed.{has_plane, IsListedType}
 
 type_is_material : (raw : RawTech) (plane : ℕ) (types : List TypeId) (kind : TypeId) → AreTypesOn raw plane types → In kind types → kind.0 ≢ 0
 type_is_material raw plane types kind are among space =

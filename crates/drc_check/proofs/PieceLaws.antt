@@ -7,7 +7,7 @@ use Rattle.tech_model.specs.declared.raw.TypeId.{TypeId}
 use Rattle.offences.specs.LayoutModel.Places.{Place}
 use Rattle.offences.specs.Offences.{SetLayout}
 use Rattle.drc_check.specs.declared.pieces.ListedPiece.{ListedPiece}
-use Rattle.drc_check.specs.Pieces.{AreListedPieces, HasPieceAt}
+use Rattle.drc_check.specs.steps.Pieces.{AreListedPieces, HasPieceAt}
 
 -- a piece that is found among some is found among more
 pub found_among : (some all : List ListedPiece) (place : Place) (kind : TypeId) → ((piece : ListedPiece) → In piece some → In piece all)

@@ -12,8 +12,8 @@ use Rattle.cell_library.specs.declared.part_tiles.PartTile.{PartTile}
 use Rattle.drc_rules.specs.declared.rules.Rule.{Rule}
 use Rattle.drc_rules.specs.LawfulRules.{IsLawfulRule}
 use Rattle.drc_check.specs.declared.pieces.ListedPiece.{ListedPiece}
-use Rattle.drc_check.specs.Listed.{has_plane, IsListedType, IsMarkedType}
-use Rattle.drc_check.specs.Pieces.{set_of_all, AddsListed, AddsMadePieces, AddsOfPlane, IsListedAt, IsMarkedTypeOn}
+use Rattle.drc_check.specs.steps.Listed.{has_plane, IsListedType, IsMarkedType}
+use Rattle.drc_check.specs.steps.Pieces.{set_of_all, AddsListed, AddsMadePieces, AddsOfPlane, IsListedAt, IsMarkedTypeOn}
 use Rattle.drc_check.proofs.ListedLaws.{listed_is_material, listed_plane, listed_plane_named}
 use Rattle.drc_check.proofs.PieceLaws.{pieces_for, pieces_joined}
 

@@ -21,9 +21,9 @@ use Rattle.drc_rules.specs.declared.rules.Rule.{Rule}
 use Rattle.drc_rules.specs.declared.rules.RuleKind.{RuleKind}
 use Rattle.drc_rules.specs.declared.rules.RuleKind.TheVariants.{Separation, Spacing, Width}
 use Rattle.drc_check.specs.declared.pieces.ListedPiece.{ListedPiece}
-use Rattle.drc_check.specs.Checks.{areas_of_list, is_of_list, ViolatesIn}
-use Rattle.drc_check.specs.Listed.{IsListedType}
-use Rattle.drc_check.specs.Pieces.{AreListedPieces, IsListedAt}
+use Rattle.drc_check.specs.steps.Checks.{areas_of_list, is_of_list, ViolatesIn}
+use Rattle.drc_check.specs.steps.Listed.{IsListedType}
+use Rattle.drc_check.specs.steps.Pieces.{AreListedPieces, IsListedAt}
 use Rattle.drc_check.specs.Violations.{IsOfList, Violates, ViolatesBy}
 
 -- ---- sets with the same squares

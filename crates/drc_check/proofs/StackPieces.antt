@@ -30,8 +30,9 @@ use Rattle.offences.proofs.TileLaws.{bit_kept, union_bit}
 use Rattle.offences.proofs.UnionLaws.{same_sets}
 use Rattle.cell_library.specs.declared.part_tiles.PartTile.{PartTile}
 use Rattle.drc_check.specs.declared.pieces.ListedPiece.{ListedPiece}
-use Rattle.drc_check.specs.Pieces.{tile_area, is_on_plane, marked_piece, member_union, stack_piece, part_set_at, set_in, set_of_all, set_of_tile, tiles_of_plane}
-use Rattle.drc_check.specs.Pieces.{AreListedPieces, HasMembersIn, IsMarkedTypeOn, IsOnPartTile}
+use Rattle.drc_check.specs.steps.Pieces.{tile_area, is_on_plane, marked_piece, member_union, stack_piece, part_set_at, set_in, set_of_all, set_of_tile}
+use Rattle.drc_check.specs.steps.Pieces.{tiles_of_plane}
+use Rattle.drc_check.specs.steps.Pieces.{AreListedPieces, HasMembersIn, IsMarkedTypeOn, IsOnPartTile}
 use Rattle.drc_check.proofs.FoundLists.{filter_map_kept, filter_map_source}
 use Rattle.drc_check.proofs.TileUnions.{part_of_tile, tile_of_part}
 

@@ -23,7 +23,7 @@ use Rattle.hierarchy_model.proofs.CleanLaws.{flat_of_parts}
 use Rattle.cell_library.specs.declared.part_tiles.PartTile.{PartTile}
 use Rattle.cell_library.specs.PartTiles.{IsPartTileIn, set_from, set_of_part, set_of_tiles}
 use Rattle.cell_library.proofs.PartLaws.{part_is_there}
-use Rattle.drc_check.specs.Pieces.{set_of_all, set_of_tile}
+use Rattle.drc_check.specs.steps.Pieces.{set_of_all, set_of_tile}
 
 -- ---- the parts of what tiles make
 

@@ -19,9 +19,9 @@ use Rattle.cell_library.specs.declared.part_tiles.PartTile.{PartTile}
 use Rattle.cell_library.specs.PartTiles.{IsPartTileIn, set_of_part, set_of_tiles}
 use Rattle.drc_rules.specs.declared.rules.Rule.{Rule}
 use Rattle.drc_check.specs.declared.pieces.ListedPiece.{ListedPiece}
-use Rattle.drc_check.specs.Bands.{AreBandsOf}
-use Rattle.drc_check.specs.CellPieces.{AreListedPiecesIn, AreListedPiecesOf, IsListedIn}
-use Rattle.drc_check.specs.Pieces.{AddsListed}
+use Rattle.drc_check.specs.steps.Bands.{AreBandsOf}
+use Rattle.drc_check.specs.steps.CellPieces.{AreListedPiecesIn, AreListedPiecesOf, IsListedIn}
+use Rattle.drc_check.specs.steps.Pieces.{AddsListed}
 use Rattle.drc_check.proofs.PieceLaws.{no_pieces, pieces_for, pieces_joined}
 use Rattle.drc_check.proofs.TileUnions.{flat_of_tiles, tile_inside}
 

@@ -1,6 +1,2 @@
-pub mod Bands
-pub mod CellPieces
-pub mod Checks
-pub mod Listed
-pub mod Pieces
 pub mod Violations
+pub mod steps

@@ -2,7 +2,7 @@
 ghost use Rattle.std.specs.Prelude.{◌≤ℤ◌, pos, IfOk};
 ghost use Rattle.geo_core.specs.Covering.{IsProper};
 ghost use Rattle.cell_library.specs.CellTree.Hulls.{SpansInRange};
-ghost use Rattle.drc_check.specs.Bands.{AreBandsOf};
+ghost use Rattle.drc_check.specs.steps.Bands.{AreBandsOf};
 
 use geo_core::Rect;
 use std::alloc::{AllocError, Global};

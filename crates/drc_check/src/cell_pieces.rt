@@ -5,7 +5,7 @@ ghost use Rattle.cell_library.specs.CellTree.Hulls.{SpansInRange};
 ghost use Rattle.cell_library.specs.Libraries.{seen};
 ghost use Rattle.cell_library.specs.LayoutTrees.{tree_at};
 ghost use Rattle.drc_rules.specs.LawfulRules.{IsLawfulRule};
-ghost use Rattle.drc_check.specs.CellPieces.{AreCellPieces, AreListedPiecesOf};
+ghost use Rattle.drc_check.specs.steps.CellPieces.{AreCellPieces, AreListedPiecesOf};
 
 use crate::bands::bands_of;
 use crate::marks::listed_types;

@@ -6,7 +6,7 @@ ghost use Rattle.cell_library.specs.Libraries.{seen};
 ghost use Rattle.cell_library.specs.LayoutTrees.{tree_at};
 ghost use Rattle.drc_rules.specs.LawfulRules.{IsLawfulRule};
 ghost use Rattle.drc_rules.specs.declared.limits.TheConstants.{LARGEST_DISTANCE, MOST_RULES};
-ghost use Rattle.drc_check.specs.Checks.{areas_of_list, is_of_list, IsSoundPiece, ViolatesIn};
+ghost use Rattle.drc_check.specs.steps.Checks.{areas_of_list, is_of_list, IsSoundPiece, ViolatesIn};
 ghost use Rattle.drc_check.specs.Violations.{violation_of, AreRuleStripsFrom, AreViolations};
 
 use crate::cell_pieces::cell_pieces;

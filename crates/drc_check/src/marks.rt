@@ -3,7 +3,7 @@ ghost use Rattle.std.specs.Prelude.{◌≡◌, ℕ, IfOk, vec_len};
 ghost use Rattle.std.specs.List.{list_any};
 ghost use Rattle.finite_sets.specs.Lists.{In};
 ghost use Rattle.tech_model.specs.declared.raw.TypeId.{TypeId as Kind};
-ghost use Rattle.drc_check.specs.Listed.{has_plane, IsListedType, IsMarkedType};
+ghost use Rattle.drc_check.specs.steps.Listed.{has_plane, IsListedType, IsMarkedType};
 
 use drc_rules::Rule;
 use std::alloc::{AllocError, Global};

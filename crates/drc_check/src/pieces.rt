@@ -4,9 +4,9 @@ ghost use Rattle.std.specs.List.{filter_map};
 ghost use Rattle.rect_overlays.specs.declared.stacks.Stack.{Stack as OneStack};
 ghost use Rattle.tech_model.specs.declared.raw.TypeId.{TypeId as Kind};
 ghost use Rattle.drc_rules.specs.LawfulRules.{IsLawfulRule};
-ghost use Rattle.drc_check.specs.Listed.{IsListedType, IsMarkedType};
+ghost use Rattle.drc_check.specs.steps.Listed.{IsListedType, IsMarkedType};
 ghost use Rattle.drc_check.specs.declared.marks.TheConstants.{TYPE_NUMBERS};
-ghost use Rattle.drc_check.specs.Pieces.{tile_area, member_union, stack_piece, set_in, tiles_of_plane, AddsListed, AddsOfPlane, HasMembersIn};
+ghost use Rattle.drc_check.specs.steps.Pieces.{tile_area, member_union, stack_piece, set_in, tiles_of_plane, AddsListed, AddsOfPlane, HasMembersIn};
 
 use crate::marks::names_plane;
 use cell_library::PartTile;

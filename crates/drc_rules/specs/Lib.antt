@@ -1,4 +1,4 @@
-pub mod Pieces
 pub mod RuleLines
 pub mod RuleFiles
 pub mod LawfulRules
+pub mod steps

@@ -2,7 +2,7 @@
 ghost use Rattle.std.specs.Prelude.{◌≡◌, ◌∷◌, position};
 ghost use Rattle.std.specs.Option.{option_map};
 ghost use Rattle.tech_draft.specs.Words.{is_comma, is_slash, has_slash, name_part, plane_part, pieces_of};
-ghost use Rattle.drc_rules.specs.Pieces.{pieces_left};
+ghost use Rattle.drc_rules.specs.steps.Pieces.{pieces_left};
 ghost use Rattle.drc_rules.specs.RuleLines.{is_entry, is_list};
 
 use std::marker::Model;
@@ -17,7 +17,7 @@ pub struct Entries<'a> {
 impl<'a> Model for Entries<'a> {
     ghost use Rattle.std.specs.Prelude.{ℕ, List};
     ghost use Rattle.std.specs.Option.{option_map};
-    ghost use Rattle.drc_rules.specs.Pieces.{pieces_left};
+    ghost use Rattle.drc_rules.specs.steps.Pieces.{pieces_left};
 
     ghost Value = { List (List ℕ) };
 

@@ -1,11 +1,9 @@
 -- Ids and the names of elements: where each is cut, and what it tells.
-use Rattle.std.proofs.Common.{◌≡◌, ℕ, ℤ, List, [], ◌∷◌, ◌++◌, Bool, length, get_or, if◌then◌else◌, refl, sym, ap, ◌∙◌, subst, arith, length-append}
+use Rattle.std.proofs.Common.{◌≡◌, ℕ, ℤ, List, [], ◌∷◌, ◌++◌, Bool, length, if◌then◌else◌, refl, sym, ap, ◌∙◌, subst, arith, length-append}
 use Rattle.std.specs.Prelude.{position, slice_get, Some, None}
 use Rattle.std.specs.List.{list_any}
 use Rattle.std.specs.Str.{bytes_eq}
 use Rattle.std.proofs.lemmas.Bool.{eq-eqb, ne_eqb, true≢false}
-use Rattle.std.proofs.lemmas.Iterator.Adapters.{position_from-zero}
-use Rattle.std.proofs.lemmas.List.Quantifiers.{position-Some}
 use Rattle.std.proofs.Math.Seq.{get_or-append_seam}
 use Rattle.std.proofs.lemmas.Option.{slice_get-get_or, slice_get_within, get_or_from_slice_get}
 use Rattle.std.proofs.lemmas.Slice.Eq.{bytes_eq-Decides}
@@ -13,22 +11,10 @@ use Rattle.text_scan.specs.Decimal.{decimal}
 use Rattle.text_scan.proofs.NumberLemmas.{digit_is}
 use Rattle.finite_sets.specs.Lists.{In}
 use Rattle.finite_sets.proofs.Members.{In-get_or}
-use Rattle.finite_sets.proofs.Searches.{position_from-none, list_any-of_absent}
+use Rattle.finite_sets.proofs.Searches.{list_any-of_absent}
 use Rattle.ext_model.specs.ElementNames.{indexed_name}
 use Rattle.ext_model.proofs.TextCuts.{Lacks, lacks-append, lacks-decimal}
-
--- a number that is found for an id is its own
-pub found_id : (ids : List (List ℕ)) (id : List ℕ) (number : ℕ) → position (bytes_eq id) ids ≡ Some number → slice_get ids number ≡ Some id
-found_id ids id number found =
-    let place = position-Some (bytes_eq id) ids number [] found in
-    slice_get-get_or ids number [] place.0 ∙ ap Some (sym ((bytes_eq-Decides id (get_or ids number [])).0 place.1))
-
--- and an id for which none is found is none of them
-pub unknown_id : (ids : List (List ℕ)) (id : List ℕ) → position (bytes_eq id) ids ≡ None → In id ids → ⊥
-unknown_id ids id none here =
-    let fails = position_from-none (bytes_eq id) 0 ids id (sym (position_from-zero (bytes_eq id) ids) ∙ none) here in
-    let passes = (bytes_eq-Decides id id).1 refl in
-    cc
+use Rattle.name_index.proofs.Positions.{stands_nowhere}
 
 -- a text in which the byte stands does not lack it
 pub has_byte : (byte : ℕ) (text rest : List ℕ) → Lacks byte (text ++ byte ∷ rest) → ⊥
@@ -65,7 +51,7 @@ whole_or_indexed id other i j plain same =
 pub new_id : (ids more : List (List ℕ)) (id : List ℕ) → position (bytes_eq id) ids ≡ None
     → more ≡ (if list_any (bytes_eq id) ids then ids else ids ++ id ∷ []) → more ≡ ids ++ id ∷ []
 new_id ids more id none is =
-    is ∙ ap (λ (known : Bool). if known then ids else ids ++ id ∷ []) (list_any-of_absent bytes_eq bytes_eq-Decides id ids (unknown_id ids id none))
+    is ∙ ap (λ (known : Bool). if known then ids else ids ++ id ∷ []) (list_any-of_absent bytes_eq bytes_eq-Decides id ids (stands_nowhere ids id none))
 
 -- and has the number of those before it
 pub last_id : (ids : List (List ℕ)) (id : List ℕ) → slice_get (ids ++ id ∷ []) (length ids) ≡ Some id

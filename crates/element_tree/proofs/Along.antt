@@ -15,9 +15,9 @@ use Rattle.circuit_model.specs.Elements.{Element, ext_of, of_option, elements_be
 use Rattle.element_tree.specs.declared.tree.Branch.{Branch}
 use Rattle.element_tree.specs.declared.tree.TreeElement.{TreeElement}
 use Rattle.element_tree.specs.Trees.{branches_of}
-use Rattle.element_tree.specs.Links.{Link, links_from, links_of, chains_below, flat_below, flat_along}
+use Rattle.element_tree.specs.steps.Links.{Link, links_from, links_of, chains_below, flat_below, flat_along}
 use Rattle.element_tree.specs.Sizes.{Fits}
-use Rattle.element_tree.specs.Rooms.{AreForest, MovesByAtMost}
+use Rattle.element_tree.specs.steps.Rooms.{AreForest, MovesByAtMost}
 use Rattle.element_tree.proofs.Transforms.{composed_moves, placement_moves}
 use Rattle.element_tree.proofs.Chains.{number_along, rank_along, end_of, IsChainFrom}
 use Rattle.element_tree.proofs.Ranks.{ids_along}

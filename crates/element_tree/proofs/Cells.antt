@@ -14,7 +14,7 @@ use Rattle.name_index.proofs.FiniteSets.Searches.{find-passes, list_any-of_absen
 use Rattle.name_index.proofs.FiniteSets.Distincts.{Distinct-append_left, Distinct-append_apart, Distinct-places}
 use Rattle.ext_model.specs.declared.records.CellExt.{CellExt}
 use Rattle.circuit_model.specs.Elements.{ext_of}
-use Rattle.element_tree.specs.Goals.{cells_of, found_goals}
+use Rattle.element_tree.specs.steps.Goals.{cells_of, found_goals}
 
 -- ---- tests of names
 

@@ -10,9 +10,9 @@ use Rattle.finite_sets.specs.Lists.{In}
 use Rattle.finite_sets.proofs.Places.{slice_get-append_front, slice_get-append_right, slice_get-map_source, slice_get-map_there}
 use Rattle.ext_model.specs.declared.records.CellExt.{CellExt}
 use Rattle.element_tree.specs.declared.tree.Branch.{Branch}
-use Rattle.element_tree.specs.Links.{Link, links_of, chains_below}
+use Rattle.element_tree.specs.steps.Links.{Link, links_of, chains_below}
 use Rattle.element_tree.specs.Sizes.{Fits, value_at}
-use Rattle.element_tree.specs.Rooms.{AreInSteps, AreForest}
+use Rattle.element_tree.specs.steps.Rooms.{AreInSteps, AreForest}
 
 -- the number of the element along a chain, less that of the one it starts at
 abbrev pub number_along : List Link → ℕ

@@ -16,10 +16,10 @@ use Rattle.element_tree.specs.declared.graph.RecordGraph.{RecordGraph}
 use Rattle.element_tree.specs.Graphs.{LeadTo, IsGraphOf, children_of}
 use Rattle.element_tree.specs.declared.tree.Branch.{Branch}
 use Rattle.element_tree.specs.Trees.{branches_of}
-use Rattle.element_tree.specs.Links.{Link, links_from, links_of}
+use Rattle.element_tree.specs.steps.Links.{Link, links_from, links_of}
 use Rattle.element_tree.specs.Sizes.{value_at, chain_from, size_from, AreMeasuredIn, Fits}
-use Rattle.element_tree.specs.Forests.{AreSteps, AreBranchesOf, AreBranches, lesser}
-use Rattle.element_tree.specs.Rooms.{AreInSteps, AreForest}
+use Rattle.element_tree.specs.steps.Forests.{AreSteps, AreBranchesOf, AreBranches, lesser}
+use Rattle.element_tree.specs.steps.Rooms.{AreInSteps, AreForest}
 use Rattle.element_tree.proofs.Counting.{leads_at, measured_at}
 use Rattle.element_tree.proofs.Growth.{links_of-found}
 use Rattle.element_tree.proofs.Steps.{AreSteps-long}

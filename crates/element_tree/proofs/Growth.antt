@@ -13,9 +13,9 @@ use Rattle.circuit_model.specs.Elements.{of_option, transform_of}
 use Rattle.element_tree.specs.declared.tree.Branch.{Branch}
 use Rattle.element_tree.specs.declared.tree.TreeElement.{TreeElement}
 use Rattle.element_tree.specs.Trees.{branches_of}
-use Rattle.element_tree.specs.Links.{Link, links_from, links_of, chains_below, flat_below, flat_along, flats_below}
+use Rattle.element_tree.specs.steps.Links.{Link, links_from, links_of, chains_below, flat_below, flat_along, flats_below}
 use Rattle.element_tree.specs.Sizes.{value_at}
-use Rattle.element_tree.specs.Rooms.{AreInSteps, HasRoom}
+use Rattle.element_tree.specs.steps.Rooms.{AreInSteps, HasRoom}
 use Rattle.element_tree.proofs.Transforms.{placement_moves, composed_moves}
 use Rattle.element_tree.proofs.Ranks.{rank_step-size}
 

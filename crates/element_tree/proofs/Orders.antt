@@ -15,7 +15,7 @@ use Rattle.name_index.proofs.FiniteSets.Images.{In-reverse, In-reverse_source}
 use Rattle.element_tree.specs.declared.faults.UsePlace.{UsePlace}
 use Rattle.element_tree.specs.declared.faults.WalkFault.{WalkFault}
 use Rattle.element_tree.specs.declared.faults.WalkFault.TheVariants.{NoCell as NoCellAt, Cycle as CycleAt, Memory as NoMemory}
-use Rattle.element_tree.specs.Walks.{Graph, uses_of, IsGraph, IsDoneIn, IsClosed, IsOrder, fault_from, fault_below, walk_fault as number_fault}
+use Rattle.element_tree.specs.steps.Walks.{Graph, uses_of, IsGraph, IsDoneIn, IsClosed, IsOrder, fault_from, fault_below, walk_fault as number_fault}
 use Rattle.ext_model.specs.declared.records.UseRec.{UseRec}
 use Rattle.ext_model.specs.declared.records.CellExt.{CellExt}
 use Rattle.circuit_model.specs.declared.faults.FlatFault.{FlatFault}
@@ -23,7 +23,7 @@ use Rattle.circuit_model.specs.declared.faults.FlatFault.TheVariants.{NoCell, Cy
 use Rattle.circuit_model.specs.Elements.{ext_of}
 use Rattle.element_tree.specs.declared.graph.RecordGraph.{RecordGraph}
 use Rattle.element_tree.specs.Graphs.{LeadTo, AreDone, IsGraphOf, children_of}
-use Rattle.element_tree.specs.Goals.{cells_of, goals_in, goal_graph, found_goals, IsUseAt, IsUseOf, IsNamedFault}
+use Rattle.element_tree.specs.steps.Goals.{cells_of, goals_in, goal_graph, found_goals, IsUseAt, IsUseOf, IsNamedFault}
 use Rattle.element_tree.proofs.Cells.{numbered}
 use Rattle.element_tree.proofs.RecordWalks.{fault_named, cell_of_use, cell_named}
 

@@ -18,10 +18,10 @@ use Rattle.finite_sets.proofs.Places.{slice_get-below}
 use Rattle.ext_model.specs.declared.records.UseRec.{UseRec}
 use Rattle.ext_model.specs.NameParts.{element_cmp}
 use Rattle.element_tree.specs.declared.tree.Branch.{Branch}
-use Rattle.element_tree.specs.NameOrder.{id_at}
-use Rattle.element_tree.specs.Links.{Link, links_from}
-use Rattle.element_tree.specs.Forests.{AreSteps, AreBranchesOf, lesser}
-use Rattle.element_tree.specs.RankSteps.{size_at, HaveRankSteps}
+use Rattle.element_tree.specs.steps.NameOrder.{id_at}
+use Rattle.element_tree.specs.steps.Links.{Link, links_from}
+use Rattle.element_tree.specs.steps.Forests.{AreSteps, AreBranchesOf, lesser}
+use Rattle.element_tree.specs.steps.RankSteps.{size_at, HaveRankSteps}
 use Rattle.element_tree.proofs.NameOrders.{element_cmp_total, element_cmp-Equal}
 use Rattle.element_tree.proofs.Growth.{link_at, length-links_from}
 use Rattle.element_tree.proofs.Steps.{AreSteps-long, AreSteps-child, AreNumbers, number_within, numbers_long, numbers_apart}

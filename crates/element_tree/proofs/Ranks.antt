@@ -14,9 +14,9 @@ use Rattle.finite_sets.proofs.Images.{one_from_Distinct}
 use Rattle.ext_model.specs.declared.records.CellExt.{CellExt}
 use Rattle.ext_model.specs.NameParts.{element_cmp}
 use Rattle.element_tree.specs.declared.tree.Branch.{Branch}
-use Rattle.element_tree.specs.Links.{Link, links_of}
+use Rattle.element_tree.specs.steps.Links.{Link, links_of}
 use Rattle.element_tree.specs.Sizes.{Fits, value_at}
-use Rattle.element_tree.specs.Rooms.{AreForest}
+use Rattle.element_tree.specs.steps.Rooms.{AreForest}
 use Rattle.element_tree.proofs.NameOrders.{element_cmp_total, element_cmp-Equal}
 use Rattle.element_tree.proofs.Chains.{rank_along, IsChainFrom}
 

@@ -14,7 +14,7 @@ use Rattle.name_index.specs.FiniteSets.Lists.{In, Distinct}
 use Rattle.element_tree.specs.declared.faults.UsePlace.{UsePlace}
 use Rattle.element_tree.specs.declared.faults.WalkFault.{WalkFault}
 use Rattle.element_tree.specs.declared.faults.WalkFault.TheVariants.{NoCell as NoCellAt, Cycle as CycleAt, Memory as NoMemory}
-use Rattle.element_tree.specs.Walks.{uses_of, fault_from, fault_below, walk_fault as number_fault}
+use Rattle.element_tree.specs.steps.Walks.{uses_of, fault_from, fault_below, walk_fault as number_fault}
 use Rattle.ext_model.specs.declared.records.UseRec.{UseRec}
 use Rattle.ext_model.specs.declared.records.CellExt.{CellExt}
 use Rattle.circuit_model.specs.declared.faults.FlatFault.{FlatFault}
@@ -22,7 +22,7 @@ use Rattle.circuit_model.specs.declared.faults.FlatFault.TheVariants.{NoCell, Cy
 use Rattle.circuit_model.specs.Elements.{ext_of}
 use Rattle.circuit_model.specs.FlatNodes.{is_among}
 use Rattle.circuit_model.specs.Refusals.{first_fault, use_fault, walk_fault}
-use Rattle.element_tree.specs.Goals.{cells_of, goals_in, goal_graph}
+use Rattle.element_tree.specs.steps.Goals.{cells_of, goals_in, goal_graph}
 use Rattle.element_tree.proofs.Cells.{no_number, numbered, one_number, found_cell}
 
 -- the cell that a use names

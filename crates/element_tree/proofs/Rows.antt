@@ -15,7 +15,7 @@ use Rattle.element_tree.specs.Graphs.{LeadTo, children_of}
 use Rattle.element_tree.specs.declared.tree.Branch.{Branch}
 use Rattle.element_tree.specs.Trees.{branches_of}
 use Rattle.element_tree.specs.Sizes.{value_at, size_from, AreMeasuredIn, Fits}
-use Rattle.element_tree.specs.Forests.{AreBranchesOf, AreBranches}
+use Rattle.element_tree.specs.steps.Forests.{AreBranchesOf, AreBranches}
 use Rattle.element_tree.proofs.Measures.{IsRead, next_in_order}
 use Rattle.element_tree.proofs.Counting.{measured_at}
 

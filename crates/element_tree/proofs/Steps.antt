@@ -11,8 +11,8 @@ use Rattle.std.proofs.lemmas.List.Sorted.{sum_by-IsPermutation, All-permutation,
 use Rattle.finite_sets.proofs.Pairs.{AllPairs-permutation}
 use Rattle.finite_sets.proofs.Sums.{sum_by-map}
 use Rattle.element_tree.specs.declared.tree.Branch.{Branch}
-use Rattle.element_tree.specs.Forests.{AreSteps}
-use Rattle.element_tree.specs.RankSteps.{size_at, HaveRankSteps}
+use Rattle.element_tree.specs.steps.Forests.{AreSteps}
+use Rattle.element_tree.specs.steps.RankSteps.{size_at, HaveRankSteps}
 
 -- one more branch
 pub AreSteps-push : (size : ℕ → ℕ) (start : ℕ) (children : List ℕ) (branches : List Branch) (child : ℕ) (branch : Branch)

@@ -15,7 +15,7 @@ use Rattle.ext_model.specs.declared.limits.TheConstants.{ELEMENT_EDGE}
 use Rattle.ext_model.specs.Lawful.{IsPlacement}
 use Rattle.circuit_model.specs.declared.limits.TheConstants.{LONGEST_CHAIN}
 use Rattle.circuit_model.specs.Elements.{transform_of}
-use Rattle.element_tree.specs.Rooms.{MovesByAtMost}
+use Rattle.element_tree.specs.steps.Rooms.{MovesByAtMost}
 
 -- the transform of these parts
 abbrev transform : Orient → ℤ → ℤ → Transform

@@ -17,10 +17,10 @@ use Rattle.circuit_model.specs.Elements.{AreRecords, Element, ids_of, elements_o
 use Rattle.element_tree.specs.declared.tree.Branch.{Branch}
 use Rattle.element_tree.specs.declared.tree.TreeElement.{TreeElement}
 use Rattle.element_tree.specs.Trees.{branches_of, StandsFor, StandsIn, LeadsTo, AreAt, IsTreeOfElements, IsTreeOf}
-use Rattle.element_tree.specs.Links.{Link, links_of, chains_below, flat_along, flats_below, top_flat}
+use Rattle.element_tree.specs.steps.Links.{Link, links_of, chains_below, flat_along, flats_below, top_flat}
 use Rattle.element_tree.specs.Sizes.{Fits, value_at, AreSizes}
-use Rattle.element_tree.specs.Forests.{AreBranches}
-use Rattle.element_tree.specs.Rooms.{AreForest, HasRoom}
+use Rattle.element_tree.specs.steps.Forests.{AreBranches}
+use Rattle.element_tree.specs.steps.Rooms.{AreForest, HasRoom}
 use Rattle.element_tree.proofs.Forests.{forest_of}
 use Rattle.element_tree.proofs.Transforms.{reach_from_count, image-identity, identity_moves}
 use Rattle.element_tree.proofs.Chains.{number_along, rank_along, end_of, IsChainFrom, step_behind}

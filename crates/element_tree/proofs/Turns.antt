@@ -10,9 +10,9 @@ use Rattle.element_tree.specs.declared.faults.WalkFault.TheVariants.{NoCell, Cyc
 use Rattle.element_tree.specs.declared.walks.Mark.{Mark}
 use Rattle.element_tree.specs.declared.walks.Mark.TheVariants.{New, Open, Done}
 use Rattle.element_tree.specs.declared.walks.Step.TheVariants.{Over, Nowhere, To}
-use Rattle.element_tree.specs.Steps.{step_of}
-use Rattle.element_tree.specs.Walks.{Graph, uses_of, IsGraph, walk_fault}
-use Rattle.element_tree.specs.UnderWay.{mark_of, uses_left, IsUnderWay}
+use Rattle.element_tree.specs.steps.Steps.{step_of}
+use Rattle.element_tree.specs.steps.Walks.{Graph, uses_of, IsGraph, walk_fault}
+use Rattle.element_tree.specs.steps.UnderWay.{mark_of, uses_left, IsUnderWay}
 use Rattle.element_tree.proofs.WalkLaws.{few, uses_left-set, fault_no_cell, fault_cycle, past_done, past_new, finished}
 
 -- ---- what a step says of the uses

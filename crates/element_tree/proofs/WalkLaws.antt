@@ -15,8 +15,8 @@ use Rattle.element_tree.specs.declared.faults.WalkFault.{WalkFault}
 use Rattle.element_tree.specs.declared.faults.WalkFault.TheVariants.{NoCell, Cycle}
 use Rattle.element_tree.specs.declared.walks.Mark.{Mark}
 use Rattle.element_tree.specs.declared.walks.Mark.TheVariants.{New, Open, Done}
-use Rattle.element_tree.specs.Walks.{Graph, uses_of, fault_from, fault_below, walk_fault, IsDoneIn, IsClosed, IsOrder}
-use Rattle.element_tree.specs.UnderWay.{fault_left, IsWaiting, IsOpen, uses_left, mark_of, IsUnderWay}
+use Rattle.element_tree.specs.steps.Walks.{Graph, uses_of, fault_from, fault_below, walk_fault, IsDoneIn, IsClosed, IsOrder}
+use Rattle.element_tree.specs.steps.UnderWay.{fault_left, IsWaiting, IsOpen, uses_left, mark_of, IsUnderWay}
 
 -- ---- tests of a list
 

@@ -1,12 +1,4 @@
-pub mod Walks
-pub mod Steps
-pub mod UnderWay
 pub mod Graphs
-pub mod Goals
 pub mod Trees
-pub mod NameOrder
-pub mod Links
 pub mod Sizes
-pub mod Forests
-pub mod RankSteps
-pub mod Rooms
+pub mod steps

@@ -4,8 +4,8 @@ ghost use Rattle.std.specs.List.{range_with_len};
 ghost use Rattle.finite_sets.specs.Lists.{Distinct};
 ghost use Rattle.circuit_model.specs.Elements.{AreRecords};
 ghost use Rattle.element_tree.specs.Sizes.{IsSomeGraph, value_at, size_from, AreMeasuredIn};
-ghost use Rattle.element_tree.specs.Forests.{AreSteps, AreBranchesOf, AreBranches};
-ghost use Rattle.element_tree.specs.RankSteps.{HaveRankSteps};
+ghost use Rattle.element_tree.specs.steps.Forests.{AreSteps, AreBranchesOf, AreBranches};
+ghost use Rattle.element_tree.specs.steps.RankSteps.{HaveRankSteps};
 
 use crate::graph::RecordGraph;
 use crate::name_order::in_name_order;

@@ -3,8 +3,8 @@ ghost use Rattle.std.specs.Prelude.{◌≡◌, ◌<◌, ◌≤◌, ◌+◌, ◌+
 ghost use Rattle.ext_model.specs.Lawful.{IsPlacement};
 ghost use Rattle.ext_model.specs.declared.limits.TheConstants.{ELEMENT_EDGE};
 ghost use Rattle.circuit_model.specs.Elements.{transform_of};
-ghost use Rattle.element_tree.specs.Links.{Link, flat_below, flats_below, links_of};
-ghost use Rattle.element_tree.specs.Rooms.{MovesByAtMost, HasRoom};
+ghost use Rattle.element_tree.specs.steps.Links.{Link, flat_below, flats_below, links_of};
+ghost use Rattle.element_tree.specs.steps.Rooms.{MovesByAtMost, HasRoom};
 
 use crate::tree::{Branch, TreeElement};
 use circuit_model::{FlatFault, LONGEST_CHAIN, MOST_FLAT_ELEMENTS};

@@ -3,7 +3,7 @@ ghost use Rattle.std.specs.Prelude.{◌≡◌, ◌⊎◌, ◌<◌, map, length, 
 ghost use Rattle.std.specs.Str.{bytes_eq};
 ghost use Rattle.circuit_model.specs.Elements.{AreRecords};
 ghost use Rattle.element_tree.specs.Graphs.{IsGraphOf, HasNoWalkFault, IsWalkFaultOf};
-ghost use Rattle.element_tree.specs.Goals.{cells_of, goals_in, goal_graph, found_goals, IsUseAt, IsUseOf, IsCellAt, IsNamedFault};
+ghost use Rattle.element_tree.specs.steps.Goals.{cells_of, goals_in, goal_graph, found_goals, IsUseAt, IsUseOf, IsCellAt, IsNamedFault};
 
 use crate::faults::{UsePlace, WalkFault};
 use crate::walks::walk;

@@ -17,9 +17,9 @@
 //! so (`proofs/Measures.antt`), and the root's are the depth and the number of elements that the
 //! definitions count (`Counting`).
 //!
-//! A use and its branch make a link (`specs/Links.antt`), and each element stands at the end of a
+//! A use and its branch make a link (`specs/steps/Links.antt`), and each element stands at the end of a
 //! chain of links from the root. What is true of the links of all records that fit is `AreForest`
-//! (`specs/Rooms.antt`): they lead where the uses do, step behind the elements of those before them
+//! (`specs/steps/Rooms.antt`): they lead where the uses do, step behind the elements of those before them
 //! (`Steps`), and step in rank behind those with lesser names, since the branches are sorted by
 //! their names (`RankSums`). From that follows that the steps along a chain add up to the number at
 //! which its element stands, and that no element stands elsewhere (`Chains`). The steps in rank add

@@ -3,7 +3,7 @@ ghost use Rattle.std.specs.Prelude.{◌≡◌, length, IfOk, IsPermutation};
 ghost use Rattle.std.specs.List.{range_with_len};
 ghost use Rattle.std.specs.List.Sorted.{IsSorted};
 ghost use Rattle.ext_model.specs.NameParts.{element_cmp};
-ghost use Rattle.element_tree.specs.NameOrder.{id_at};
+ghost use Rattle.element_tree.specs.steps.NameOrder.{id_at};
 
 use ext_model::{SLASH, UseRec};
 use std::alloc::{AllocError, Global};
@@ -20,7 +20,7 @@ fn compare_ids(id: &[u8], other: &[u8]) -> Ordering
 }
 
 // The name of the element at a use, which is empty where there is no use.
-#[tactic(auto, unfolding(crate::specs::NameOrder::id_at))]
+#[tactic(auto, unfolding(crate::specs::steps::NameOrder::id_at))]
 fn id_at<'a>(uses: &'a [UseRec], at: usize) -> &'a [u8]
     ensures { result.now ≡ id_at uses.now at }
 {

@@ -3,7 +3,7 @@ ghost use Rattle.std.specs.Prelude.{◌≡◌, ◌⊎◌, ◌<◌, length, IfOk,
 ghost use Rattle.circuit_model.specs.Elements.{AreRecords};
 ghost use Rattle.element_tree.specs.Graphs.{IsGraphOf};
 ghost use Rattle.element_tree.specs.Trees.{IsTreeOf, HasNoTreeFault, IsTreeFaultOf};
-ghost use Rattle.element_tree.specs.Links.{top_flat};
+ghost use Rattle.element_tree.specs.steps.Links.{top_flat};
 
 use crate::branches::all_branches;
 use crate::elements::add_elements;

@@ -1,7 +1,7 @@
 //! The walk itself. It keeps no call for each open cell, so that no chain of uses is too long for it.
 ghost use Rattle.std.specs.Prelude.{◌≡◌, ◌^◌, ℕ, ◌⊎◌, ◌<◌, None, Some, length, slice_get, IfOk, IfErr};
-ghost use Rattle.element_tree.specs.Walks.{IsGraph, IsOrder, uses_of, walk_fault};
-ghost use Rattle.element_tree.specs.Steps.{step_of};
+ghost use Rattle.element_tree.specs.steps.Walks.{IsGraph, IsOrder, uses_of, walk_fault};
+ghost use Rattle.element_tree.specs.steps.Steps.{step_of};
 
 use crate::faults::{UsePlace, WalkFault};
 use names_lists::List;

@@ -1,6 +1,6 @@
 -- Records that were lent and are taken back.
 use Rattle.std.proofs.Common.{◌≡◌, ◌<◌, ◌+◌, ◌==◌, ℕ, Bool, cond, List, [], ◌∷◌, ◌++◌, get_or, length, map, take}
-use Rattle.std.proofs.Common.{Option, Some, None, inl, inr, refl, sym, ap, subst, ◌∙◌}
+use Rattle.std.proofs.Common.{Option, Some, inl, inr, refl, sym, ap, subst, ◌∙◌}
 use Rattle.std.specs.Prelude.{IsSome, is_some, option_map}
 use Rattle.std.specs.Cmp.{unsigned_tied}
 use Rattle.std.specs.FinMap as fin_map
@@ -15,7 +15,7 @@ use Rattle.ext_model.specs.declared.tables.ExtEntry.{ExtEntry}
 use Rattle.ext_cache.specs.declared.lending.LentNote.{LentNote}
 use Rattle.ext_cache.specs.Caches.{Records, entry_in, record_in}
 use Rattle.ext_cache.specs.Lending.{AreLent, LendsOne, entry_with, replaced}
-use Rattle.ext_cache.specs.Undoing.{with_entry}
+use Rattle.ext_cache.specs.steps.Undoing.{with_entry}
 use Rattle.ext_cache.proofs.UndoingLaws.{put_back_same}
 
 -- the numbers of the cells of lent records
@@ -46,13 +46,6 @@ still_some records cell entry key some =
       | inl same ↦ rw same.0 refl
       | inr other ↦ rw other.0 some
     ]
-
--- a record is kept where there is an entry
-pub some_entry : (records : Records) (cell : ℕ) → IsSome (record_in records cell) → IsSome (entry_in records cell)
-some_entry records cell some = by (entry_in records cell) some where
-  by : (found : Option ExtEntry) → IsSome (option_map (λ (entry : ExtEntry). entry.ext) found) → IsSome found
-  by None some = cc
-  by (Some entry) some = refl
 
 -- an entry that is put back in its place leaves the records as they were
 pub put_back : (records : Records) (cell : ℕ) (entry other : ExtEntry) → entry_in records cell ≡ Some entry

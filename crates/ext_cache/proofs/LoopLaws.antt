@@ -20,7 +20,7 @@ use Rattle.ext_cache.specs.declared.extraction.Extracted.{Extracted}
 use Rattle.ext_cache.specs.declared.undo.Undo.{Undo}
 use Rattle.ext_cache.specs.Caches.{Agrees, IsRecordNow, IsWorkOfAll, MakesRecords, Records, dirty_cells, entry_in, is_dirty}
 use Rattle.ext_cache.specs.Caches.{is_stale, record_in, stamp_in, with_record}
-use Rattle.ext_cache.specs.Undoing.{IsLogOf, undo_of}
+use Rattle.ext_cache.specs.steps.Undoing.{IsLogOf, undo_of}
 use Rattle.ext_cache.proofs.MakingLaws.{clean_making, dirty_unmade, makes_more}
 use Rattle.ext_cache.proofs.OrderLaws.{below_is_before, place_of}
 use Rattle.ext_cache.proofs.RecordLaws.{agrees_made, kept_clean}

@@ -28,7 +28,7 @@ use Rattle.tree_merges.specs.declared.relating.Related.{Related}
 use Rattle.tree_merges.proofs.CellMerges.{body_at}
 use Rattle.ext_cache.specs.declared.extraction.MadeRecord.{MadeRecord}
 use Rattle.ext_cache.specs.Caches.{IsRecordNow}
-use Rattle.ext_cache.specs.MadeRecords.{IsMadeOf}
+use Rattle.ext_cache.specs.steps.MadeRecords.{IsMadeOf}
 
 -- an own record stays one, along equations
 pub own_record_of : (raw other : RawTech) (layout there : Layout) (labels words : List Label) (name text : List ℕ) (ext : CellExt) → raw ≡ other

@@ -10,7 +10,7 @@ use Rattle.ext_model.specs.declared.arrays.ArrayExt.{ArrayExt}
 use Rattle.ext_model.specs.declared.tables.ExtEntry.{ExtEntry}
 use Rattle.ext_cache.specs.declared.undo.Undo.{Undo}
 use Rattle.ext_cache.specs.Caches.{Records, entry_in, with_record}
-use Rattle.ext_cache.specs.Undoing.{IsLogOf, undo_of, undone, with_entry}
+use Rattle.ext_cache.specs.steps.Undoing.{IsLogOf, undo_of, undone, with_entry}
 use Rattle.ext_cache.proofs.RecordLaws.{found_here}
 
 -- the entries after one is put back

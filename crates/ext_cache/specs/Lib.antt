@@ -2,7 +2,6 @@
 pub use Rattle.names.specs as Names
 pub mod Caches
 pub mod Refusals
-pub mod Undoing
 pub mod Lending
-pub mod MadeRecords
 pub mod Laws
+pub mod steps

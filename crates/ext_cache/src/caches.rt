@@ -2,7 +2,7 @@
 ghost use Rattle.std.specs.Prelude.{◌≡◌, IfOk, IsSome, OnOk, OnErr};
 ghost use Rattle.std.specs.Option.{option_copied};
 ghost use Rattle.ext_cache.specs.Caches.{next_serial};
-ghost use Rattle.ext_cache.specs.Undoing.{with_entry};
+ghost use Rattle.ext_cache.specs.steps.Undoing.{with_entry};
 
 use crate::limits::LAST_SERIAL;
 use ext_model::{ArrayExt, CellKey, ExtEntry, ExtTable};

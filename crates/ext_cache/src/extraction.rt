@@ -12,9 +12,9 @@ ghost use Rattle.element_paths.specs.LibraryTrees.KeptRecords.{HaveKeptRecordsBe
 ghost use Rattle.tree_merges.specs.HierMerge.Interactions.{IsWork};
 ghost use Rattle.ext_cache.specs.Caches.{Agrees, Extracts, HasNewSerials, HasSerialsFor, IsCounted, IsRecordNow, IsWorkOfAll, IsWorkOfExtraction};
 ghost use Rattle.ext_cache.specs.Caches.{MakesRecords, dirty_cells, record_in};
-ghost use Rattle.ext_cache.specs.MadeRecords.{IsMadeOf};
+ghost use Rattle.ext_cache.specs.steps.MadeRecords.{IsMadeOf};
 ghost use Rattle.ext_cache.specs.Refusals.{IsUncleanFault, IsUncleanIn, IsUncleanCell};
-ghost use Rattle.ext_cache.specs.Undoing.{IsLogOf};
+ghost use Rattle.ext_cache.specs.steps.Undoing.{IsLogOf};
 ghost use Rattle.ext_cache.specs.declared.faults.ExtractFault.TheVariants.{Memory};
 
 use crate::caches::Cache;

@@ -1,7 +1,7 @@
 //! What is put back where an extraction fails half way.
 ghost use Rattle.std.specs.Prelude.{◌≡◌, ◌<◌, ◌≤◌, ◌++◌, ◌∷◌, [], IsSome, OnErr, OnOk, vec_capacity, vec_len};
 ghost use Rattle.ext_cache.specs.Caches.{Records, entry_in, with_record};
-ghost use Rattle.ext_cache.specs.Undoing.{IsLogOf, undo_of, undone};
+ghost use Rattle.ext_cache.specs.steps.Undoing.{IsLogOf, undo_of, undone};
 
 use crate::caches::Cache;
 use ext_model::{ArrayExt, CellKey, ExtEntry};

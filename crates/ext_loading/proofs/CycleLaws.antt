@@ -27,7 +27,7 @@ use Rattle.plain_records.proofs.UseLaws.{uses_cell}
 use Rattle.ext_loading.specs.ExtFiles.{cells_read}
 use Rattle.ext_loading.specs.Loads.{CanBeFlattened, children_in}
 use Rattle.ext_loading.specs.Readings.{cells_used}
-use Rattle.ext_loading.specs.Trees.{IsTree}
+use Rattle.ext_loading.specs.steps.Trees.{IsTree}
 use Rattle.ext_loading.proofs.Positions.{position_in, uses_by_position}
 
 -- a record of this cell

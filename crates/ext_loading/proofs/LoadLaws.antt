@@ -12,7 +12,7 @@ use Rattle.ext_loading.specs.declared.loading.LoadedExts.{LoadedExts}
 use Rattle.ext_loading.specs.declared.loading.LoadedExts.TheVariants as loaded
 use Rattle.ext_loading.specs.Loads.{AreRead, CanBeFlattened, IsFitTree, LoadGives, LoadIsRefused}
 use Rattle.ext_loading.specs.Readings.{circuit_files}
-use Rattle.ext_loading.specs.Trees.{GivesTree, IsTree}
+use Rattle.ext_loading.specs.steps.Trees.{GivesTree, IsTree}
 use Rattle.ext_loading.proofs.CycleLaws.{may_be_flattened}
 
 -- what is given of a tree that was read is what the files say

@@ -16,7 +16,7 @@ use Rattle.ext_model.specs.declared.arrays.ArrayExt.{ArrayExt}
 use Rattle.ext_model.specs.LawfulArrays.{IsLawfulArrayExt}
 use Rattle.ext_loading.specs.ExtFiles.{cells_read, file_gives, is_read}
 use Rattle.ext_loading.specs.Readings.{cells_used, circuit_files}
-use Rattle.ext_loading.specs.Trees.{AreSoFar, IsTree, MayFollow}
+use Rattle.ext_loading.specs.steps.Trees.{AreSoFar, IsTree, MayFollow}
 
 -- a list turned round, after a function or before it
 pub map-reverse : {X Y : Type 0} (f : X → Y) (xs : List X) → map f (reverse xs) ≡ reverse (map f xs)

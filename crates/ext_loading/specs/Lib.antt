@@ -3,4 +3,4 @@ pub use Rattle.plain_records.specs as PlainRecords
 pub mod ExtFiles
 pub mod Loads
 pub mod Readings
-pub mod Trees
+pub mod steps

@@ -2,12 +2,12 @@
 ghost use Rattle.std.specs.Prelude.{◌≡◌, ◌≢◌, ◌≤◌, length, Some, Ok, Err, IfOk};
 ghost use Rattle.outside_io.specs.Files.{Files};
 ghost use Rattle.session_model.specs.Causes.{HasCauses};
-ghost use Rattle.session_model.specs.Stops.{AsksOnce, answer_of, kinds_of_told, ComesFromInside, IfRefused};
+ghost use Rattle.session_model.specs.steps.Stops.{AsksOnce, answer_of, kinds_of_told, ComesFromInside, IfRefused};
 ghost use Rattle.ext_reading.specs.declared.limits.TheConstants.{LONGEST_READ_TEXT};
 ghost use Rattle.ext_reading.specs.ExtTexts.{ext_in};
 ghost use Rattle.ext_loading.specs.ExtFiles.{ext_file, file_gives, read_gives};
 ghost use Rattle.ext_loading.specs.Loads.{cause_of_load};
-ghost use Rattle.ext_loading.specs.Trees.{MayFollow};
+ghost use Rattle.ext_loading.specs.steps.Trees.{MayFollow};
 
 use crate::faults::ExtLoadFault;
 use crate::read_exts::ReadExts;

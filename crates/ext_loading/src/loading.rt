@@ -5,11 +5,11 @@ ghost use Rattle.outside_io.specs.Files.{Files};
 ghost use Rattle.session_model.specs.Causes.{HasCauses};
 ghost use Rattle.session_model.specs.Effects.{GivesFetching, after_fetches};
 ghost use Rattle.session_model.specs.FileTrees.{All, Reads, StopsAsking, files_of};
-ghost use Rattle.session_model.specs.Stops.{answer_of, kinds_of_told, IfRefused};
+ghost use Rattle.session_model.specs.steps.Stops.{answer_of, kinds_of_told, IfRefused};
 ghost use Rattle.use_orders.specs.Uses.{AreCells};
 ghost use Rattle.ext_loading.specs.Loads.{IsFitTree, LoadGives, cause_of_load, children_in, kinds_of_loaded};
 ghost use Rattle.ext_loading.specs.Readings.{circuit_files};
-ghost use Rattle.ext_loading.specs.Trees.{GivesTree, IsTree};
+ghost use Rattle.ext_loading.specs.steps.Trees.{GivesTree, IsTree};
 
 use crate::faults::ExtLoadFault;
 use crate::read_exts::ReadExts;

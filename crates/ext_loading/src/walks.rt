@@ -5,11 +5,11 @@ ghost use Rattle.outside_io.specs.Files.{Files};
 ghost use Rattle.session_model.specs.Causes.{HasCauses};
 ghost use Rattle.session_model.specs.Effects.{after_fetches};
 ghost use Rattle.session_model.specs.FileTrees.{GoesOn, StopsAsking, files_of};
-ghost use Rattle.session_model.specs.Stops.{answer_of, kinds_of_told, ComesFromInside, IfRefused};
+ghost use Rattle.session_model.specs.steps.Stops.{answer_of, kinds_of_told, ComesFromInside, IfRefused};
 ghost use Rattle.ext_loading.specs.ExtFiles.{is_read};
 ghost use Rattle.ext_loading.specs.Loads.{cause_of_load};
 ghost use Rattle.ext_loading.specs.Readings.{cells_used, circuit_files};
-ghost use Rattle.ext_loading.specs.Trees.{work_left, AreSoFar};
+ghost use Rattle.ext_loading.specs.steps.Trees.{work_left, AreSoFar};
 
 use crate::ext_files::read_ext_file;
 use crate::faults::ExtLoadFault;

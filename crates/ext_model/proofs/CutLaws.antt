@@ -1,9 +1,10 @@
 -- Texts cut at the first such byte.
 use Rattle.std.proofs.Common.{◌≡◌, ◌≢◌, ◌==◌, ◌+◌, ◌++◌, ℕ, suc, Bool, true, false, not, cond, List, [], ◌∷◌, refl, sym, ap, ◌∙◌, drop, take, arith}
 use Rattle.std.specs.List.{after_first, position_or_len}
-use Rattle.std.proofs.lemmas.Bool.{eq-eqb, eqb-true}
+use Rattle.std.proofs.lemmas.Bool.{eqb-true}
 use Rattle.ext_model.specs.Plain.{before, behind}
 use Rattle.ext_model.proofs.TextCuts.{Lacks, front_of, front_of-cut}
+pub use Rattle.ext_model.proofs.TextCuts.{behind-cut}
 
 -- a byte more in front, which may be the first of these
 step_back : (first : Bool) (byte : ℕ) (text rest : List ℕ) (k : ℕ) → rest ≡ drop (k + 1) text
@@ -36,12 +37,6 @@ before_front mark (byte ∷ text) =
 -- what is before the byte, where the text in front of it lacks it
 pub before-cut : (mark : ℕ) (text rest : List ℕ) → Lacks mark text → before mark (text ++ mark ∷ rest) ≡ text
 before-cut mark text rest lacks = before_front mark (text ++ mark ∷ rest) ∙ front_of-cut mark text rest lacks
-
--- and what is behind it
-pub behind-cut : (mark : ℕ) (text rest : List ℕ) → Lacks mark text → behind mark (text ++ mark ∷ rest) ≡ rest
-behind-cut mark [] rest lacks = ap (λ (test : Bool). cond test rest (behind mark rest)) (eq-eqb mark mark refl)
-behind-cut mark (first ∷ text) rest lacks =
-    ap (λ (test : Bool). cond test (text ++ mark ∷ rest) (behind mark (text ++ mark ∷ rest))) lacks.0 ∙ behind-cut mark text rest lacks.1
 
 -- where something is behind such a byte, the text is what is before it, the byte and what is behind it
 whole_step : (first : Bool) (mark byte : ℕ) (text : List ℕ) → (byte == mark) ≡ first → cond first text (behind mark text) ≢ []

@@ -4,13 +4,13 @@ ghost use Rattle.std.specs.List.{list_all, list_any, position, before_first};
 ghost use Rattle.std.specs.Str.{bytes_eq};
 ghost use Rattle.ext_model.specs.LawfulArrays.{HasIdForm};
 ghost use Rattle.element_index.specs.GivenNames.{is_among, gives_again};
-ghost use Rattle.ext_reading.specs.declared.faults.ExtReadFault.TheVariants.{Memory as OutOfMemory};
+ghost use Rattle.ext_reading.specs.declared.faults.ExtReadFault.TheVariants.{Memory as OutOfMemory, NoName};
 ghost use Rattle.ext_reading.specs.Parts.{is_slash};
 ghost use Rattle.ext_reading.specs.Drafts.{nothing_seen, nothing_yet, is_incomplete, was_seen, with_seen, is_other_version, with_header};
 ghost use Rattle.ext_reading.specs.Drafts.{takes_header, elements_of, with_use, takes_new_use, takes_use, node_from, with_node, takes_node, named_too};
 ghost use Rattle.ext_reading.specs.Drafts.{with_alias_at, with_alias};
 ghost use Rattle.ext_reading.specs.Drafts.{takes_alias, takes_equiv, fet_from, has_its_nodes, takes_fet, leads, all_lead, range_in, merge_from};
-ghost use Rattle.ext_reading.specs.Drafts.{elements_known, takes_merge, takes_record};
+ghost use Rattle.ext_reading.specs.Drafts.{count_of, elements_known, second_of, takes_merge, takes_record};
 ghost use Rattle.ext_reading.specs.Drafts.{has_measures, fits_classes, fits_version, takes_body, takes, finish};
 ghost use Rattle.ext_reading.specs.LineForms.{HasNameForm, NamesUse};
 ghost use Rattle.ext_reading.specs.ExtTexts.{record_of};
@@ -71,6 +71,13 @@ impl Model for ExtDraft {
       fets = draft.transistors.items;
       merges = draft.joins.items;
     } };
+}
+
+// Why a row of merges is refused whose paths don't all lead to nodes. The row is let go.
+fn leads_nowhere(_row: MergeRow) -> ExtReadFault
+    ensures { result ≡ NoName }
+{
+    ExtReadFault::NoName
 }
 
 impl ExtDraft {
@@ -236,18 +243,34 @@ impl ExtDraft {
         Ok(())
     }
 
-    fn take_merge(&mut self, outline: &Outline, line: MergeLine) -> Result<(), ExtReadFault>
-        ensures read { OnOk result (takes_merge outline.now self.old line ≡ Ok self.new) }
-        ensures refused { IfErr result (λ fault. fault ≢ OutOfMemory
-            → takes_merge outline.now self.old line ≡ Err fault) }
+    // The row of merges that a line says, and whether its paths lead to nodes.
+    fn merge_said(
+        &self,
+        outline: &Outline,
+        line: MergeLine,
+    ) -> Result<(bool, MergeRow), ExtReadFault>
+        ensures leads { IfOk result (λ found. found.0 ≡ (leads (elements_known self.now.version outline.now) self.now.names line.first
+            && all_lead (elements_known self.now.version outline.now) self.now.names (second_of line.second (range_in self.now.version line.second))
+            (count_of (range_in self.now.version line.second)))) }
+        ensures read { IfOk result (λ found. merge_from line (range_in self.now.version line.second) ≡ Ok found.1) }
+        ensures refused { IfErr result (λ fault. fault ≢ OutOfMemory → merge_from line (range_in self.now.version line.second) ≡ Err fault) }
     {
         let range = range_in(self.alloc, self.version, line.second.bytes())?;
         let elements = outline.elements(self.version);
         let leads_there = leads(elements, &self.names, line.first.bytes())
             && seconds_lead(elements, &self.names, line.second.bytes(), &range);
         let row = merge_from(self.alloc, line, &range)?;
+        Ok((leads_there, row))
+    }
+
+    fn take_merge(&mut self, outline: &Outline, line: MergeLine) -> Result<(), ExtReadFault>
+        ensures read { OnOk result (takes_merge outline.now self.old line ≡ Ok self.new) }
+        ensures refused { IfErr result (λ fault. fault ≢ OutOfMemory
+            → takes_merge outline.now self.old line ≡ Err fault) }
+    {
+        let (leads_there, row) = self.merge_said(outline, line)?;
         if !leads_there {
-            return Err(ExtReadFault::NoName);
+            return Err(leads_nowhere(row));
         }
         put(&mut self.joins, row)?;
         Ok(())

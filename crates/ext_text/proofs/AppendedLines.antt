@@ -19,7 +19,7 @@ use Rattle.ext_model.specs.declared.circuits.Circuit.{Circuit}
 use Rattle.ext_text.specs.declared.faults.ExtFault.{ExtFault}
 use Rattle.ext_text.specs.declared.faults.ExtFault.TheVariants.{Memory}
 use Rattle.ext_text.specs.NodeLines.{quoted, measure_words, node_words, node_line}
-use Rattle.ext_text.specs.Appended.{whole_line}
+use Rattle.ext_text.specs.steps.Appended.{whole_line}
 use Rattle.ext_text.specs.WrittenTexts.{header_words, span_text, use_name, use_words, equiv_words, node_lines, term_words, square_words, fet_words}
 use Rattle.ext_text.specs.WrittenTexts.{row_path, merge_words}
 use Rattle.ext_text.specs.WrittenTexts.{lines_text, ext_text, flat_text, IsTooLong}

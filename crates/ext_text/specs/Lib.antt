@@ -1,3 +1,3 @@
 pub mod NodeLines
 pub mod WrittenTexts
-pub mod Appended
+pub mod steps

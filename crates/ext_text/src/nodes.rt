@@ -1,6 +1,6 @@
 //! The lines of nodes.
 ghost use Rattle.std.specs.Prelude.{◌≡◌, ◌++◌, OnOk};
-ghost use Rattle.ext_text.specs.Appended.{whole_line};
+ghost use Rattle.ext_text.specs.steps.Appended.{whole_line};
 ghost use Rattle.ext_text.specs.NodeLines.{node_line, node_words};
 ghost use Rattle.ext_text.specs.WrittenTexts.{equiv_words};
 

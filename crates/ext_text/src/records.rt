@@ -2,7 +2,7 @@
 ghost use Rattle.text_scan.specs.Written.{behind_blanks};
 ghost use Rattle.std.specs.Prelude.{◌≡◌, ◌++◌, flat_map, OnOk};
 ghost use Rattle.ext_model.specs.LawfulArrays.{IsMergeRow};
-ghost use Rattle.ext_text.specs.Appended.{whole_line};
+ghost use Rattle.ext_text.specs.steps.Appended.{whole_line};
 ghost use Rattle.ext_text.specs.WrittenTexts.{header_words, use_words, term_words, square_words, fet_words, merge_words, lines_text};
 
 use crate::names::{append_row_path, append_use_name};

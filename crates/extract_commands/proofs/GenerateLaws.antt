@@ -27,7 +27,7 @@ use Rattle.workspace.proofs.WorkspaceLaws.{workspace_of}
 use Rattle.workspace.specs.States.{State, Workspace}
 use Rattle.extract_commands.specs.CellRuns.{RunsExtracted}
 use Rattle.extract_commands.specs.CommandGenerate.{GeneratesStack, stack_cell, unless_refused}
-use Rattle.extract_commands.specs.MadeStacks.{StackCame}
+use Rattle.extract_commands.specs.steps.MadeStacks.{StackCame}
 
 -- the number of rows is one of those that there may be
 pub rows_between : (count : ℤ) → IsTrue (is_between (pos 1) MOST_GENERATED count) → (1 ≤ unsigned_abs count) × (unsigned_abs count ≤ MOST_TILES)

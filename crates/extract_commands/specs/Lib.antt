@@ -5,7 +5,7 @@ pub mod CommandCircuits
 pub mod CommandExtract
 pub mod CommandGenerate
 pub mod CommandVectors
-pub mod MadeStacks
 pub mod OneCircuits
 pub mod OneEffects
 pub mod OneExtractions
+pub mod steps

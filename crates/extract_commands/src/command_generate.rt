@@ -6,7 +6,7 @@ ghost use Rattle.session_model.specs.Effects.{AnswersAlone};
 ghost use Rattle.line_answers.specs.LineEffects.{IsOfInside};
 ghost use Rattle.workspace.specs.KeptSessions.{IsEdited, IsSession, edited_state, state_of};
 ghost use Rattle.extract_commands.specs.CommandGenerate.{GenerateMeans, GeneratesStack, is_refused, unless_refused};
-ghost use Rattle.extract_commands.specs.MadeStacks.{IsCellOf, IsStackMade};
+ghost use Rattle.extract_commands.specs.steps.MadeStacks.{IsCellOf, IsStackMade};
 
 use crate::cell_runs::run_extracted;
 use ext_model::CellKey;

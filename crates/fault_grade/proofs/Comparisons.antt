@@ -17,7 +17,7 @@ use Rattle.vector_runs.specs.Running.{FitsNodes}
 use Rattle.vector_runs.specs.Watching.{LineIsTaken, LinesShow, Watched, counting, is_left_out, seen_in}
 use Rattle.vector_runs.proofs.LineOutcomes.{IsSoundAt}
 use Rattle.vector_runs.proofs.WatchedRuns.{counting_fits, next_line, same_shown}
-use Rattle.fault_grade.specs.Comparing.{Finds, HasShown, are_apart, asked_count, is_apart, is_shown_apart, least_of}
+use Rattle.fault_grade.specs.steps.Comparing.{Finds, HasShown, are_apart, asked_count, is_apart, is_shown_apart, least_of}
 use Rattle.fault_grade.specs.Grades.{Lead, TellsApart, are_opposed}
 
 -- both hold of two tests that pass

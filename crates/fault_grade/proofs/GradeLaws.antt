@@ -20,7 +20,7 @@ use Rattle.vector_runs.proofs.Starts.{same_starts}
 use Rattle.finite_sets.proofs.Searches.{range_one_more}
 use Rattle.fault_grade.specs.declared.detecting.GoodRun.{GoodRun}
 use Rattle.fault_grade.specs.declared.grading.Graded.{Graded}
-use Rattle.fault_grade.specs.Comparing.{Finds, HasShown, IsGoodRun}
+use Rattle.fault_grade.specs.steps.Comparing.{Finds, HasShown, IsGoodRun}
 use Rattle.fault_grade.specs.Grades.{Detects, IsDetectedAt, IsGrade, IsUndetected, TellsApart, faults_at, faults_but}
 
 module _ (net : Network) (names : List (List ℕ × ℕ)) (budget : ℕ) (vectors : Vectors) where

@@ -1,3 +1,3 @@
 pub mod Grades
 pub mod Laws
-pub mod Comparing
+pub mod steps

@@ -1,7 +1,7 @@
 //! What tells a run with a fault from the run without.
 ghost use Rattle.std.specs.Prelude.{◌≡◌, ◌<◌, All, length};
 ghost use Rattle.vector_runs.specs.Running.{FitsNodes, states_of};
-ghost use Rattle.fault_grade.specs.Comparing.{are_apart, asked_count, is_apart, is_shown_apart, least_of};
+ghost use Rattle.fault_grade.specs.steps.Comparing.{are_apart, asked_count, is_apart, is_shown_apart, least_of};
 ghost use Rattle.fault_grade.specs.Grades.{are_opposed};
 
 use names_lists::Name;

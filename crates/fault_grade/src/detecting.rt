@@ -9,7 +9,7 @@ ghost use Rattle.vector_runs.specs.Runs.{IsFresh};
 ghost use Rattle.vector_runs.specs.Watching.{Watched as WatchedAt};
 ghost use Rattle.fault_replay.specs.Replays.{FitsRecord, Records};
 ghost use Rattle.fault_replay.specs.Runs.{IsBeside, IsReady};
-ghost use Rattle.fault_grade.specs.Comparing.{Finds, HasShown, IsGoodRun};
+ghost use Rattle.fault_grade.specs.steps.Comparing.{Finds, HasShown, IsGoodRun};
 ghost use Rattle.fault_grade.specs.Grades.{IsDetectedAt, IsUndetected};
 
 use crate::comparing::{asked_count, is_apart, least_of};

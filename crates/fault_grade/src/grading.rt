@@ -6,7 +6,7 @@ ghost use Rattle.vector_files.specs.NodeLookup.{is_either_node};
 ghost use Rattle.vector_files.specs.VectorFiles.{IsWithin};
 ghost use Rattle.vector_runs.specs.Runs.{IsFresh};
 ghost use Rattle.vector_runs.specs.declared.stuck_faults.StuckFault.{StuckFault as StuckFaultOf};
-ghost use Rattle.fault_grade.specs.Comparing.{IsGoodRun};
+ghost use Rattle.fault_grade.specs.steps.Comparing.{IsGoodRun};
 ghost use Rattle.fault_grade.specs.Grades.{AreGrades, IsGrade, faults_at as faults_of_node, faults_but, faults_of};
 
 use crate::detecting::{GoodRun, detect};

@@ -24,14 +24,14 @@ use Rattle.layout_model.specs.Links.{AreOneNode}
 use Rattle.layout_model.specs.Transistors.{AreOneChannel}
 use Rattle.layout_model.specs.RegionTiles.{LiesIn, AreLayoutTiles}
 use Rattle.layout_model.specs.declared.region_tiles.RegionTile.{RegionTile}
-use Rattle.flood_nodes.specs.LinkedTiles.{AreLinkedTiles, NumbersNodes}
+use Rattle.flood_nodes.specs.steps.LinkedTiles.{AreLinkedTiles, NumbersNodes}
 use Rattle.flood_nodes.specs.TileShares.{no_tile, tile_at, shared_by, IsTileContact}
 use Rattle.flood_nodes.proofs.LayoutRegions.{numbers_from_labels}
 use Rattle.flood_nodes.proofs.LinkLaws.{contact_meets}
 use Rattle.flood_nodes.proofs.ShareLaws.{one_plane, eqb-comm}
 use Rattle.flood_nodes.proofs.StackLaws.{same_from_test}
-use Rattle.fet_regions.specs.Channels.{are_alike, alike_pairs}
-use Rattle.fet_regions.specs.Lowest.{place_of}
+use Rattle.fet_regions.specs.steps.Channels.{are_alike, alike_pairs}
+use Rattle.fet_regions.specs.steps.Lowest.{place_of}
 
 -- Tiles have one label exactly where their places are of one edge-connected set of one type.
 abbrev pub AreLabelled : Layout → List RegionTile → List ℕ → Type 0

@@ -14,10 +14,10 @@ use Rattle.rect_contacts.specs.declared.contacts.Contact.{Contact}
 use Rattle.layout_model.specs.declared.region_tiles.RegionTile.{RegionTile}
 use Rattle.flood_nodes.specs.TileShares.{indices_of}
 use Rattle.flood_nodes.proofs.ShareLaws.{Lists-indices_of}
-use Rattle.fet_regions.specs.Channels.{are_alike, alike_pairs}
+use Rattle.fet_regions.specs.steps.Channels.{are_alike, alike_pairs}
 use Rattle.fet_regions.specs.Lengths.{parts_beside, parts_at, parts_of}
 use Rattle.fet_regions.specs.declared.lengths.Part.{Part}
-use Rattle.fet_regions.specs.Sizes.{area_amount, perimeter_amount, area_amounts, perimeter_amounts, shared_at, shared_amounts}
+use Rattle.fet_regions.specs.steps.Sizes.{area_amount, perimeter_amount, area_amounts, perimeter_amounts, shared_at, shared_amounts}
 
 abbrev pub AreWithin : List RegionTile → List Contact → Type 0
 AreWithin tiles contacts = All (λ contact. (contact.first < length tiles) × (contact.second < length tiles)) contacts

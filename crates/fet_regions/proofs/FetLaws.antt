@@ -38,10 +38,10 @@ use Rattle.layout_model.proofs.PlaceLaws.{IsBefore-trans}
 use Rattle.flood_nodes.specs.TileShares.{no_tile, tile_at, IsTileContact, edges_by_contacts}
 use Rattle.flood_nodes.proofs.TileEdges.{lies_in_one}
 use Rattle.fet_regions.specs.Lengths.{AreByRegion, part_in, parts_of, summed}
-use Rattle.fet_regions.specs.Lowest.{IsChannelTile, IsNoHigher, AreLowest, place_of}
-use Rattle.fet_regions.specs.Sizes.{AreSizes}
-use Rattle.fet_regions.specs.Channels.{alike_pairs}
-use Rattle.fet_regions.specs.Roles.{channel_in, terminal_in, AreRoles}
+use Rattle.fet_regions.specs.steps.Lowest.{IsChannelTile, IsNoHigher, AreLowest, place_of}
+use Rattle.fet_regions.specs.steps.Sizes.{AreSizes}
+use Rattle.fet_regions.specs.steps.Channels.{alike_pairs}
+use Rattle.fet_regions.specs.steps.Roles.{channel_in, terminal_in, AreRoles}
 use Rattle.fet_regions.specs.declared.roles.Roles.{Roles}
 use Rattle.fet_regions.specs.Transistors.{transistor_of, IsFoundAt, AreFoundAt, AreFets}
 use Rattle.fet_regions.specs.declared.transistors.Fet.{Fet}

@@ -25,7 +25,7 @@ use Rattle.layout_model.specs.Places.{Place}
 use Rattle.layout_model.specs.declared.region_tiles.RegionTile.{RegionTile}
 use Rattle.flood_nodes.specs.TileShares.{tile_at, indices_of}
 use Rattle.flood_nodes.proofs.ShareLaws.{Lists-indices_of}
-use Rattle.fet_regions.specs.Lowest.{IsChannelTile, corner_at, place_of, IsNoHigher, channel_corners, AreCorners, AreLowest}
+use Rattle.fet_regions.specs.steps.Lowest.{IsChannelTile, corner_at, place_of, IsNoHigher, channel_corners, AreCorners, AreLowest}
 use Rattle.fet_regions.specs.declared.lowest.Corner.{Corner}
 
 -- the order of corners

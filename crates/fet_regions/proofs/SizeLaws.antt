@@ -16,8 +16,8 @@ use Rattle.layout_model.specs.declared.region_tiles.RegionTile.{RegionTile}
 use Rattle.flood_nodes.specs.TileShares.{tile_at, indices_of, is_of, open_by_contacts}
 use Rattle.flood_nodes.proofs.ShareLaws.{Lists-indices_of, one_plane}
 use Rattle.flood_nodes.proofs.StackLaws.{same_from_test}
-use Rattle.fet_regions.specs.Channels.{are_alike}
-use Rattle.fet_regions.specs.Sizes.{area_amount, perimeter_amount, area_amounts, perimeter_amounts, shared_at, shared_amounts}
+use Rattle.fet_regions.specs.steps.Channels.{are_alike}
+use Rattle.fet_regions.specs.steps.Sizes.{area_amount, perimeter_amount, area_amounts, perimeter_amounts, shared_at, shared_amounts}
 use Rattle.fet_regions.proofs.ChannelLaws.{is_of_channel}
 
 -- of two tiles in a class that share an edge: the second is of the class where they are alike and the first is

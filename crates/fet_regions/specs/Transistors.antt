@@ -8,8 +8,8 @@ use Rattle.layout_model.specs.Transistors.{Transistor}
 use Rattle.layout_model.specs.declared.region_tiles.RegionTile.{RegionTile}
 use Rattle.flood_nodes.specs.TileShares.{tile_at}
 use Rattle.fet_regions.specs.Lengths.{AreTerminals, parts_of, summed}
-use Rattle.fet_regions.specs.Lowest.{AreLowest}
-use Rattle.fet_regions.specs.Sizes.{AreSizes}
+use Rattle.fet_regions.specs.steps.Lowest.{AreLowest}
+use Rattle.fet_regions.specs.steps.Sizes.{AreSizes}
 use Rattle.fet_regions.specs.declared.transistors.Fet.{Fet}
 use Rattle.fet_regions.specs.declared.sizes.Sizes.{Sizes}
 

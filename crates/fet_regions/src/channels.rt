@@ -1,7 +1,7 @@
 //! Labels of tiles: those of one edge-connected set of one type have one.
 ghost use Rattle.std.specs.Prelude.{◌≡◌, ◌<◌, length, vec_len, All, IfOk};
 ghost use Rattle.partition.specs.Divides.{Divides, IsPair};
-ghost use Rattle.fet_regions.specs.Channels.{alike_pairs};
+ghost use Rattle.fet_regions.specs.steps.Channels.{alike_pairs};
 
 use layout_model::RegionTile;
 use partition::{Labelling, classes};

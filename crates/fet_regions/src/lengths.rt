@@ -4,7 +4,7 @@ ghost use Rattle.std.specs.BTreeMap.{get, IsOrdered};
 ghost use Rattle.std.specs.BTreeMap.Range.{entries_between};
 ghost use Rattle.std.specs.declared.ops.Bound.TheVariants.{Included, Excluded};
 ghost use Rattle.fet_regions.specs.Lengths.{parts_beside, parts_of, key_cmp, summed, AreTerminals};
-ghost use Rattle.fet_regions.specs.Roles.{terminal_in};
+ghost use Rattle.fet_regions.specs.steps.Roles.{terminal_in};
 
 use crate::roles::Roles;
 use layout_model::RegionTile;

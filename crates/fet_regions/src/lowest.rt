@@ -1,7 +1,7 @@
 //! For each channel the tile that has its least place.
 ghost use Rattle.std.specs.Prelude.{◌≡◌, ◌<◌, All, length, IfOk};
-ghost use Rattle.fet_regions.specs.Lowest.{corner_of, AreCorners, AreLowest};
-ghost use Rattle.fet_regions.specs.Roles.{channel_in};
+ghost use Rattle.fet_regions.specs.steps.Lowest.{corner_of, AreCorners, AreLowest};
+ghost use Rattle.fet_regions.specs.steps.Roles.{channel_in};
 
 use crate::roles::Roles;
 use layout_model::RegionTile;

@@ -3,7 +3,7 @@ ghost use Rattle.std.specs.Prelude.{◌≡◌, ◌==◌, map, IfOk};
 ghost use Rattle.std.specs.List.{list_any, range_with_len};
 ghost use Rattle.tech_model.specs.WellFormed.{IsWellFormed};
 ghost use Rattle.tech_model.specs.ChannelRoles.{is_channel, is_terminal};
-ghost use Rattle.fet_regions.specs.Roles.{channel_in, terminal_in, AreRoles};
+ghost use Rattle.fet_regions.specs.steps.Roles.{channel_in, terminal_in, AreRoles};
 ghost use Rattle.fet_regions.specs.declared.roles.TheConstants.{ROWS};
 
 use names_lists::List;

@@ -2,7 +2,7 @@
 ghost use Rattle.std.specs.Prelude.{◌≡◌, ◌<◌, ◌++◌, pos, ◌<ℤ◌, All, length, IfOk, OnOk};
 ghost use Rattle.geo_core.specs.Areas.{IsNear};
 ghost use Rattle.geo_core.specs.Covering.{IsProper};
-ghost use Rattle.fet_regions.specs.Sizes.{area_amounts, perimeter_amounts, taken_off, shared_amounts, AreSizes};
+ghost use Rattle.fet_regions.specs.steps.Sizes.{area_amounts, perimeter_amounts, taken_off, shared_amounts, AreSizes};
 
 use key_sums::{Amount, sums_by_key};
 use layout_model::RegionTile;

@@ -9,7 +9,7 @@ ghost use Rattle.tech_model.specs.Types.{connects};
 ghost use Rattle.tech_model.specs.WellFormed.{IsWellFormed};
 ghost use Rattle.flood_nodes.specs.SoundTiles.{IsSoundTile};
 ghost use Rattle.flood_nodes.specs.TileShares.{IsTileContact};
-ghost use Rattle.fet_regions.specs.Roles.{channel_in, terminal_in};
+ghost use Rattle.fet_regions.specs.steps.Roles.{channel_in, terminal_in};
 ghost use Rattle.layout_model.specs.Layouts.{Layout as OneLayout};
 ghost use Rattle.layout_model.specs.LayerTypes.{HasTypesOf};
 ghost use Rattle.layout_model.specs.RegionTiles.{AreRegions, AreLayoutTiles, IsInRegion};

@@ -19,10 +19,10 @@ use Rattle.finite_sets.proofs.Searches.{All-In}
 use Rattle.circuit_model.specs.declared.limits.TheConstants.{MOST_NODES, MOST_MERGES}
 use Rattle.flatten.proofs.PlaceLaws.{place_set, place_set_other}
 use Rattle.ext_model.specs.Lawful.{IsMeasure}
-use Rattle.flatten.specs.Spots.{IsLabel}
+use Rattle.flatten.specs.steps.Spots.{IsLabel}
 use Rattle.flatten.specs.declared.sums.NodeSum.{NodeSum}
-use Rattle.flatten.specs.Amounts.{FitAmounts, AddsAmounts}
-use Rattle.flatten.specs.Sums.{Quantity, Addend, amount, counts_for, IsLawfulAmount, AreLawfulAmounts, AreSumsOf, HaveSums, HaveRoomFor, AddAll}
+use Rattle.flatten.specs.steps.Amounts.{FitAmounts, AddsAmounts}
+use Rattle.flatten.specs.steps.Sums.{Quantity, Addend, amount, counts_for, IsLawfulAmount, AreLawfulAmounts, AreSumsOf, HaveSums, HaveRoomFor, AddAll}
 use Rattle.flatten.proofs.AmountLaws.{small_amount, added_amount, fit_amounts}
 use Rattle.flatten.proofs.BoundLaws.{sum_within, fits_more}
 

@@ -22,7 +22,7 @@ use Rattle.plain_records.specs.Reached.{with_merges, AreCalled, HasNoReachFault,
 use Rattle.plain_records.proofs.PlaceLaws.{array_of, ext_of-plains, ext_of-thins, leads_plain}
 use Rattle.plain_records.proofs.ReachLaws.{new_of, top_at, reach_fault-new, node_count-new, name_bytes-new, flat_fault-new, meaning-new}
 use Rattle.plain_records.proofs.ThinLaws.{cells-form, thins_are_records}
-use Rattle.flatten.specs.Stages.{use_fault, number_fault, late_fault, IsFaultAt, IsUseFaultOf}
+use Rattle.flatten.specs.steps.Stages.{use_fault, number_fault, late_fault, IsFaultAt, IsUseFaultOf}
 use Rattle.flatten.proofs.FaultLaws.{something}
 
 -- ---- the stages of the fault

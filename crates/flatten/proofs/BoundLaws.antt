@@ -9,7 +9,7 @@ use Rattle.finite_sets.specs.Total.{sum_on}
 use Rattle.ext_model.specs.declared.limits.TheConstants.{MEASURE_EDGE}
 use Rattle.ext_model.specs.Lawful.{IsMeasure}
 use Rattle.circuit_model.specs.declared.limits.TheConstants.{MOST_NODES, MOST_MERGES}
-use Rattle.flatten.specs.Sums.{Quantity, Addend, amount, IsCounted, counts_for, IsLawfulAmount}
+use Rattle.flatten.specs.steps.Sums.{Quantity, Addend, amount, IsCounted, counts_for, IsLawfulAmount}
 use Rattle.flatten.proofs.AmountLaws.{small_amount}
 
 -- so many times the edge at most, in absolute value

@@ -23,7 +23,7 @@ use Rattle.flatten.proofs.SpotLaws.{flat_here, name_among}
 use Rattle.name_classes.specs.declared.classes.MergeEnd.{MergeEnd}
 use Rattle.name_classes.specs.Classes.{EndsAt, HasEnds, AreClasses, firsts_of}
 use Rattle.name_classes.proofs.TreeLaws.{tree_of_names}
-use Rattle.flatten.specs.Spots.{element_at, cell_at, no_element}
+use Rattle.flatten.specs.steps.Spots.{element_at, cell_at, no_element}
 
 -- The first path of the merge leads to this name of this element.
 pub record IsEndHere (names : FullNames) (number : ℕ) (merge : MergeRec) (end : MergeEnd) : Type 0 where

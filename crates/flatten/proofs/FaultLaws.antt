@@ -18,8 +18,8 @@ use Rattle.circuit_model.specs.declared.limits.TheConstants.{LONGEST_CHAIN, MOST
 use Rattle.element_tree.specs.Trees.{tree_fault}
 use Rattle.full_names.specs.NameLists.{name_fault}
 use Rattle.flat_limits.specs.Counts.{node_fault, merge_fault}
-use Rattle.flatten.specs.Stages.{use_fault, number_fault, late_fault, HasNoUseFault, HasNoCountFault, HasNoLateFault}
-use Rattle.flatten.specs.Stages.{IsLateFaultOf, IsMeantAt}
+use Rattle.flatten.specs.steps.Stages.{use_fault, number_fault, late_fault, HasNoUseFault, HasNoCountFault, HasNoLateFault}
+use Rattle.flatten.specs.steps.Stages.{IsLateFaultOf, IsMeantAt}
 use Rattle.flatten.specs.Sinks.{IsGiven}
 use Rattle.flatten.specs.declared.sinks.GivenCircuit.{GivenCircuit}
 

@@ -13,13 +13,13 @@ use Rattle.circuit_model.specs.FullNames.{IsFullName, AreOneNode, AreInNameOrder
 use Rattle.circuit_model.specs.FlatNodes.{measure_of, IsPlaced, IsFlatNode, AreFlatNodes}
 use Rattle.full_names.specs.NameLists.{IsFullNameList}
 use Rattle.name_classes.specs.Classes.{AreLabels}
-use Rattle.flatten.specs.Labels.{label_of, group_of, AreNamed}
+use Rattle.flatten.specs.steps.Labels.{label_of, group_of, AreNamed}
 use Rattle.flatten.proofs.GroupLaws.{in_group, from_group, group_in_order, one_node, one_label}
 use Rattle.flatten.proofs.NodeLaws.{node_at, node_found, before_node}
 use Rattle.flatten.proofs.PlaceLaws.{place_of}
 use Rattle.flatten.specs.declared.sums.NodeSum.{NodeSum}
-use Rattle.flatten.specs.Sums.{AreSums}
-use Rattle.flatten.specs.Filled.{with_sum, AreFilled}
+use Rattle.flatten.specs.steps.Sums.{AreSums}
+use Rattle.flatten.specs.steps.Filled.{with_sum, AreFilled}
 
 -- names that stand in order at any two places stand in order
 order_from_places : (names : List (List ℕ)) → ((a b : ℕ) (x y : List ℕ) → a < b → slice_get names a ≡ Some x → slice_get names b ≡ Some y

@@ -13,7 +13,7 @@ use Rattle.ext_model.specs.NameOrder.{name_cmp}
 use Rattle.circuit_model.specs.Elements.{Element}
 use Rattle.circuit_model.specs.FullNames.{AreInNameOrder, AreOneNode}
 use Rattle.name_classes.specs.Classes.{AreLabels}
-use Rattle.flatten.specs.Labels.{label_of, group_of}
+use Rattle.flatten.specs.steps.Labels.{label_of, group_of}
 use Rattle.flatten.proofs.LabelLaws.{bytes_eq-true, bytes_eq-same, bytes_eq-other, before_other, before_rest, rest_in_order, label_read}
 use Rattle.flatten.proofs.PlaceLaws.{place_of}
 

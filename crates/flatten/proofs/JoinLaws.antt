@@ -20,7 +20,7 @@ use Rattle.finite_sets.proofs.Places.{In-slice_get}
 use Rattle.ext_model.specs.declared.limits.TheConstants.{LENGTHS_EDGE}
 use Rattle.flatten.proofs.PlaceLaws.{place_of}
 use Rattle.flatten.specs.declared.sides.Side.{Side}
-use Rattle.flatten.specs.Sides.{FitsLast, with_side, length_at, AreByNode, AreAscending, AreJoined}
+use Rattle.flatten.specs.steps.Sides.{FitsLast, with_side, length_at, AreByNode, AreAscending, AreJoined}
 
 -- the side with the length of another
 abbrev pub lengthened : Side → Side → Side

@@ -15,7 +15,7 @@ use Rattle.circuit_model.specs.Elements.{Element}
 use Rattle.circuit_model.specs.FullNames.{AreInNameOrder}
 use Rattle.full_names.specs.NameLists.{IsFullNameList}
 use Rattle.full_names.proofs.ListOrders.{same_in_order, pairwise_names}
-use Rattle.flatten.specs.Labels.{label_of}
+use Rattle.flatten.specs.steps.Labels.{label_of}
 
 -- a name is itself
 pub bytes_eq-same : (name other : List ℕ) → name ≡ other → bytes_eq name other ≡ true

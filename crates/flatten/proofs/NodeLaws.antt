@@ -23,7 +23,7 @@ use Rattle.circuit_model.specs.FullNames.{AreInNameOrder}
 use Rattle.circuit_model.specs.FlatNodes.{has_name}
 use Rattle.circuit_model.specs.FlatFets.{node_name}
 use Rattle.name_classes.specs.Classes.{AreLabels}
-use Rattle.flatten.specs.Labels.{label_of, group_of, AreNamed}
+use Rattle.flatten.specs.steps.Labels.{label_of, group_of, AreNamed}
 use Rattle.flatten.proofs.LabelLaws.{before_rest, before_other}
 use Rattle.flatten.proofs.GroupLaws.{in_group, from_group, group_in_order, label_below, before_group}
 

@@ -6,7 +6,7 @@ use Rattle.std.proofs.lemmas.Cmp.{nat_cmp_total}
 use Rattle.std.proofs.lemmas.Map.Keys.{ge_from_not_lt}
 use Rattle.finite_sets.proofs.Orders.{IsSortedByKey-pairs}
 use Rattle.flatten.specs.declared.sides.Side.{Side}
-use Rattle.flatten.specs.Sides.{AreByNode}
+use Rattle.flatten.specs.steps.Sides.{AreByNode}
 
 -- sides that a sort by nodes has put in order
 pub sorted_by_node : (sides : List Side) → IsSortedByKey (λ side. side.node) nat_cmp sides → AreByNode sides

@@ -12,7 +12,7 @@ use Rattle.name_classes.proofs.ListLaws.{slice_get-push_both}
 use Rattle.finite_sets.specs.Lists.{In}
 use Rattle.finite_sets.proofs.Members.{In-get_or}
 use Rattle.finite_sets.proofs.Places.{slice_get-In}
-use Rattle.flatten.specs.Spots.{AreAlong}
+use Rattle.flatten.specs.steps.Spots.{AreAlong}
 
 -- what stands in a list has a place there
 pub place_of : {X : Type 0} (x : X) (xs : List X) → In x xs → (k : ℕ) × ((k < length xs) × (slice_get xs k ≡ Some x))

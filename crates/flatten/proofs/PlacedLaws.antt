@@ -21,11 +21,11 @@ use Rattle.full_names.specs.declared.names.FullNames.{FullNames}
 use Rattle.full_names.specs.declared.names.Origin.{Origin}
 use Rattle.full_names.specs.Names.{AreNames, ComesFrom, GivesText, elements_in}
 use Rattle.flatten.proofs.FlatLimits.TreeLaws.{no_flat}
-use Rattle.flatten.specs.Spots.{element_at}
+use Rattle.flatten.specs.steps.Spots.{element_at}
 use Rattle.flatten.proofs.LabelLaws.{one_list}
 use Rattle.flatten.proofs.PlaceLaws.{place_of, place_set_cases}
 use Rattle.flatten.proofs.SpotLaws.{IsHere, element_here, lawful_cell}
-use Rattle.flatten.specs.Named.{HasText, HasAlias, ArePlaced}
+use Rattle.flatten.specs.steps.Named.{HasText, HasAlias, ArePlaced}
 
 -- the text of a number is its full name
 pub has_text : (names : FullNames) → AreNames names → (number : ℕ) → number < names.count → (old text : List ℕ) → old ≡ [] → GivesText names number old text

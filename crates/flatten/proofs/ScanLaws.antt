@@ -14,7 +14,7 @@ use Rattle.ext_model.specs.declared.records.NodeRec.{NodeRec}
 use Rattle.ext_model.specs.RecordNames.{names_of}
 use Rattle.circuit_model.specs.Elements.{Element}
 use Rattle.flatten.specs.NameClasses.Classes.{AreLabels}
-use Rattle.flatten.specs.Labels.{group_of, groups_of, AreNamed}
+use Rattle.flatten.specs.steps.Labels.{group_of, groups_of, AreNamed}
 use Rattle.flatten.proofs.PlaceLaws.{place_set, place_set_other}
 
 -- The nodes have so many of the names, each those of its label.

@@ -25,7 +25,7 @@ use Rattle.element_tree.specs.Trees.{StandsFor, AreAt}
 use Rattle.full_names.specs.NameLists.{IsFullNameList}
 use Rattle.flat_limits.proofs.TreeLaws.{no_flat}
 use Rattle.circuit_model.specs.FullNames.{name_in}
-use Rattle.flatten.specs.Spots.{IsCellOf, HasNames, HasFetNames, HasSpotAt, AreSpotsIn, AreCellSpots, element_at, cell_at, no_element}
+use Rattle.flatten.specs.steps.Spots.{IsCellOf, HasNames, HasFetNames, HasSpotAt, AreSpotsIn, AreCellSpots, element_at, cell_at, no_element}
 use Rattle.flatten.specs.declared.spots.CellSpots.{CellSpots}
 
 -- a node's names stand among those of its record

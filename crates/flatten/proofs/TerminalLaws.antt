@@ -20,20 +20,20 @@ use Rattle.circuit_model.specs.Elements.{Element}
 use Rattle.circuit_model.specs.FullNames.{name_in, AreInNameOrder}
 use Rattle.circuit_model.specs.FlatFets.{node_name, side_name}
 use Rattle.flatten.specs.NameClasses.Classes.{AreLabels}
-use Rattle.flatten.specs.Labels.{label_of, AreNamed}
+use Rattle.flatten.specs.steps.Labels.{label_of, AreNamed}
 use Rattle.flatten.proofs.GroupLaws.{label_below}
 use Rattle.flatten.proofs.LabelLaws.{bytes_eq-same, bytes_eq-true}
 use Rattle.flatten.proofs.NodeLaws.{node_found, before_node, one_number}
 use Rattle.flatten.proofs.PlaceLaws.{place_of, AreAlong-at}
 use Rattle.flatten.proofs.SpotLaws.{spot_named}
-use Rattle.flatten.specs.Spots.{AreSpotsOf, element_at, cell_at}
+use Rattle.flatten.specs.steps.Spots.{AreSpotsOf, element_at, cell_at}
 use Rattle.full_names.specs.declared.names.FullNames.{FullNames}
 use Rattle.full_names.specs.declared.names.Spot.{Spot}
 use Rattle.full_names.specs.declared.names.Spot.TheVariants.{Local}
 use Rattle.full_names.specs.NameLists.{IsFullNameList}
 use Rattle.full_names.specs.Names.{AreNames, IsSpotOf, elements_in}
 use Rattle.flatten.specs.declared.sides.Side.{Side}
-use Rattle.flatten.specs.Sides.{side_of, length_at, AreAscending, AreJoined, name_of_node, named_side, AreFlatTerminals}
+use Rattle.flatten.specs.steps.Sides.{side_of, length_at, AreAscending, AreJoined, name_of_node, named_side, AreFlatTerminals}
 
 -- the name of a node that stands at a number
 pub name_at_node : (nodes : List NodeRec) (number : ℕ) (node : NodeRec) → slice_get nodes number ≡ Some node → name_of_node nodes number ≡ node.name

@@ -24,14 +24,14 @@ use Rattle.circuit_model.specs.declared.limits.TheConstants.{MOST_NODES, MOST_ME
 use Rattle.full_names.specs.declared.names.FullNames.{FullNames}
 use Rattle.full_names.specs.Names.{AreNames, elements_in}
 use Rattle.flatten.proofs.FlatLimits.TreeLaws.{no_flat}
-use Rattle.flatten.specs.Labels.{label_of}
-use Rattle.flatten.specs.Spots.{element_at, no_element}
+use Rattle.flatten.specs.steps.Labels.{label_of}
+use Rattle.flatten.specs.steps.Spots.{element_at, no_element}
 use Rattle.flatten.proofs.PlaceLaws.{place_of}
 use Rattle.flatten.proofs.SpotLaws.{flat_here, lawful_cell}
 use Rattle.flatten.specs.declared.sums.NodeSum.{NodeSum}
-use Rattle.flatten.specs.Sums.{Quantity, Addend, amount, counts_for, IsLawfulAmount, AreLawfulAmounts, node_addend, node_addends, merge_addend}
-use Rattle.flatten.specs.Sums.{merge_addends, addends_in}
-use Rattle.flatten.specs.Sums.{HaveSums, HaveRoomFor, HaveRoomForNodes, HaveRoomForMerges}
+use Rattle.flatten.specs.steps.Sums.{Quantity, Addend, amount, counts_for, IsLawfulAmount, AreLawfulAmounts, node_addend, node_addends, merge_addend}
+use Rattle.flatten.specs.steps.Sums.{merge_addends, addends_in}
+use Rattle.flatten.specs.steps.Sums.{HaveSums, HaveRoomFor, HaveRoomForNodes, HaveRoomForMerges}
 
 -- what one more element adds
 pub addends_more : (list : List (List ℕ)) (labels : List ℕ) (elements : List Element) (n : ℕ) (d : Element) → n < length elements

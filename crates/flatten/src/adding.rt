@@ -1,6 +1,6 @@
 //! One record added to the sums of a node.
 ghost use Rattle.std.specs.Prelude.{◌≡◌, length};
-ghost use Rattle.flatten.specs.Amounts.{FitsMeasure, FitMeasures, FitAmounts, AddsMeasure, AddMeasures, AddsAmounts};
+ghost use Rattle.flatten.specs.steps.Amounts.{FitsMeasure, FitMeasures, FitAmounts, AddsMeasure, AddMeasures, AddsAmounts};
 
 use crate::sums::NodeSum;
 

@@ -5,8 +5,8 @@ ghost use Rattle.circuit_model.specs.Refusals.{IsFlatOf, IsFlatFaultOf, flat_fau
 ghost use Rattle.plain_records.specs.Plains.{plains, AreArrayRecords};
 ghost use Rattle.plain_records.specs.Thin.{thins};
 ghost use Rattle.plain_records.specs.Reached.{AreReached, HasNoReachFault, AreCalled, AreExpanded, IsExpandedAt};
-ghost use Rattle.flatten.specs.Sinks.{AllFit, IsGiven};
-ghost use Rattle.flatten.specs.Stages.{IsFaultAt};
+ghost use Rattle.flatten.specs.Sinks.{AllFit, IsGiven, with_fets};
+ghost use Rattle.flatten.specs.steps.Stages.{IsFaultAt};
 
 use crate::flat::{elements_at, flatten_plain};
 use crate::sinks::{AllFets, FetSink, GivenCircuit};
@@ -98,6 +98,24 @@ pub fn flatten_into<S: FetSink>(
     flatten_plain(alloc, records.as_slice(), root)
 }
 
+/// The circuit all of whose transistors were given. It takes no memory.
+pub fn circuit_given(given: GivenCircuit<AllFets>) -> Circuit
+    ensures { result ≡ with_fets given given.sink.fets.items }
+{
+    let GivenCircuit {
+        tech,
+        classes,
+        nodes,
+        sink: AllFets { fets },
+    } = given;
+    Circuit {
+        tech,
+        classes,
+        nodes,
+        fets: List::of(fets),
+    }
+}
+
 /// The flat circuit of the tree of records whose root is this cell's. It takes time near-linear in the uses of all records, and in the
 /// names, merges and transistors of all elements.
 ///
@@ -112,16 +130,5 @@ pub fn flatten(alloc: Global, exts: &[ArrayExt], root: &Name) -> Result<Circuit,
     ensures meaning { IfOk result (λ circuit. IsFlatOf (plains exts.now) root.now circuit) }
     ensures fault { IfErr result (λ fault. (fault ≡ FlatFault.Memory) ⊎ IsFlatFaultOf (plains exts.now) root.now fault) }
 {
-    let GivenCircuit {
-        tech,
-        classes,
-        nodes,
-        sink: AllFets { fets },
-    } = flatten_into(alloc, exts, root)?;
-    Ok(Circuit {
-        tech,
-        classes,
-        nodes,
-        fets: List::of(fets),
-    })
+    Ok(circuit_given(flatten_into(alloc, exts, root)?))
 }

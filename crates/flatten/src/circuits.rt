@@ -7,7 +7,7 @@ ghost use Rattle.circuit_model.specs.FlatNodes.{AreFlatNodes};
 ghost use Rattle.circuit_model.specs.Refusals.{node_count, merge_count};
 ghost use Rattle.full_names.specs.Names.{AreNames, elements_in};
 ghost use Rattle.name_classes.specs.Classes.{AreClasses};
-ghost use Rattle.flatten.specs.Spots.{AreCellSpots, AreNamedOf};
+ghost use Rattle.flatten.specs.steps.Spots.{AreCellSpots, AreNamedOf};
 ghost use Rattle.flatten.specs.Sinks.{AllFit, IsGiven};
 
 use crate::fets::give_flat_fets;

@@ -3,7 +3,7 @@ ghost use Rattle.std.specs.Prelude.{◌≡◌, ◌<◌, IfOk, OnOk, All, length,
 ghost use Rattle.ext_model.specs.Lawful.{IsLawfulFet};
 ghost use Rattle.circuit_model.specs.FlatFets.{IsFlatFet, side_name, fets_of};
 ghost use Rattle.full_names.specs.Names.{AreNames, elements_in};
-ghost use Rattle.flatten.specs.Spots.{AreFetSpots, AreFetSpotsOf, AreCellSpots, AreLabelsOf, AreNamedOf, cell_at, element_at};
+ghost use Rattle.flatten.specs.steps.Spots.{AreFetSpots, AreFetSpotsOf, AreCellSpots, AreLabelsOf, AreNamedOf, cell_at, element_at};
 ghost use Rattle.flatten.specs.Sinks.{AllFit, GivesFets};
 
 use crate::labels::node_of;

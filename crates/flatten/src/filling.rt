@@ -1,6 +1,6 @@
 //! Sums put into nodes.
 ghost use Rattle.std.specs.Prelude.{◌≡◌, length};
-ghost use Rattle.flatten.specs.Filled.{AreFilled};
+ghost use Rattle.flatten.specs.steps.Filled.{AreFilled};
 
 use crate::sums::NodeSum;
 use ext_model::NodeRec;

@@ -5,7 +5,7 @@ ghost use Rattle.circuit_model.specs.Refusals.{IsFlatOf, IsFlatFaultOf};
 ghost use Rattle.element_tree.specs.Trees.{IsTreeOf};
 ghost use Rattle.full_names.specs.Names.{AreNames};
 ghost use Rattle.flatten.specs.Sinks.{AllFit, IsGiven};
-ghost use Rattle.flatten.specs.Stages.{HasNoUseFault, IsUseFaultOf, HasNoCountFault, IsCountFaultOf, HasNoLateFault, IsLateFaultOf, IsMeantAt};
+ghost use Rattle.flatten.specs.steps.Stages.{HasNoUseFault, IsUseFaultOf, HasNoCountFault, IsCountFaultOf, HasNoLateFault, IsLateFaultOf, IsMeantAt};
 
 use crate::circuits::circuit_of;
 use crate::sinks::{FetSink, GivenCircuit};

@@ -1,7 +1,7 @@
 //! Labels of names.
 ghost use Rattle.std.specs.Prelude.{◌<◌, length};
 ghost use Rattle.full_names.specs.Names.{AreNames, elements_in};
-ghost use Rattle.flatten.specs.Spots.{HasSpotAt, HaveLabels, GivesNode, IsLabel};
+ghost use Rattle.flatten.specs.steps.Spots.{HasSpotAt, HaveLabels, GivesNode, IsLabel};
 
 use full_names::{FullNames, Spot};
 

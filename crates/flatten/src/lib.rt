@@ -6,7 +6,7 @@
 //!
 //! Which node of the flat circuit each name of each element is of, by the labels of full names.
 //!
-//! `specs/Labels.antt` has the groups that labels make of names in order, and `specs/Spots.antt` what is looked up once for each record
+//! `specs/steps/Labels.antt` has the groups that labels make of names in order, and `specs/steps/Spots.antt` what is looked up once for each record
 //! and not for each element: where its nodes' preferred names and the names beside its transistors stand.
 //!
 //! The nodes of the flat circuit, by their names, and where each lies.
@@ -62,5 +62,5 @@ mod sinks;
 mod spots;
 mod sums;
 
-pub use arrays::{flatten, flatten_into};
-pub use sinks::{FetSink, GivenCircuit};
+pub use arrays::{circuit_given, flatten, flatten_into};
+pub use sinks::{AllFets, FetSink, GivenCircuit};

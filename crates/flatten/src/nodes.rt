@@ -2,8 +2,8 @@
 ghost use Rattle.std.specs.Prelude.{◌≡◌, ◌<◌, ◌∷◌, [], IfOk, OnOk};
 ghost use Rattle.ext_model.specs.RecordNames.{names_of};
 ghost use Rattle.full_names.specs.Names.{AreNames};
-ghost use Rattle.flatten.specs.Spots.{AreLabelsOf, AreNamedOf};
-ghost use Rattle.flatten.specs.Named.{HasText, IsPlacedAt, HasAlias, ArePlaced};
+ghost use Rattle.flatten.specs.steps.Spots.{AreLabelsOf, AreNamedOf};
+ghost use Rattle.flatten.specs.steps.Named.{HasText, IsPlacedAt, HasAlias, ArePlaced};
 
 use element_tree::ElementTree;
 use ext_model::{CellExt, NodeRec};

@@ -1,7 +1,7 @@
 //! Which records elements have.
 ghost use Rattle.std.specs.Prelude.{◌≡◌, IfOk, length};
 ghost use Rattle.full_names.specs.Names.{AreNames};
-ghost use Rattle.flatten.specs.Spots.{AreReached};
+ghost use Rattle.flatten.specs.steps.Spots.{AreReached};
 
 use element_tree::ElementTree;
 use full_names::FullNames;

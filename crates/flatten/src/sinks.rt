@@ -35,7 +35,7 @@ pub struct GivenCircuit<S> {
 
 /// All transistors of a circuit.
 #[derive(Debug, Drop)]
-pub(crate) struct AllFets {
+pub struct AllFets {
     pub fets: Vec<FetRec>,
 }
 

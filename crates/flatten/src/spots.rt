@@ -1,7 +1,7 @@
 //! The spots of the names that records have of their nodes and beside their transistors.
 ghost use Rattle.std.specs.Prelude.{◌≡◌, true, IfOk, All, map};
 ghost use Rattle.full_names.specs.Names.{AreNames, IsSpotOf};
-ghost use Rattle.flatten.specs.Spots.{HasName, HasNames, HasFetNames, AreSpotsOf, AreFetSpots, AreFetSpotsOf, AreSpotsIn, IsCellOf, AreCellSpots};
+ghost use Rattle.flatten.specs.steps.Spots.{HasName, HasNames, HasFetNames, AreSpotsOf, AreFetSpots, AreFetSpotsOf, AreSpotsIn, IsCellOf, AreCellSpots};
 
 use crate::reached::reached_cells;
 use element_tree::ElementTree;

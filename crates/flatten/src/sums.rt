@@ -5,8 +5,8 @@ ghost use Rattle.circuit_model.specs.Elements.{Element};
 ghost use Rattle.circuit_model.specs.Refusals.{node_count, merge_count};
 ghost use Rattle.full_names.specs.Names.{AreNames, elements_in};
 ghost use Rattle.name_classes.specs.Classes.{AreClasses, HasEnds};
-ghost use Rattle.flatten.specs.Spots.{HaveLabels, AreSpotsOf, AreCellSpots, cell_at, element_at};
-ghost use Rattle.flatten.specs.Sums.{HaveSums, HaveRoomForNodes, HaveRoomForMerges, AddNodes, AddMerges, AreNodeSums};
+ghost use Rattle.flatten.specs.steps.Spots.{HaveLabels, AreSpotsOf, AreCellSpots, cell_at, element_at};
+ghost use Rattle.flatten.specs.steps.Sums.{HaveSums, HaveRoomForNodes, HaveRoomForMerges, AddNodes, AddMerges, AreNodeSums};
 
 use crate::adding::add_amounts;
 use crate::labels::node_of;

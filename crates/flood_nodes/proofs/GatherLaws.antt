@@ -25,7 +25,7 @@ use Rattle.layout_model.specs.Layouts.{Layout, IsMaterial}
 use Rattle.layout_model.specs.LayerTypes.{Kinds, AreTypesOf, or_space, seen_in}
 use Rattle.layout_model.specs.RegionTiles.{LiesIn, LieApart, AreLayoutTiles}
 use Rattle.layout_model.specs.declared.region_tiles.RegionTile.{RegionTile}
-use Rattle.flood_nodes.specs.Gathered.{tile_on, before_plane}
+use Rattle.flood_nodes.specs.steps.Gathered.{tile_on, before_plane}
 use Rattle.flood_nodes.specs.Stacking.{AreTyped}
 
 -- a list and then another, by places

@@ -18,7 +18,7 @@ use Rattle.rect_contacts.proofs.Abutting.{shared_abut, neighbours_share}
 use Rattle.flood_nodes.proofs.Walks.{walk}
 use Rattle.layout_model.specs.declared.region_tiles.RegionTile.{RegionTile}
 use Rattle.layout_model.specs.RegionTiles.{LiesIn, AreLayoutTiles}
-use Rattle.flood_nodes.specs.LinkedTiles.{AreLinkedTiles, JoinTiles, NumbersNodes}
+use Rattle.flood_nodes.specs.steps.LinkedTiles.{AreLinkedTiles, JoinTiles, NumbersNodes}
 use Rattle.flood_nodes.proofs.TileEdges.{disjoint_at, lies_in_one, place_on, place_is}
 
 module _ (connects : ℕ → ℕ → Bool) (layout : Layout) (tiles : List RegionTile) (are : AreLayoutTiles layout tiles)

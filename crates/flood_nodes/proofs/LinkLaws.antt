@@ -27,7 +27,7 @@ use Rattle.rect_contacts.specs.Contacts.{shared_length}
 use Rattle.rect_contacts.specs.Rects.{no_rect, rect_at}
 use Rattle.rect_contacts.proofs.Shared.{shared_length-comm}
 use Rattle.layout_model.specs.declared.region_tiles.RegionTile.{RegionTile}
-use Rattle.flood_nodes.specs.LinkedTiles.{Meet, MeetAt, AreLinkedTiles, JoinTiles}
+use Rattle.flood_nodes.specs.steps.LinkedTiles.{Meet, MeetAt, AreLinkedTiles, JoinTiles}
 use Rattle.flood_nodes.specs.Stacking.{AreTyped, AreSpread, reaches, IsCrossing, IsReaching, areas_at, placed_in, pairs_beside, connected, AddsMeeting}
 use Rattle.flood_nodes.specs.Stacking.{AddsStacked, AddsAllStacked}
 use Rattle.flood_nodes.specs.TileShares.{no_tile, tile_at, shared_by, IsTileContact}

@@ -24,7 +24,7 @@ use Rattle.layout_model.specs.Places.{Place}
 use Rattle.layout_model.specs.Layouts.{Layout}
 use Rattle.layout_model.specs.Links.{AreOneNode}
 use Rattle.layout_model.specs.RegionTiles.{LiesIn, LieApart, AreLayoutTiles, regions_of, AreRegions}
-use Rattle.flood_nodes.specs.LinkedTiles.{JoinTiles, NumbersNodes}
+use Rattle.flood_nodes.specs.steps.LinkedTiles.{JoinTiles, NumbersNodes}
 use Rattle.flood_nodes.specs.Renumbered.{with_region, AreRenumbered}
 use Rattle.flood_nodes.specs.SoundTiles.{IsSoundTile}
 use Rattle.flood_nodes.specs.Stacking.{AreTyped, AreSpread}

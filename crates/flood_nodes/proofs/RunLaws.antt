@@ -16,7 +16,7 @@ use Rattle.rect_contacts.specs.Contacts.{shared_length, IsSharedEdge}
 use Rattle.rect_contacts.specs.Rects.{rect_at, no_rect}
 use Rattle.layout_model.specs.RegionTiles.{LieApart}
 use Rattle.layout_model.specs.declared.region_tiles.RegionTile.{RegionTile}
-use Rattle.flood_nodes.specs.Runs.{areas_of, shifted, AddsContacts}
+use Rattle.flood_nodes.specs.steps.Runs.{areas_of, shifted, AddsContacts}
 use Rattle.flood_nodes.specs.TileShares.{no_tile, tile_at, shared_by, IsTileContact}
 use Rattle.flood_nodes.proofs.ShareLaws.{one_plane, two_planes}
 

@@ -10,7 +10,7 @@ use Rattle.rect_contacts.specs.declared.contacts.Contact.{Contact}
 use Rattle.layout_model.specs.RegionTiles.{LieApart}
 use Rattle.layout_model.specs.declared.region_tiles.RegionTile.{RegionTile}
 use Rattle.flood_nodes.specs.TileShares.{tile_at}
-use Rattle.flood_nodes.specs.LinkedTiles.{AreLinkedTiles, MeetAt}
+use Rattle.flood_nodes.specs.steps.LinkedTiles.{AreLinkedTiles, MeetAt}
 
 -- Each tile is of a type of the technology, on its plane.
 abbrev pub AreTyped : RawTech → List RegionTile → Type 0

@@ -6,7 +6,7 @@ ghost use Rattle.tech_model.specs.WellFormed.{IsWellFormed};
 ghost use Rattle.layout_model.specs.LayerTypes.{AreTypesOf, seen_in};
 ghost use Rattle.layout_model.specs.RegionTiles.{AreLayoutTiles};
 ghost use Rattle.flood_nodes.specs.Stacking.{AreTyped};
-ghost use Rattle.flood_nodes.specs.Gathered.{tile_on};
+ghost use Rattle.flood_nodes.specs.steps.Gathered.{tile_on};
 
 use geo_core::Rect;
 use layout_model::RegionTile;

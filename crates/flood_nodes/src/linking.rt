@@ -5,7 +5,7 @@ ghost use Rattle.tech_model.specs.Types.{connects, is_type, layer_of};
 ghost use Rattle.tech_model.specs.WellFormed.{IsWellFormed};
 ghost use Rattle.partition.specs.Divides.{IsPair};
 ghost use Rattle.flood_nodes.specs.TileShares.{IsTileContact};
-ghost use Rattle.flood_nodes.specs.LinkedTiles.{JoinTiles};
+ghost use Rattle.flood_nodes.specs.steps.LinkedTiles.{JoinTiles};
 ghost use Rattle.flood_nodes.specs.Stacking.{AreTyped, AreSpread, has_other_images, reaches, IsCrossing, IsReaching, areas_at, placed_in, pairs_beside, connected};
 ghost use Rattle.flood_nodes.specs.Stacking.{AddsStacked, AddsStackedAbove, AddsAllStacked};
 

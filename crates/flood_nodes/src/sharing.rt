@@ -3,7 +3,7 @@ ghost use Rattle.std.specs.Prelude.{◌≡◌, ◌+◌, ◌<◌, ◌≤◌, ◌^
 ghost use Rattle.finite_sets.specs.Lists.{Lists};
 ghost use Rattle.geo_core.specs.Areas.{AreDisjoint, IsNear};
 ghost use Rattle.geo_core.specs.Covering.{IsProper};
-ghost use Rattle.flood_nodes.specs.Runs.{shifted, areas_of, AddsContacts};
+ghost use Rattle.flood_nodes.specs.steps.Runs.{shifted, areas_of, AddsContacts};
 ghost use Rattle.flood_nodes.specs.Stacking.{AreSpread};
 ghost use Rattle.flood_nodes.specs.TileShares.{IsTileContact};
 

@@ -8,7 +8,7 @@ use Rattle.full_names.specs.declared.own_names.OwnName.{OwnName}
 use Rattle.full_names.specs.declared.own_names.RecordNames.{RecordNames}
 use Rattle.full_names.specs.OwnNames.{locals_of}
 use Rattle.full_names.specs.Reached.{no_element, flat_at}
-use Rattle.full_names.specs.ByteCounts.{local_bytes, element_bytes}
+use Rattle.full_names.specs.steps.ByteCounts.{local_bytes, element_bytes}
 use Rattle.full_names.proofs.RecordReads.{locals_known}
 
 -- the path of one more name is within the sum of all

@@ -15,7 +15,7 @@ use Rattle.full_names.specs.declared.places.Place.{Place}
 use Rattle.ext_model.specs.NodeNames.{name_kind}
 use Rattle.full_names.specs.Reached.{flat_at}
 use Rattle.full_names.specs.Places.{place_at, text_at}
-use Rattle.full_names.specs.Keys.{is_generated, key_at, key_cmp, IsKey, AreKeys}
+use Rattle.full_names.specs.steps.Keys.{is_generated, key_at, key_cmp, IsKey, AreKeys}
 
 -- the key of an element's name by what is read of the name
 abbrev pub key_made : TreeElement → List ℕ → Bool → ℕ → NameKey

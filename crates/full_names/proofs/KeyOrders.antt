@@ -31,7 +31,7 @@ use Rattle.full_names.specs.declared.places.Place.{Place}
 use Rattle.full_names.specs.OwnNames.{is_marked, texts_of, locals_of, AreOwnNames, HasOwnNames}
 use Rattle.full_names.specs.Reached.{flat_at}
 use Rattle.full_names.specs.Places.{texts_at, count_at, text_at, IsPlace}
-use Rattle.full_names.specs.Keys.{is_generated, key_at, key_cmp}
+use Rattle.full_names.specs.steps.Keys.{is_generated, key_at, key_cmp}
 use Rattle.full_names.proofs.NameForms.{last_name_of, element_cmp-exact}
 use Rattle.full_names.proofs.RecordReads.{locals_known}
 use Rattle.full_names.proofs.TextOrders.{text_is_name, text_is_wanted, places_compare}

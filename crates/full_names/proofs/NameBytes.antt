@@ -38,7 +38,7 @@ use Rattle.full_names.specs.OwnNames.{is_marked, is_wanted, texts_of, locals_of,
 use Rattle.full_names.specs.Reached.{no_element, flat_at}
 use Rattle.full_names.specs.Globals.{global_texts}
 use Rattle.full_names.specs.GlobalOrigins.{AreGlobalsOf}
-use Rattle.full_names.specs.ByteCounts.{global_bytes, local_bytes, element_bytes}
+use Rattle.full_names.specs.steps.ByteCounts.{global_bytes, local_bytes, element_bytes}
 use Rattle.full_names.proofs.KeyOrders.{NamesAreKnown, locals_are}
 use Rattle.full_names.proofs.ListOrders.{pairwise_names, Distinct-names}
 use Rattle.full_names.proofs.NameForms.{last_name_of, full_name-marked, full_name-local, one_path, path_not_global}

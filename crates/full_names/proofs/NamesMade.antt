@@ -32,9 +32,9 @@ use Rattle.full_names.specs.OwnNames.{locals_of, AreAllNames}
 use Rattle.full_names.specs.Reached.{no_element, flat_at, AreOfRecords, AreReached}
 use Rattle.full_names.specs.Globals.{global_texts, AreGlobalNames}
 use Rattle.full_names.specs.GlobalOrigins.{AreGlobalsOf}
-use Rattle.full_names.specs.ByteCounts.{global_bytes, local_bytes, element_bytes}
+use Rattle.full_names.specs.steps.ByteCounts.{global_bytes, local_bytes, element_bytes}
 use Rattle.full_names.specs.Places.{place_at, count_at, IsPlace, ArePlaces}
-use Rattle.full_names.specs.Keys.{IsFitPlace, AreKeys}
+use Rattle.full_names.specs.steps.Keys.{IsFitPlace, AreKeys}
 use Rattle.full_names.proofs.GlobalOriginLaws.{globals_of_elements}
 use Rattle.full_names.proofs.KeyOrders.{NamesAreKnown}
 use Rattle.full_names.proofs.Lookups.{no_own}

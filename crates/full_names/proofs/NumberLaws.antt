@@ -33,7 +33,7 @@ use Rattle.full_names.specs.Reached.{flat_at}
 use Rattle.full_names.specs.Globals.{global_texts}
 use Rattle.full_names.specs.GlobalOrigins.{AreGlobalsOf}
 use Rattle.full_names.specs.Places.{place_at, text_at, ArePlaces}
-use Rattle.full_names.specs.Keys.{key_at, key_cmp, AreKeys}
+use Rattle.full_names.specs.steps.Keys.{key_at, key_cmp, AreKeys}
 use Rattle.full_names.specs.Names.{ids_at, place_name}
 use Rattle.full_names.proofs.GlobalLaws.{less_from_reverse}
 use Rattle.full_names.proofs.KeyOrders.{NamesAreKnown, IsLocalName, local_name_at, locals_are, keys_compare}

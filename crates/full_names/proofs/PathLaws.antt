@@ -7,7 +7,7 @@ use Rattle.ext_model.specs.declared.records.CellExt.{CellExt}
 use Rattle.ext_model.specs.Paths.{path_text}
 use Rattle.circuit_model.specs.Elements.{ids_of}
 use Rattle.element_tree.specs.declared.tree.ElementTree.{ElementTree}
-use Rattle.full_names.specs.Paths.{path_front, LeadsFrom, EndsInPath}
+use Rattle.full_names.specs.steps.Paths.{path_front, LeadsFrom, EndsInPath}
 
 -- one more name behind those of a path
 pub path_front_push : (ids : List (List ℕ)) (id : List ℕ) → path_front (ids ++ id ∷ []) ≡ path_front ids ++ (id ++ SLASH ∷ [])

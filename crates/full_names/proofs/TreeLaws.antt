@@ -12,7 +12,7 @@ use Rattle.element_tree.specs.declared.tree.TreeElement.{TreeElement}
 use Rattle.element_tree.specs.declared.tree.ElementTree.{ElementTree}
 use Rattle.element_tree.specs.Trees.{AreAt, StandsFor, StandsIn, IsTreeOfElements}
 use Rattle.full_names.specs.Reached.{no_element, flat_at}
-use Rattle.full_names.specs.Paths.{IsTree, IsAtRoot, LeadsFrom}
+use Rattle.full_names.specs.steps.Paths.{IsTree, IsAtRoot, LeadsFrom}
 
 module _ (exts : List CellExt) (elements : List Element) (tree : ElementTree) (is : IsTreeOfElements exts elements tree) where
   -- an element stands at each number of the tree

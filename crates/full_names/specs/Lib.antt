@@ -4,10 +4,8 @@ pub mod OwnNames
 pub mod Reached
 pub mod Globals
 pub mod GlobalOrigins
-pub mod ByteCounts
 pub mod Places
-pub mod Keys
 pub mod Orders
-pub mod Paths
 pub mod NameLists
 pub mod Names
+pub mod steps

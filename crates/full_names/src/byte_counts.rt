@@ -2,7 +2,7 @@
 
 ghost use Rattle.std.specs.Prelude.{◌≡◌, ◌+◌, ◌<◌, ◌≤◌, length, IfOk, IfErr, OnOk};
 ghost use Rattle.full_names.specs.Reached.{AreOfRecords};
-ghost use Rattle.full_names.specs.ByteCounts.{global_bytes, local_bytes, element_bytes};
+ghost use Rattle.full_names.specs.steps.ByteCounts.{global_bytes, local_bytes, element_bytes};
 
 use crate::globals::GlobalName;
 use crate::own_names::{OwnName, RecordNames};

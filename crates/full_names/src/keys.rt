@@ -3,7 +3,7 @@
 ghost use Rattle.std.specs.Prelude.{◌≡◌, length, All, IfOk};
 ghost use Rattle.full_names.specs.Reached.{AreOfRecords};
 ghost use Rattle.ext_model.specs.NodeNames.{name_kind};
-ghost use Rattle.full_names.specs.Keys.{is_generated, key_at, IsFitPlace, AreKeys};
+ghost use Rattle.full_names.specs.steps.Keys.{is_generated, key_at, IsFitPlace, AreKeys};
 
 use crate::own_names::RecordNames;
 use crate::places::Place;

@@ -2,7 +2,7 @@
 ghost use Rattle.std.specs.Prelude.{◌≡◌, ◌<◌, Some, length, slice_get, IfSome, IfNone, OnOk};
 ghost use Rattle.ext_model.specs.declared.records.UseRec.{UseRec};
 ghost use Rattle.ext_model.specs.declared.records.CellExt.{CellExt};
-ghost use Rattle.full_names.specs.Paths.{IsTree, IsAtRoot, LeadsFrom, EndsInPath};
+ghost use Rattle.full_names.specs.steps.Paths.{IsTree, IsAtRoot, LeadsFrom, EndsInPath};
 
 use element_tree::ElementTree;
 use ext_model::{CellExt, SLASH};

@@ -22,7 +22,7 @@ use Rattle.geo_strips.specs.declared.row_events.Event.{Event}
 use Rattle.geo_strips.specs.Bars.{bar_cmp, joined}
 use Rattle.geo_core.specs.Areas.{has_square}
 use Rattle.geo_core.proofs.CoveringLaws.{IsProper-has_square, has_square-IsProper}
-use Rattle.geo_strips.specs.RowEvents.{begin_of, top_of, end_of, event_cmp, IsAtNoLaterRow, IsBegin, AreEvents}
+use Rattle.geo_strips.specs.steps.RowEvents.{begin_of, top_of, end_of, event_cmp, IsAtNoLaterRow, IsBegin, AreEvents}
 use Rattle.geo_strips.proofs.JoinLaws.{IsLong, AreLong, joined-are}
 use Rattle.geo_strips.proofs.BarOrderLaws.{bars_in_order}
 

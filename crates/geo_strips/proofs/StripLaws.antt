@@ -7,7 +7,7 @@ use Rattle.geo_core.specs.declared.squares.Square.{Square}
 use Rattle.geo_core.specs.declared.squares.Rect.{Rect}
 use Rattle.geo_strips.specs.declared.bars.Bar.{Bar}
 use Rattle.geo_core.specs.Strips.{IsRun, IsStrip}
-use Rattle.geo_strips.specs.Sweeping.{HaveSquare, AreRunBars}
+use Rattle.geo_strips.specs.steps.Sweeping.{HaveSquare, AreRunBars}
 use Rattle.geo_core.proofs.FiniteSets.Pairs.{Pairwise}
 use Rattle.geo_core.proofs.SquareLaws.{rect_is}
 use Rattle.geo_strips.proofs.JoinLaws.{LieApart, AreLong, AreJoined}

@@ -22,7 +22,7 @@ use Rattle.geo_strips.specs.declared.strip_lists.Strip.{Strip}
 use Rattle.geo_strips.specs.Bars.{bar_cmp, strip_cmp, joined, strip_of, rect_of, AreStripsOf}
 use Rattle.geo_core.specs.Strips.{IsStrip, IsStrips, IsInUnion, StandsBefore, StripsAreUnique}
 use Rattle.geo_core.proofs.StripSets.{StandsBefore-irreflexive}
-use Rattle.geo_strips.specs.Sweeping.{AreRunBars}
+use Rattle.geo_strips.specs.steps.Sweeping.{AreRunBars}
 use Rattle.geo_strips.proofs.JoinLaws.{AreJoined, joined-are}
 use Rattle.geo_strips.proofs.BarOrderLaws.{bars_in_order}
 use Rattle.geo_strips.proofs.StripLaws.{AreColumns, columns_from_bars, same_right, rect_of_column, column_is_strip, strip_is_column}

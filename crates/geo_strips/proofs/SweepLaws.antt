@@ -16,11 +16,11 @@ use Rattle.geo_strips.specs.declared.row_events.Event.{Event}
 use Rattle.geo_strips.specs.declared.row_runs.Run.{Run}
 use Rattle.geo_strips.specs.Coverage.{until, raised, IsTopped, IsCut, HaveColumn, AddsColumns, IsGap}
 use Rattle.geo_core.specs.Covering.{Covers, IsProper}
-use Rattle.geo_strips.specs.RowEvents.{begin_of, HaveEnd, AreEvents, sides_of}
+use Rattle.geo_strips.specs.steps.RowEvents.{begin_of, HaveEnd, AreEvents, sides_of}
 use Rattle.geo_strips.specs.RowRuns.{Row, IsInRow, AreRuns, bar_of, IsWritten, Changes, IsCovered, IsUncovered}
 use Rattle.geo_core.specs.Strips.{IsRun, IsInUnion}
 use Rattle.geo_strips.specs.declared.sweeping.Sweep.{Sweep}
-use Rattle.geo_strips.specs.Sweeping.{row_of, RectBegins, RectsEnd, HaveSquare, AreRunBars}
+use Rattle.geo_strips.specs.steps.Sweeping.{row_of, RectBegins, RectsEnd, HaveSquare, AreRunBars}
 use Rattle.geo_strips.proofs.RowLaws.{changes_both, same_run}
 
 -- below all rows: the least signed number of 64 bits

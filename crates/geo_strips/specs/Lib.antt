@@ -1,5 +1,4 @@
 pub mod Bars
 pub mod Coverage
-pub mod RowEvents
 pub mod RowRuns
-pub mod Sweeping
+pub mod steps

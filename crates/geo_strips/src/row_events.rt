@@ -2,7 +2,7 @@
 ghost use Rattle.std.specs.Prelude.{◌≡◌, ℤ, ◌≤ℤ◌, ◌++◌, IfOk, OnOk, map, filter, AllPairs};
 ghost use Rattle.geo_core.specs.FiniteSets.Lists.{In};
 ghost use Rattle.geo_core.specs.Areas.{has_square};
-ghost use Rattle.geo_strips.specs.RowEvents.{begin_of, top_of, end_of, AreEvents, sides_of};
+ghost use Rattle.geo_strips.specs.steps.RowEvents.{begin_of, top_of, end_of, AreEvents, sides_of};
 
 use crate::bars::{Bar, join, sorted};
 use geo_core::Rect;

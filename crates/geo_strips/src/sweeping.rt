@@ -3,7 +3,7 @@ ghost use Rattle.std.specs.Prelude.{ℤ, ◌<ℤ◌, IfOk, OnOk};
 ghost use Rattle.geo_strips.specs.Coverage.{IsTopped, IsCut};
 ghost use Rattle.geo_strips.specs.RowRuns.{AreRuns};
 ghost use Rattle.geo_core.specs.Strips.{IsInUnion};
-ghost use Rattle.geo_strips.specs.Sweeping.{row_of, RectBegins, RectsEnd, AreRunBars};
+ghost use Rattle.geo_strips.specs.steps.Sweeping.{row_of, RectBegins, RectsEnd, AreRunBars};
 
 use crate::bars::Bar;
 use crate::coverage::{Coverage, Gap, uncovered};

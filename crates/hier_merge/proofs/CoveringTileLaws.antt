@@ -1,13 +1,14 @@
 -- The tiles that cover the pieces at which the parts of a cell meet.
 use Rattle.std.proofs.Common.{◌≡◌, ◌≢◌, ◌⊎◌, ◌<◌, ◌+◌, ℕ, suc, List, [], ◌∷◌, length, map, inl, inr, refl, sym, ap, subst, ◌∙◌, arith}
-use Rattle.std.specs.Prelude.{Some, slice_get, slice_index, All}
+use Rattle.std.specs.Prelude.{Some, slice_get, All}
 use Rattle.std.specs.Int.{bit_at}
 use Rattle.std.proofs.lemmas.Bool.{cases_Bool, cases_eq, false≢true}
 use Rattle.std.proofs.lemmas.List.FromFn.{length-map-range_with_len}
+use Rattle.std.proofs.lemmas.Option.{slice_get_within}
 use Rattle.finite_sets.specs.Lists.{In}
-use Rattle.finite_sets.proofs.Members.{In-append_cases, In-index, In-map_source}
+use Rattle.finite_sets.proofs.Members.{In-append_cases, In-map_source}
 use Rattle.finite_sets.proofs.Searches.{All-In}
-use Rattle.finite_sets.proofs.Places.{In-slice_get}
+use Rattle.finite_sets.proofs.Places.{In-slice_get, slice_get-In, slice_get-one}
 use Rattle.geo_core.specs.declared.squares.Square.{Square}
 use Rattle.geo_core.specs.Areas.{corner_of, IsNear}
 use Rattle.geo_core.specs.Covering.{Covers, is_covered}
@@ -27,23 +28,20 @@ use Rattle.layout_model.specs.CellTrees.Elements.{no_elements, element_and}
 use Rattle.layout_model.specs.FlatSets.{AreTyped, IsTyped}
 use Rattle.offences.specs.declared.set_tiles.SetTile.{SetTile}
 use Rattle.offences.specs.declared.stacks.TypedStack.{TypedStack}
-use Rattle.offences.specs.PartSets.{no_tile, tile_at}
 use Rattle.offences.specs.SetTiles.{tile_part}
-use Rattle.offences.specs.TypedStacks.{AreTypedStacks, HasMembers, IsTypedStack, kind_in, on_plane}
+use Rattle.offences.specs.TypedStacks.{AreTypedStacks, IsTypedStack, kind_in, on_plane}
 use Rattle.offences.proofs.KindLaws.{kind_in-listed, kind_is_listed}
-use Rattle.offences.proofs.StackLaws.{In-tile_at}
 use Rattle.offences.proofs.TileLaws.{part_bit, part_kept}
 use Rattle.offences.proofs.UnionLaws.{no_part, same_sets}
 use Rattle.hierarchy_model.proofs.KindLaws.{material_set}
 use Rattle.cell_library.specs.declared.part_tiles.PartTile.{PartTile}
 use Rattle.cell_library.specs.PartTiles.{set_of_tiles}
 use Rattle.hier_merge.specs.MeetingPieces.{CoversPiece, HasCoveringTiles, IsPartTile}
-use Rattle.hier_merge.specs.PlanePieces.{AreByPlane, tiles_before}
-use Rattle.hier_merge.specs.Visits.{AreOfParts, tiles_on}
+use Rattle.hier_merge.specs.steps.PlanePieces.{HasTiles}
+use Rattle.hier_merge.specs.steps.Visits.{AreOfParts, set_tile, tiles_on}
 use Rattle.hier_merge.proofs.MeetingBoxes.{parts_of_tiles}
 use Rattle.hier_merge.proofs.NumberedParts.{stands_made}
-use Rattle.hier_merge.proofs.PlaneTiles.{set_on_plane}
-use Rattle.hier_merge.proofs.SortedTiles.{tile_on_plane}
+use Rattle.hier_merge.proofs.PlaneTiles.{from_tiles, on_tiles, set_on_plane}
 
 -- ---- types of tiles
 
@@ -97,15 +95,14 @@ module _ (raw : RawTech) (tiles : List PartTile) (plane : ℕ) where
   abbrev here : List SetTile
   here = tiles_on raw plane tiles
 
-  -- where a tile with a set covers a place its part has something
-  tile_makes : (place : ℕ) (square : Square) → place < length here → Covers (tile_at here place).area square → (tile_at here place).set.0 ≢ 0
-      → tile_part here plane (tile_at here place).part (on_plane plane square) ≢ 0
-  tile_makes place square below covers some empty =
-      let tile = tile_at here place in
-      some (same_sets tile.set.0 0
+  -- where a tile of the plane with a set covers a place its part has something
+  tile_makes : (tile : PartTile) (square : Square) → In tile tiles → tile.plane ≡ plane → Covers tile.area square → parts_of raw tile.kind.0 ≢ 0
+      → tile_part here plane tile.part (on_plane plane square) ≢ 0
+  tile_makes tile square listed on covers some empty =
+      some (same_sets (parts_of raw tile.kind.0) 0
       (λ i bit. subst (λ (s : ℕ). bit_at s i ≡ 1) empty (part_kept here plane tile.part (on_plane plane square) i (record {
-        tile = tile;
-        listed = In-tile_at here place below;
+        tile = set_tile raw tile;
+        listed = on_tiles raw plane tiles tile listed on;
         of_part = refl;
         same_plane = refl;
         covers = covers;
@@ -115,40 +112,56 @@ module _ (raw : RawTech) (tiles : List PartTile) (plane : ℕ) where
 
   -- where a part has something one of some tiles covers the place, if all that cover it are among these
   tile_there : (members : List ℕ) (part : ℕ) (square : Square)
-      → ((place : ℕ) → place < length here → Covers (tile_at here place).area square → In place members)
-      → tile_part here plane part (on_plane plane square) ≢ 0 → (member : ℕ) × In member members × ((tile_at here member).part ≡ part)
-  tile_there members part square all some = elim (search members) [
+      → ((number : ℕ) → In number members → (tile : PartTile) × (slice_get tiles number ≡ Some tile))
+      → ((number : ℕ) (tile : PartTile) → slice_get tiles number ≡ Some tile → tile.plane ≡ plane → Covers tile.area square → In number members)
+      → tile_part here plane part (on_plane plane square) ≢ 0
+      → (number : ℕ) × In number members × ((tile : PartTile) → slice_get tiles number ≡ Some tile → tile.part ≡ part)
+  tile_there members part square there all some = elim (search members there) [
     | inl found ↦ found
     | inr none ↦ absurd (some (same_sets (tile_part here plane part (on_plane plane square)) 0
         (λ i bit.
         let has = part_bit here plane part (on_plane plane square) i bit in
-        let at = In-index has.tile here has.listed in
-        let is : tile_at here at.0 ≡ has.tile = at.1.1 no_tile in
-        absurd (none at.0 (all at.0 at.1.0 (subst (λ (t : SetTile). Covers t.area square) (sym is) has.covers))
-        (ap (λ (t : SetTile). t.part) is ∙ has.of_part)))
+        let from = from_tiles raw plane tiles has.tile has.listed in
+        let at = slice_get-In from.0 tiles from.1.0 in
+        absurd (none at.0 from.0
+        (all at.0 from.0 at.1 from.2 (subst (λ (t : SetTile). Covers t.area square) (sym from.1.1) has.covers)) at.1
+        (ap (λ (t : SetTile). t.part) from.1.1 ∙ has.of_part)))
         (λ i bit. absurd (no_part i bit))))
   ]
     where
-      search : (list : List ℕ) → ((member : ℕ) × In member list × ((tile_at here member).part ≡ part))
-          ⊎ ((member : ℕ) → In member list → (tile_at here member).part ≡ part → ⊥)
-      search [] = inr (λ member among is. among)
-      search (member ∷ list) = elim (cases_eq (tile_at here member).part part) [
-        | inl same ↦ inl (member, inl refl, same)
-        | inr differ ↦ elim (search list) [
-          | inl found ↦ inl (found.0, inr found.1, found.2)
-          | inr none ↦ inr (λ other among is. elim among [
-            | inl first ↦ differ (ap (λ (m : ℕ). (tile_at here m).part) first ∙ is)
-            | inr later ↦ none other later is
-          ])
-        ]
-      ]
+      search : (list : List ℕ) → ((number : ℕ) → In number list → (tile : PartTile) × (slice_get tiles number ≡ Some tile))
+          → ((number : ℕ) × In number list × ((tile : PartTile) → slice_get tiles number ≡ Some tile → tile.part ≡ part))
+          ⊎ ((number : ℕ) (tile : PartTile) → In number list → slice_get tiles number ≡ Some tile → tile.part ≡ part → ⊥)
+      search [] at = inr (λ number tile among is same. among)
+      search (number ∷ list) at =
+          let here = at number (inl refl) in
+          elim (cases_eq here.0.part part) [
+            | inl same ↦ inl (
+              number,
+              inl refl,
+              (λ tile is. ap (λ (t : PartTile). t.part) (slice_get-one tiles number tile here.0 is here.1) ∙ same),
+            )
+            | inr differ ↦ elim (search list (λ other among. at other (inr among))) [
+              | inl found ↦ inl (found.0, inr found.1, found.2)
+              | inr none ↦ inr (λ other tile among is same. elim among [
+                | inl first ↦
+                    differ (ap (λ (t : PartTile). t.part) (slice_get-one tiles number here.0 tile here.1 (ap (slice_get tiles) first ∙ is)) ∙ same)
+                | inr later ↦ none other tile later is same
+              ])
+            ]
+          ]
 
 -- ---- pieces and the tiles that cover them
 
-module _ (raw : RawTech) (tree : CellTree) (formed : IsWellFormed raw) (typed : IsTyped raw tree) (tiles : List PartTile) (sorted : AreByPlane tiles)
+module _ (raw : RawTech) (tree : CellTree) (formed : IsWellFormed raw) (typed : IsTyped raw tree) (tiles : List PartTile)
     (are : All (IsPartTile tree) tiles) (count : ℕ) (of_parts : AreOfParts count tiles) (plane : ℕ) where
-  module _ (piece : TypedStack) (is : IsTypedStack raw (parts_of_tiles raw tiles count) plane piece) (members : HasMembers (tiles_on raw plane tiles) piece)
-      (starts : List ℕ) (start : slice_index starts plane ≡ tiles_before tiles plane) where
+  part_below : (tile : PartTile) → In tile tiles → tile.part < count
+  part_below tile listed = (All-In (λ (t : PartTile). (t.part < count) × IsNear t.area) tiles tile of_parts listed).0
+
+  type_of : (tile : PartTile) → In tile tiles → HasTileType raw tile
+  type_of tile listed = tile_type raw tree formed typed tile (All-In (IsPartTile tree) tiles tile are listed)
+
+  module _ (piece : TypedStack) (is : IsTypedStack raw (parts_of_tiles raw tiles count) plane piece) (has : HasTiles tiles 0 (length tiles) plane piece) where
     abbrev corner : Square
     corner = corner_of piece.area
 
@@ -159,77 +172,66 @@ module _ (raw : RawTech) (tree : CellTree) (formed : IsWellFormed raw) (typed : 
     kind_there part below = is.kinds corner corner_in part (set_of_tiles raw tiles part) (stands_made (set_of_tiles raw tiles) count part below)
 
     -- a member covers the piece, and its part has material there
-    covering : (member : ℕ) → In member piece.members → CoversPiece tiles starts (record { plane = plane; stack = piece }) member
-    covering member among =
-        let below = members.within member among in
-        let on = tile_on_plane raw tiles plane member sorted below in
-        let tile = on.tile in
-        let number = tiles_before tiles plane + member in
-        let listed : In tile tiles = In-slice_get tiles number tile on.there in
-        let type = tile_type raw tree formed typed tile (All-In (IsPartTile tree) tiles tile are listed) in
-        let part_below : tile.part < count = (All-In (λ (t : PartTile). (t.part < count) × IsNear t.area) tiles tile of_parts listed).0 in
+    covering : (number : ℕ) → In number piece.members → CoversPiece tiles (record { plane = plane; stack = piece }) number
+    covering number among =
+        let of = has.each number among in
+        let tile = of.tile in
+        let listed : In tile tiles = In-slice_get tiles number tile of.there in
         let some : tile_part (tiles_on raw plane tiles) plane tile.part (on_plane plane corner) ≢ 0 =
-        λ empty. tile_makes raw tiles plane member corner below (members.cover member among corner corner_in)
-        (λ none. type.some (sym (ap (λ (t : SetTile). t.set.0) on.is) ∙ none))
-        (ap (λ (t : SetTile). tile_part (tiles_on raw plane tiles) plane t.part (on_plane plane corner)) on.is ∙ empty) in
+        tile_makes raw tiles plane tile corner listed of.on (of.covers corner corner_in) (type_of tile listed).some in
         let kind : kind_in piece.kinds tile.part ≢ 0 =
         λ space. some (set_on_plane raw plane tiles tile.part (on_plane plane corner) refl
-        ∙ sym (joined-found raw plane (set_of_tiles raw tiles tile.part (on_plane plane corner)) 0 (kind_there tile.part part_below ∙ ap Some space)).0) in
+        ∙ sym (joined-found raw plane (set_of_tiles raw tiles tile.part (on_plane plane corner)) 0
+        (kind_there tile.part (part_below tile listed) ∙ ap Some space)).0) in
         let entry = kind_is_listed piece.kinds tile.part kind in
         record {
           tile = tile;
-          there = ap (λ (s : ℕ). slice_get tiles (s + member)) start ∙ on.there;
-          plane = on.on;
-          covers = λ square inside. subst (λ (t : SetTile). Covers t.area square) on.is (members.cover member among square inside);
+          there = of.there;
+          plane = of.on;
+          covers = of.covers;
           entry = entry.entry;
           listed = entry.listed;
           part = entry.is;
         }
 
-    pub covering_tiles : HasCoveringTiles tiles starts (record { plane = plane; stack = piece })
-    unfolding covering
+    pub covering_tiles : HasCoveringTiles tiles (record { plane = plane; stack = piece })
     covering_tiles = record {
-      some = members.some;
+      some = has.some;
       each = covering;
       every = λ entry listed.
-          let part_below : entry.part < count = omega (arith, is.within entry listed, length-map-range_with_len (set_of_tiles raw tiles) 0 count) in
+          let below : entry.part < count = omega (arith, is.within entry listed, length-map-range_with_len (set_of_tiles raw tiles) 0 count) in
           let kind : kind_in piece.kinds entry.part ≡ entry.kind.0 = kind_in-listed piece.kinds is.ordered entry listed in
           let some : tile_part (tiles_on raw plane tiles) plane entry.part (on_plane plane corner) ≢ 0 =
           λ empty. material_set raw plane (set_of_tiles raw tiles entry.part (on_plane plane corner)) (kind_in piece.kinds entry.part)
-          (kind_there entry.part part_below) (λ space. is.material entry listed (sym kind ∙ space))
+          (kind_there entry.part below) (λ space. is.material entry listed (sym kind ∙ space))
           (sym (set_on_plane raw plane tiles entry.part (on_plane plane corner) refl) ∙ empty) in
           let found = tile_there raw tiles plane piece.members entry.part corner
-          (λ place below covers. members.all place corner below corner_in covers) some in
+          (λ number among. let of = has.each number among in (of.tile, of.there))
+          (λ number tile there on covers.
+          has.all number tile corner (omega arith) (slice_get_within tiles number tile there) there on corner_in covers) some in
           let covers = covering found.0 found.1 in
-          let on = tile_on_plane raw tiles plane found.0 sorted (members.within found.0 found.1) in
-          (found.0, found.1, covers, ap (λ (t : SetTile). t.part) (sym on.is) ∙ found.2);
+          (found.0, found.1, covers, found.2 covers.tile covers.there);
     }
 
   -- a tile of the plane is a member of some piece of it
   pub tile_is_member : (found : List TypedStack) → AreTypedStacks raw (parts_of_tiles raw tiles count) plane found
-      → All (HasMembers (tiles_on raw plane tiles)) found → (place : ℕ) → place < length (tiles_on raw plane tiles)
-      → (piece : TypedStack) × In piece found × In place piece.members
-  tile_is_member found pieces members place below =
-      let on = tile_on_plane raw tiles plane place sorted below in
-      let tile = on.tile in
-      let number = tiles_before tiles plane + place in
-      let listed : In tile tiles = In-slice_get tiles number tile on.there in
+      → All (HasTiles tiles 0 (length tiles) plane) found → (number : ℕ) (tile : PartTile) → slice_get tiles number ≡ Some tile → tile.plane ≡ plane
+      → (piece : TypedStack) × In piece found × In number piece.members
+  tile_is_member found pieces have number tile there on =
+      let listed : In tile tiles = In-slice_get tiles number tile there in
       let part = All-In (IsPartTile tree) tiles tile are listed in
-      let type = tile_type raw tree formed typed tile part in
-      let part_below : tile.part < count = (All-In (λ (t : PartTile). (t.part < count) × IsNear t.area) tiles tile of_parts listed).0 in
       let square = corner_of tile.area in
-      let covers : Covers (tile_at (tiles_on raw plane tiles) place).area square =
-      subst (λ (t : SetTile). Covers t.area square) (sym on.is) (corner_covers tile.area square part.1.meets refl refl) in
+      let covers : Covers tile.area square = corner_covers tile.area square part.1.meets refl refl in
       let some : tile_part (tiles_on raw plane tiles) plane tile.part (on_plane plane square) ≢ 0 =
-      λ empty. tile_makes raw tiles plane place square below covers (λ none. type.some (sym (ap (λ (t : SetTile). t.set.0) on.is) ∙ none))
-      (ap (λ (t : SetTile). tile_part (tiles_on raw plane tiles) plane t.part (on_plane plane square)) on.is ∙ empty) in
+      tile_makes raw tiles plane tile square listed on covers (type_of tile listed).some in
       elim (piece_or_none found square) [
-        | inl there ↦
-            let has = All-In (HasMembers (tiles_on raw plane tiles)) found there.0 members there.1 in
-            (there.0, there.1, has.all place square below there.2 covers)
+        | inl over ↦
+            let has = All-In (HasTiles tiles 0 (length tiles) plane) found over.0 have over.1 in
+            (over.0, over.1, has.all number tile square (omega arith) (slice_get_within tiles number tile there) there on over.2 covers)
         | inr none ↦
             absurd (some (set_on_plane raw plane tiles tile.part (on_plane plane square) refl
-            ∙ pieces.outside square none tile.part (set_of_tiles raw tiles tile.part) (stands_made (set_of_tiles raw tiles) count tile.part part_below)))
+            ∙ pieces.outside square none tile.part (set_of_tiles raw tiles tile.part)
+            (stands_made (set_of_tiles raw tiles) count tile.part (part_below tile listed))))
       ]
     where
       piece_or_none : (list : List TypedStack) (square : Square) → ((piece : TypedStack) × In piece list × Covers piece.area square)

@@ -1,13 +1,14 @@
 -- Pieces of two lists of tiles that share no square are pieces of both lists together.
-use Rattle.std.proofs.Common.{◌≡◌, ◌≢◌, ◌⊎◌, ◌<◌, ℕ, List, [], ◌∷◌, ◌++◌, inl, inr, refl, sym, ap, subst, ◌∙◌, arith}
+use Rattle.std.proofs.Common.{◌≡◌, ◌≢◌, ◌⊎◌, ◌<◌, ℕ, List, [], ◌∷◌, ◌++◌, map, inl, inr, refl, sym, ap, subst, ◌∙◌, arith}
 use Rattle.std.specs.Prelude.{All, AllPairs, IsPermutation}
 use Rattle.std.specs.Int.{bit_at}
 use Rattle.std.specs.List.{range_with_len}
 use Rattle.std.proofs.lemmas.Bool.{cases_Bool, cases_eq, false≢true}
 use Rattle.std.proofs.lemmas.List.{map-append}
+use Rattle.std.proofs.lemmas.Simd.{map-map}
 use Rattle.std.proofs.lemmas.List.Sorted.{IsPermutation-sym}
 use Rattle.finite_sets.specs.Lists.{In}
-use Rattle.finite_sets.proofs.Members.{In-append_cases, In-append_left, In-append_right, In-map_source, In-permutation}
+use Rattle.finite_sets.proofs.Members.{In-append_cases, In-append_left, In-append_right, In-map, In-map_source, In-permutation}
 use Rattle.finite_sets.proofs.Pairs.{AllPairs-from_Pairwise, Pairwise-append, Pairwise-from_AllPairs}
 use Rattle.finite_sets.proofs.Searches.{All-from_In, All-In}
 use Rattle.geo_core.specs.declared.squares.Rect.{Rect}
@@ -26,7 +27,7 @@ use Rattle.offences.proofs.MemberLaws.{of_moved}
 use Rattle.offences.proofs.StackLaws.{In-tile_at}
 use Rattle.offences.proofs.TileLaws.{HasTile, at_part, length-parts, part_at, part_bit, part_kept}
 use Rattle.offences.proofs.UnionLaws.{no_part, same_sets}
-use Rattle.hier_merge.specs.Seams.{AreTilePieces, IsOnTile}
+use Rattle.hier_merge.specs.steps.Seams.{AreTilePieces, IsOnTile, renumbered}
 use Rattle.hier_merge.proofs.PartTypes.{space_is_defined}
 use Rattle.hier_merge.proofs.PlanePieceLaws.{union_made}
 use Rattle.hier_merge.proofs.PlaneTiles.{nothing_off_plane}
@@ -244,4 +245,33 @@ module _ (raw : RawTech) (plane : ℕ) where
           _,
           (In-permutation _ sorted tiles (IsPermutation-sym tiles sorted moved) tile, has.cover member.0 member.1 square covers),
         );
+  }
+
+  -- pieces with other members are pieces of the same tiles
+  pub pieces_renumbered : (tiles : List SetTile) (numbers : List ℕ) (found : List TypedStack) → AreTilePieces raw plane tiles found
+      → AreTilePieces raw plane tiles (map (renumbered numbers) found)
+  pieces_renumbered tiles numbers found are = record {
+    stand = λ count of_parts types.
+        let stand = are.stand count of_parts types in
+        record {
+          each = λ piece listed.
+              let source = In-map_source (renumbered numbers) piece found listed in
+              let is = stand.each source.0 source.1.0 in
+              subst (IsTypedStack raw (tile_parts tiles plane count) plane) source.1.1 (record {
+                proper = is.proper;
+                near = is.near;
+                ordered = is.ordered;
+                within = is.within;
+                material = is.material;
+                flat = is.flat;
+                kinds = is.kinds;
+                owner = is.owner;
+              });
+          apart = subst (AllPairs AreDisjoint) (sym (map-map (λ (s : TypedStack). s.area) (renumbered numbers) found)) stand.apart;
+          outside = λ square none. stand.outside square (λ piece listed covers.
+              none (renumbered numbers piece) (In-map (renumbered numbers) piece found listed) covers);
+        };
+    lie = λ piece listed square covers.
+        let source = In-map_source (renumbered numbers) piece found listed in
+        are.lie source.0 source.1.0 square (subst (λ (s : TypedStack). Covers s.area square) (sym source.1.1) covers);
   }

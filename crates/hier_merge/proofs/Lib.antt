@@ -8,12 +8,12 @@ mod MeetingPieceLaws
 mod MeetingSquares
 mod NearAreas
 mod NumberedParts
+mod NumberedTiles
 mod PartBoxLaws
 mod PartTypes
 mod PlanePieceLaws
 mod PlaneStrips
 mod PlaneTiles
 mod SeamLaws
-mod SortedTiles
 mod VisitLaws
 mod WorkLaws

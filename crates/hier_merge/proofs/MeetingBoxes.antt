@@ -23,7 +23,7 @@ use Rattle.hierarchy_model.specs.Restrictions.{HoldsMeetings, IsRestriction, Par
 use Rattle.cell_library.specs.declared.part_tiles.PartTile.{PartTile}
 use Rattle.cell_library.specs.ElementBoxes.{HoldParts}
 use Rattle.cell_library.specs.PartTiles.{set_of_tiles}
-use Rattle.hier_merge.specs.Visits.{AreVisits}
+use Rattle.hier_merge.specs.steps.Visits.{AreVisits}
 use Rattle.hier_merge.proofs.NumberedParts.{numbered, made_from}
 use Rattle.cell_library.proofs.PartLaws.{HasPartAt, HaveTwoBoxes, parts_have_boxes}
 use Rattle.hier_merge.proofs.VisitLaws.{in_union_or_not, visits_inside, visits_outside}

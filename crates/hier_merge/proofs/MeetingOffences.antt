@@ -22,10 +22,10 @@ use Rattle.hierarchy_model.specs.Restrictions.{IsRestriction}
 use Rattle.hierarchy_model.proofs.MeetingLaws.{meetings_decide, none_offends, offences_on_plane, AreAlikeAt}
 use Rattle.cell_library.specs.declared.part_tiles.PartTile.{PartTile}
 use Rattle.cell_library.specs.PartTiles.{set_of_tiles}
-use Rattle.hier_merge.specs.MeetingTiles.{AreMeetingTiles}
-use Rattle.hier_merge.specs.PlanePieces.{parts_of_plane}
+use Rattle.hier_merge.specs.steps.MeetingTiles.{AreMeetingTiles}
+use Rattle.hier_merge.specs.steps.PlanePieces.{parts_of_plane}
 use Rattle.hier_merge.specs.StripLists.{AreStripsByPlane}
-use Rattle.hier_merge.specs.Visits.{tiles_on, AreOfParts}
+use Rattle.hier_merge.specs.steps.Visits.{tiles_on, AreOfParts}
 use Rattle.hier_merge.proofs.MeetingBoxes.{meetings_held, parts_of_tiles, visits_restrict}
 use Rattle.hier_merge.proofs.NearAreas.{tiles_are_of_parts}
 use Rattle.hier_merge.proofs.NumberedParts.{made_from, stands_made}

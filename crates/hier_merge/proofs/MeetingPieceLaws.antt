@@ -1,6 +1,6 @@
 -- The pieces of all planes are those at which the parts of the cell meet, and tiles cover them.
 use Rattle.std.proofs.Common.{◌≡◌, ◌≤◌, ◌<◌, ◌+◌, ℕ, zero, suc, List, [], ◌∷◌, map, inl, inr, refl, sym, ap, subst, ◌∙◌, arith}
-use Rattle.std.specs.Prelude.{Some, slice_get, slice_index, AllPairs}
+use Rattle.std.specs.Prelude.{Some, slice_get, AllPairs}
 use Rattle.std.proofs.lemmas.Bool.{cases_eq, cases_lt}
 use Rattle.finite_sets.specs.Lists.{In}
 use Rattle.finite_sets.proofs.Members.{In-append_cases, In-append_left, In-append_right, In-map, In-map_source}
@@ -16,9 +16,9 @@ use Rattle.offences.specs.PlaneStacks.{ArePlaneStacks}
 use Rattle.offences.specs.SetTiles.{tile_parts}
 use Rattle.offences.specs.TypedStacks.{AreTypedStacks, typed_stack_areas}
 use Rattle.cell_library.specs.declared.part_tiles.PartTile.{PartTile}
-use Rattle.hier_merge.specs.PlanePieces.{ArePiecesFrom, HasPlanePieces, plane_stack, tiles_before}
+use Rattle.hier_merge.specs.steps.PlanePieces.{ArePiecesFrom, HasPlanePieces, plane_stack}
 use Rattle.hier_merge.specs.StripLists.{AreStripsFrom}
-use Rattle.hier_merge.specs.Visits.{AreOfParts, tiles_on}
+use Rattle.hier_merge.specs.steps.Visits.{AreOfParts, tiles_on}
 use Rattle.hier_merge.proofs.MeetingBoxes.{parts_of_tiles}
 use Rattle.hier_merge.proofs.PlanePieceLaws.{pieces_of_all}
 use Rattle.hier_merge.proofs.PlaneTiles.{parts_on_plane}
@@ -37,26 +37,25 @@ module _ (raw : RawTech) (tiles : List PartTile) (count : ℕ) (of_parts : AreOf
       pieces_of_all raw tiles count plane found (has.stand count (parts_on_plane raw plane count tiles of_parts) (types plane))
 
   -- the strips of all planes are those of what offends of all parts
-  pub strips_of_pieces : (plane n : ℕ) (starts : List ℕ) (stacks : List PlaneStack) (offending : List (ℕ × Rect))
-      → ArePiecesFrom raw tiles plane n starts stacks offending → AreStripsFrom (OffendsOn raw all_parts) plane n offending
-  strips_of_pieces plane zero starts stacks offending are = are.2
-  strips_of_pieces plane (suc n) starts stacks offending (found, strips, later, others, more, has, starts_are, stacks_are, strips_are, rest) =
-      (strips, more, strips_are, has.strips_are all_parts (plane_pieces plane found strips has), strips_of_pieces (suc plane) n later others more rest)
+  pub strips_of_pieces : (plane n : ℕ) (stacks : List PlaneStack) (offending : List (ℕ × Rect))
+      → ArePiecesFrom raw tiles plane n stacks offending → AreStripsFrom (OffendsOn raw all_parts) plane n offending
+  strips_of_pieces plane zero stacks offending are = are.1
+  strips_of_pieces plane (suc n) stacks offending (found, strips, others, more, has, stacks_are, strips_are, rest) =
+      (strips, more, strips_are, has.strips_are all_parts (plane_pieces plane found strips has), strips_of_pieces (suc plane) n others more rest)
 
   -- A piece that is found is of one of the planes, among the pieces of it.
-  pub record IsOfPlane (plane n : ℕ) (starts : List ℕ) (piece : PlaneStack) : Type 0 where
+  pub record IsOfPlane (plane n : ℕ) (piece : PlaneStack) : Type 0 where
     pub from : plane ≤ piece.plane
     pub below : piece.plane < plane + n
     pub found : List TypedStack
     pub strips : List Rect
     pub has : HasPlanePieces raw tiles piece.plane found strips
     pub listed : In piece.stack found
-    pub start : (offset : ℕ) → piece.plane ≡ plane + offset → slice_index starts offset ≡ tiles_before tiles piece.plane
 
-  pub piece_of_plane : (plane n : ℕ) (starts : List ℕ) (stacks : List PlaneStack) (offending : List (ℕ × Rect))
-      → ArePiecesFrom raw tiles plane n starts stacks offending → (piece : PlaneStack) → In piece stacks → IsOfPlane plane n starts piece
-  piece_of_plane plane zero starts stacks offending are piece among = absurd (subst (λ (all : List PlaneStack). In piece all) are.1 among)
-  piece_of_plane plane (suc n) starts stacks offending (found, strips, later, others, more, has, starts_are, stacks_are, strips_are, rest) piece among =
+  pub piece_of_plane : (plane n : ℕ) (stacks : List PlaneStack) (offending : List (ℕ × Rect))
+      → ArePiecesFrom raw tiles plane n stacks offending → (piece : PlaneStack) → In piece stacks → IsOfPlane plane n piece
+  piece_of_plane plane zero stacks offending are piece among = absurd (subst (λ (all : List PlaneStack). In piece all) are.0 among)
+  piece_of_plane plane (suc n) stacks offending (found, strips, others, more, has, stacks_are, strips_are, rest) piece among =
       elim (In-append_cases piece (map (plane_stack plane) found) others (subst (λ (all : List PlaneStack). In piece all) stacks_are among)) [
         | inl first ↦
             let source = In-map_source (plane_stack plane) piece found first in
@@ -68,12 +67,9 @@ module _ (raw : RawTech) (tiles : List PartTile) (count : ℕ) (of_parts : AreOf
               strips = strips;
               has = subst (λ (q : ℕ). HasPlanePieces raw tiles q found strips) same has;
               listed = subst (λ (s : TypedStack). In s found) (ap (λ (p : PlaneStack). p.stack) source.1.1) source.1.0;
-              start = λ offset at.
-                  let none : offset ≡ 0 = omega (arith, same, at) in
-                  ap (λ (k : ℕ). slice_index starts k) none ∙ ap (λ (all : List ℕ). slice_index all 0) starts_are ∙ ap (tiles_before tiles) same;
             }
         | inr second ↦
-            let of = piece_of_plane (suc plane) n later others more rest piece second in
+            let of = piece_of_plane (suc plane) n others more rest piece second in
             record {
               from = omega (arith, of.from);
               below = omega (arith, of.below);
@@ -81,24 +77,16 @@ module _ (raw : RawTech) (tiles : List PartTile) (count : ℕ) (of_parts : AreOf
               strips = of.strips;
               has = of.has;
               listed = of.listed;
-              start = λ offset at. next_start plane later starts starts_are piece offset (omega (arith, of.from)) at of.start;
             }
-      ] where
-        next_start : (p : ℕ) (rest_starts all_starts : List ℕ) → all_starts ≡ tiles_before tiles p ∷ rest_starts → (one : PlaneStack) (offset : ℕ)
-            → p < one.plane → one.plane ≡ p + offset
-            → ((k : ℕ) → one.plane ≡ suc p + k → slice_index rest_starts k ≡ tiles_before tiles one.plane)
-            → slice_index all_starts offset ≡ tiles_before tiles one.plane
-        next_start p rest_starts all_starts is one zero past at known = absurd (omega (arith, past, at))
-        next_start p rest_starts all_starts is one (suc k) past at known =
-            ap (λ (all : List ℕ). slice_index all (suc k)) is ∙ known k (omega (arith, at))
+      ]
 
   -- each piece of a plane is found
-  pub plane_is_found : (plane n : ℕ) (starts : List ℕ) (stacks : List PlaneStack) (offending : List (ℕ × Rect))
-      → ArePiecesFrom raw tiles plane n starts stacks offending → (other : ℕ) → plane ≤ other → other < plane + n
+  pub plane_is_found : (plane n : ℕ) (stacks : List PlaneStack) (offending : List (ℕ × Rect))
+      → ArePiecesFrom raw tiles plane n stacks offending → (other : ℕ) → plane ≤ other → other < plane + n
       → (found : List TypedStack) × (strips : List Rect) × HasPlanePieces raw tiles other found strips
       × ((stack : TypedStack) → In stack found → In (plane_stack other stack) stacks)
-  plane_is_found plane zero starts stacks offending are other from below = absurd (omega (arith, from, below))
-  plane_is_found plane (suc n) starts stacks offending (found, strips, later, others, more, has, starts_are, stacks_are, strips_are, rest) other from below =
+  plane_is_found plane zero stacks offending are other from below = absurd (omega (arith, from, below))
+  plane_is_found plane (suc n) stacks offending (found, strips, others, more, has, stacks_are, strips_are, rest) other from below =
       elim (cases_eq plane other) [
         | inl same ↦ (
           found,
@@ -109,7 +97,7 @@ module _ (raw : RawTech) (tiles : List PartTile) (count : ℕ) (of_parts : AreOf
               (subst (λ (q : ℕ). In (plane_stack q stack) (map (plane_stack plane) found)) same (In-map (plane_stack plane) stack found among))),
         )
         | inr differ ↦
-            let deeper = plane_is_found (suc plane) n later others more rest other (omega (arith, from, differ)) (omega (arith, below)) in (
+            let deeper = plane_is_found (suc plane) n others more rest other (omega (arith, from, differ)) (omega (arith, below)) in (
               deeper.0,
               deeper.1,
               deeper.2,
@@ -137,27 +125,27 @@ module _ (raw : RawTech) (tiles : List PartTile) (count : ℕ) (of_parts : AreOf
         go list pairs.1,
       )
 
-  in_order : (plane n : ℕ) (starts : List ℕ) (stacks : List PlaneStack) (offending : List (ℕ × Rect))
-      → ArePiecesFrom raw tiles plane n starts stacks offending
+  in_order : (plane n : ℕ) (stacks : List PlaneStack) (offending : List (ℕ × Rect))
+      → ArePiecesFrom raw tiles plane n stacks offending
       → Pairwise (λ (a b : PlaneStack). (a.plane ≤ b.plane) × (a.plane ≡ b.plane → AreDisjoint a.stack.area b.stack.area)) stacks
-  in_order plane zero starts stacks offending are =
-      subst (Pairwise (λ (a b : PlaneStack). (a.plane ≤ b.plane) × (a.plane ≡ b.plane → AreDisjoint a.stack.area b.stack.area))) (sym are.1) tt
-  in_order plane (suc n) starts stacks offending (found, strips, later, others, more, has, starts_are, stacks_are, strips_are, rest) =
+  in_order plane zero stacks offending are =
+      subst (Pairwise (λ (a b : PlaneStack). (a.plane ≤ b.plane) × (a.plane ≡ b.plane → AreDisjoint a.stack.area b.stack.area))) (sym are.0) tt
+  in_order plane (suc n) stacks offending (found, strips, others, more, has, stacks_are, strips_are, rest) =
       subst (Pairwise (λ (a b : PlaneStack). (a.plane ≤ b.plane) × (a.plane ≡ b.plane → AreDisjoint a.stack.area b.stack.area))) (sym stacks_are)
       (Pairwise-append (λ (a b : PlaneStack). (a.plane ≤ b.plane) × (a.plane ≡ b.plane → AreDisjoint a.stack.area b.stack.area))
       (map (plane_stack plane) found) others
       (of_one_plane plane found (plane_pieces plane found strips has).apart)
-      (in_order (suc plane) n later others more rest)
+      (in_order (suc plane) n others more rest)
       (λ a b first second.
       let source = In-map_source (plane_stack plane) a found first in
       let here : plane ≡ a.plane = ap (λ (p : PlaneStack). p.plane) source.1.1 in
-      let there = piece_of_plane (suc plane) n later others more rest b second in
+      let there = piece_of_plane (suc plane) n others more rest b second in
       (omega (arith, here, there.from), (λ same. absurd (omega (arith, here, there.from, same))))))
 
-  module _ (planes : ℕ) (starts : List ℕ) (stacks : List PlaneStack) (offending : List (ℕ × Rect))
-      (are : ArePiecesFrom raw tiles 0 planes starts stacks offending) where
+  module _ (planes : ℕ) (stacks : List PlaneStack) (offending : List (ℕ × Rect))
+      (are : ArePiecesFrom raw tiles 0 planes stacks offending) where
     pub by_plane : AllPairs (λ a b. a.plane ≤ b.plane) stacks
-    by_plane = AllPairs-from_Pairwise (λ (a b : PlaneStack). a.plane ≤ b.plane) stacks (first_of stacks (in_order 0 planes starts stacks offending are))
+    by_plane = AllPairs-from_Pairwise (λ (a b : PlaneStack). a.plane ≤ b.plane) stacks (first_of stacks (in_order 0 planes stacks offending are))
       where
         first_of : (list : List PlaneStack)
             → Pairwise (λ (a b : PlaneStack). (a.plane ≤ b.plane) × (a.plane ≡ b.plane → AreDisjoint a.stack.area b.stack.area)) list
@@ -167,7 +155,7 @@ module _ (raw : RawTech) (tiles : List PartTile) (count : ℕ) (of_parts : AreOf
 
     apart : AllPairs (λ a b. a.plane ≡ b.plane → AreDisjoint a.stack.area b.stack.area) stacks
     apart = AllPairs-from_Pairwise (λ (a b : PlaneStack). a.plane ≡ b.plane → AreDisjoint a.stack.area b.stack.area) stacks
-        (second_of stacks (in_order 0 planes starts stacks offending are))
+        (second_of stacks (in_order 0 planes stacks offending are))
       where
         second_of : (list : List PlaneStack)
             → Pairwise (λ (a b : PlaneStack). (a.plane ≤ b.plane) × (a.plane ≡ b.plane → AreDisjoint a.stack.area b.stack.area)) list
@@ -180,13 +168,13 @@ module _ (raw : RawTech) (tiles : List PartTile) (count : ℕ) (of_parts : AreOf
         → ArePlaneStacks raw all_parts stacks
     all_pieces past = record {
       each = λ piece among.
-          let of = piece_of_plane 0 planes starts stacks offending are piece among in
+          let of = piece_of_plane 0 planes stacks offending are piece among in
           (plane_pieces piece.plane of.found of.strips of.has).each piece.stack of.listed;
       apart = apart;
       outside = λ place none position part there. elim (cases_lt place.plane planes) [
         | inr beyond ↦ past place (omega (arith, beyond)) position part there
         | inl below ↦
-            let found = plane_is_found 0 planes starts stacks offending are place.plane (omega arith) (omega (arith, below)) in
+            let found = plane_is_found 0 planes stacks offending are place.plane (omega arith) (omega (arith, below)) in
             (plane_pieces place.plane found.0 found.1 found.2).outside place.square
             (λ stack among covers. none (plane_stack place.plane stack) (found.3 stack among) refl covers) position part there
       ];

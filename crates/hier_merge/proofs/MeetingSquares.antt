@@ -28,7 +28,7 @@ use Rattle.cell_library.specs.declared.part_tiles.PartTile.{PartTile}
 use Rattle.cell_library.specs.ElementBoxes.{HoldParts}
 use Rattle.cell_library.specs.PartTiles.{set_from, set_of_tiles}
 use Rattle.cell_library.proofs.PartLaws.{parts_have_boxes}
-use Rattle.hier_merge.specs.MeetingTiles.{AreMeetingTiles}
+use Rattle.hier_merge.specs.steps.MeetingTiles.{AreMeetingTiles}
 use Rattle.hier_merge.proofs.NumberedParts.{numbered}
 use Rattle.hier_merge.proofs.MeetingBoxes.{both_share, has_part, meetings_held, of_strips, parts_of_tiles, visits_restrict}
 

@@ -19,7 +19,7 @@ use Rattle.layout_model.specs.FlatSets.{parts_in}
 use Rattle.cell_tree.specs.Hulls.{IsLawfulBox}
 use Rattle.cell_library.specs.declared.part_tiles.PartTile.{PartTile}
 use Rattle.cell_library.specs.PartTiles.{IsPartTileIn}
-use Rattle.hier_merge.specs.Visits.{AreOfParts, AreVisits}
+use Rattle.hier_merge.specs.steps.Visits.{AreOfParts, AreVisits}
 use Rattle.cell_library.proofs.PartLaws.{part_is_there}
 
 -- the range of paint, and one square more on every side

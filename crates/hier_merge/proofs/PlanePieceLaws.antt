@@ -17,8 +17,8 @@ use Rattle.offences.specs.SetTiles.{tile_part, tile_parts}
 use Rattle.offences.specs.TypedStacks.{AreTypedStacks, IsTypedStack, on_plane}
 use Rattle.cell_library.specs.declared.part_tiles.PartTile.{PartTile}
 use Rattle.cell_library.specs.PartTiles.{set_of_tiles}
-use Rattle.hier_merge.specs.PlanePieces.{AddsPlane, ArePiecesFrom, HasPlanePieces, plane_stack, tiles_before}
-use Rattle.hier_merge.specs.Visits.{tiles_on}
+use Rattle.hier_merge.specs.steps.PlanePieces.{AddsPlane, ArePiecesFrom, HasPlanePieces, plane_stack}
+use Rattle.hier_merge.specs.steps.Visits.{tiles_on}
 use Rattle.hier_merge.specs.declared.meetings.Pieces.{Pieces}
 use Rattle.hier_merge.proofs.MeetingBoxes.{parts_of_tiles}
 use Rattle.hier_merge.proofs.NumberedParts.{made_from, stands_made}
@@ -27,52 +27,48 @@ use Rattle.hier_merge.proofs.PlaneTiles.{set_on_plane}
 -- ---- one plane more
 
 -- pieces of one plane more, which are found behind those of the planes before
-pub plane_added : (raw : RawTech) (tiles : List PartTile) (last start : ℕ) (found : List TypedStack) (strips : List Rect)
-    → HasPlanePieces raw tiles last found strips → start ≡ tiles_before tiles last
-    → (plane count : ℕ) (starts : List ℕ) (stacks : List PlaneStack) (offending : List (ℕ × Rect)) → last ≡ plane + count
-    → ArePiecesFrom raw tiles plane count starts stacks offending
-    → ArePiecesFrom raw tiles plane (suc count) (starts ++ start ∷ []) (stacks ++ map (plane_stack last) found)
+pub plane_added : (raw : RawTech) (tiles : List PartTile) (last : ℕ) (found : List TypedStack) (strips : List Rect)
+    → HasPlanePieces raw tiles last found strips
+    → (plane count : ℕ) (stacks : List PlaneStack) (offending : List (ℕ × Rect)) → last ≡ plane + count
+    → ArePiecesFrom raw tiles plane count stacks offending
+    → ArePiecesFrom raw tiles plane (suc count) (stacks ++ map (plane_stack last) found)
     (offending ++ map (λ (area : Rect). (last, area)) strips)
-plane_added raw tiles last start found strips has begins plane zero starts stacks offending here (no_starts, no_stacks, no_strips) =
+plane_added raw tiles last found strips has plane zero stacks offending here (no_stacks, no_strips) =
     let same : last ≡ plane = omega (arith, here) in (
       found,
       strips,
       [],
       [],
-      [],
       subst (λ (q : ℕ). HasPlanePieces raw tiles q found strips) same has,
-      ap (λ (xs : List ℕ). xs ++ start ∷ []) no_starts ∙ ap (λ (n : ℕ). n ∷ []) (begins ∙ ap (tiles_before tiles) same),
       ap (λ (xs : List PlaneStack). xs ++ map (plane_stack last) found) no_stacks
           ∙ ap (λ (q : ℕ). map (plane_stack q) found) same
           ∙ sym (append-nil (map (plane_stack plane) found)),
       ap (λ (xs : List (ℕ × Rect)). xs ++ map (λ (area : Rect). (last, area)) strips) no_strips
           ∙ ap (λ (q : ℕ). map (λ (area : Rect). (q, area)) strips) same
           ∙ sym (append-nil (map (λ (area : Rect). (plane, area)) strips)),
-      (refl, refl, refl),
+      (refl, refl),
     )
-plane_added raw tiles last start found strips has begins plane (suc count) starts stacks offending here
-    (first, others, later, rest, more, first_has, starts_are, stacks_are, strips_are, from_next) = (
+plane_added raw tiles last found strips has plane (suc count) stacks offending here
+    (first, others, rest, more, first_has, stacks_are, strips_are, from_next) = (
       first,
       others,
-      later ++ start ∷ [],
       rest ++ map (plane_stack last) found,
       more ++ map (λ (area : Rect). (last, area)) strips,
       first_has,
-      ap (λ (xs : List ℕ). xs ++ start ∷ []) starts_are,
       ap (λ (xs : List PlaneStack). xs ++ map (plane_stack last) found) stacks_are
           ∙ append_assoc (map (plane_stack plane) first) rest (map (plane_stack last) found),
       ap (λ (xs : List (ℕ × Rect)). xs ++ map (λ (area : Rect). (last, area)) strips) strips_are
           ∙ append_assoc (map (λ (area : Rect). (plane, area)) others) more (map (λ (area : Rect). (last, area)) strips),
-      plane_added raw tiles last start found strips has begins (suc plane) count later rest more (omega (arith, here)) from_next,
+      plane_added raw tiles last found strips has (suc plane) count rest more (omega (arith, here)) from_next,
     )
 
 -- the same of the lists that are kept
-pub pieces_more : (raw : RawTech) (tiles : List PartTile) (count start : ℕ) (old new : Pieces) → start ≡ tiles_before tiles count
-    → ArePiecesFrom raw tiles 0 count old.starts.items old.stacks.items old.offending.items → AddsPlane raw tiles count start old new
-    → ArePiecesFrom raw tiles 0 (suc count) new.starts.items new.stacks.items new.offending.items
-pieces_more raw tiles count start old new begins are adds =
-    rw (adds.starts, adds.stacks, adds.offending)
-    (plane_added raw tiles count start adds.found adds.strips adds.has begins 0 count old.starts.items old.stacks.items old.offending.items (omega arith) are)
+pub pieces_more : (raw : RawTech) (tiles : List PartTile) (count : ℕ) (old new : Pieces)
+    → ArePiecesFrom raw tiles 0 count old.stacks.items old.offending.items → AddsPlane raw tiles count old new
+    → ArePiecesFrom raw tiles 0 (suc count) new.stacks.items new.offending.items
+pieces_more raw tiles count old new are adds =
+    rw (adds.stacks, adds.offending)
+    (plane_added raw tiles count adds.found adds.strips adds.has 0 count old.stacks.items old.offending.items (omega arith) are)
 
 -- ---- what all tiles make
 

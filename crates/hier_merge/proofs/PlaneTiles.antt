@@ -2,7 +2,7 @@
 use Rattle.std.proofs.Common.{◌≡◌, ◌≢◌, ◌&&◌, ◌<◌, ℕ, Bool, true, false, cond, bit_or, List, [], ◌∷◌, inl, inr, refl, sym, ap, subst, ◌∙◌}
 use Rattle.std.proofs.Common.{eqb-true, ne_eqb}
 use Rattle.std.specs.Prelude.{◌==◌}
-use Rattle.std.proofs.lemmas.Bool.{cases_Bool, eqb-false}
+use Rattle.std.proofs.lemmas.Bool.{cases_Bool, eq-eqb, eqb-false}
 use Rattle.finite_sets.specs.Lists.{In}
 use Rattle.finite_sets.proofs.Searches.{All-from_In, All-In}
 use Rattle.geo_core.specs.Covering.{is_covered}
@@ -15,21 +15,41 @@ use Rattle.offences.specs.declared.set_tiles.SetTile.{SetTile}
 use Rattle.offences.specs.SetTiles.{tile_part, AreTilesOfParts, set_of_set_tile}
 use Rattle.cell_library.specs.declared.part_tiles.PartTile.{PartTile}
 use Rattle.cell_library.specs.PartTiles.{set_from, set_of_tiles}
-use Rattle.hier_merge.specs.Visits.{AreOfParts, set_tile, tiles_on}
+use Rattle.hier_merge.specs.steps.Visits.{AreOfParts, set_tile, tiles_on}
 
--- each tile of the plane is one of the tiles
+-- each tile of the plane is one of the tiles, and lies on the plane
 pub from_tiles : (raw : RawTech) (plane : ℕ) (tiles : List PartTile) (found : SetTile) → In found (tiles_on raw plane tiles)
-    → (tile : PartTile) × (In tile tiles × (set_tile raw tile ≡ found))
+    → (tile : PartTile) × (In tile tiles × (set_tile raw tile ≡ found)) × (tile.plane ≡ plane)
 from_tiles raw plane [] found among = absurd among
 from_tiles raw plane (tile ∷ tiles) found among =
-    let more : In found (tiles_on raw plane tiles) → (t : PartTile) × (In t (tile ∷ tiles) × (set_tile raw t ≡ found)) =
-    λ later. let source = from_tiles raw plane tiles found later in (source.0, (inr source.1.0, source.1.1)) in
+    let more : In found (tiles_on raw plane tiles) → (t : PartTile) × (In t (tile ∷ tiles) × (set_tile raw t ≡ found)) × (t.plane ≡ plane) =
+    λ later. let source = from_tiles raw plane tiles found later in (source.0, (inr source.1.0, source.1.1), source.2) in
     let rest = tiles_on raw plane tiles in
     let chosen : (b : Bool) → (tile.plane == plane) ≡ b → In found (cond b (set_tile raw tile ∷ rest) rest) =
     λ b is. subst (λ (t : Bool). In found (cond t (set_tile raw tile ∷ rest) rest)) is among in
     elim (cases_Bool (tile.plane == plane)) [
-      | inl on ↦ elim (chosen true on) [ inl same ↦ (tile, (inl refl, same)) | inr later ↦ more later ]
+      | inl on ↦ elim (chosen true on) [ inl same ↦ (tile, (inl refl, same), eqb-true tile.plane plane on) | inr later ↦ more later ]
       | inr off ↦ more (chosen false off)
+    ]
+
+-- and each of the tiles that lies on the plane is one of them
+pub on_tiles : (raw : RawTech) (plane : ℕ) (tiles : List PartTile) (tile : PartTile) → In tile tiles → tile.plane ≡ plane
+    → In (set_tile raw tile) (tiles_on raw plane tiles)
+on_tiles raw plane [] tile among on = absurd among
+on_tiles raw plane (first ∷ tiles) tile among on =
+    let rest = tiles_on raw plane tiles in
+    let chosen : (b : Bool) → (first.plane == plane) ≡ b → In (set_tile raw tile) (cond b (set_tile raw first ∷ rest) rest)
+    → In (set_tile raw tile) (tiles_on raw plane (first ∷ tiles)) =
+    λ b is there. subst (λ (t : Bool). In (set_tile raw tile) (cond t (set_tile raw first ∷ rest) rest)) (sym is) there in
+    elim among [
+      | inl same ↦
+          chosen true (eq-eqb first.plane plane (ap (λ (t : PartTile). t.plane) same ∙ on)) (inl (ap (set_tile raw) same))
+      | inr later ↦
+          let further = on_tiles raw plane tiles tile later on in
+          elim (cases_Bool (first.plane == plane)) [
+            | inl here ↦ chosen true here (inr further)
+            | inr elsewhere ↦ chosen false elsewhere further
+          ]
     ]
 
 -- tiles of parts make tiles of parts on a plane

@@ -22,12 +22,13 @@ use Rattle.offences.specs.declared.set_tiles.SetTile.{SetTile}
 use Rattle.cell_library.specs.declared.part_tiles.PartTile.{PartTile}
 use Rattle.cell_library.specs.PartTiles.{IsPartTileIn}
 use Rattle.offences.specs.declared.stacks.TypedStack.{TypedStack}
-use Rattle.offences.specs.TypedStacks.{AreTypedStacks}
-use Rattle.hier_merge.specs.PlanePieces.{HaveTypedParts, parts_of_plane}
-use Rattle.hier_merge.specs.Seams.{AddsPieces, AreTilePieces, AreSeams, IsSeam}
-use Rattle.hier_merge.specs.Visits.{AreVisits, IsVisit, set_tile, tiles_on}
+use Rattle.offences.specs.TypedStacks.{AreTypedStacks, StandForTiles}
+use Rattle.hier_merge.specs.steps.PlanePieces.{HasTiles, HaveTypedParts, parts_of_plane}
+use Rattle.hier_merge.specs.steps.Seams.{AddsPieces, AreTilePieces, AreSeams, IsSeam}
+use Rattle.hier_merge.specs.steps.Visits.{AreVisits, IsVisit, set_tile, tiles_on}
 use Rattle.hier_merge.proofs.JoinedPieces.{pieces_joined}
 use Rattle.hier_merge.proofs.NearAreas.{in_some_area}
+use Rattle.hier_merge.proofs.NumberedTiles.{tiles_before_seam, tiles_behind_seam}
 use Rattle.hier_merge.proofs.PlaneTiles.{from_tiles, parts_on_plane}
 use Rattle.hier_merge.proofs.VisitLaws.{visit_inside}
 
@@ -160,45 +161,47 @@ on_apart raw plane xs ys apart a b i j =
     subst (λ (r : Rect). AreDisjoint r b.area) (ap (λ (t : SetTile). t.area) p.1.1)
     (subst (λ (r : Rect). AreDisjoint p.0.area r) (ap (λ (t : SetTile). t.area) q.1.1) (apart p.0 q.0 p.1.0 q.1.0))
 
--- the tiles of a plane are near where all are
-pub near_on_plane : (raw : RawTech) (plane : ℕ) (tiles : List PartTile) → All (λ (tile : PartTile). IsNear tile.area) tiles
-    → All (λ (tile : SetTile). IsNear tile.area) (tiles_on raw plane tiles)
-near_on_plane raw plane tiles near = All-from_In (λ (tile : SetTile). IsNear tile.area) (tiles_on raw plane tiles) (λ tile among.
-    let source = from_tiles raw plane tiles tile among in
-    subst (λ (t : SetTile). IsNear t.area) source.1.1 (All-In (λ (t : PartTile). IsNear t.area) tiles source.0 near source.1.0))
-
 -- the pieces of tiles before a seam and those of tiles behind it
-both_pieces : (raw : RawTech) (plane : ℕ) (xs ys zs : List PartTile) (old new : List TypedStack) → xs ++ ys ≡ zs → LieApart xs ys
-    → AreTilePieces raw plane (tiles_on raw plane xs) old → AddsPieces raw plane (tiles_on raw plane ys) old new
+both_pieces : (raw : RawTech) (plane : ℕ) (xs ys zs : List PartTile) (old found new : List TypedStack) → xs ++ ys ≡ zs → LieApart xs ys
+    → AreTilePieces raw plane (tiles_on raw plane xs) old → new ≡ old ++ found → AreTilePieces raw plane (tiles_on raw plane ys) found
     → AreTilePieces raw plane (tiles_on raw plane zs) new
-both_pieces raw plane xs ys zs old new both apart are adds =
-    let found = adds.0 in
+both_pieces raw plane xs ys zs old found new both apart are added more =
     subst (λ (tiles : List PartTile). AreTilePieces raw plane (tiles_on raw plane tiles) new) both
     (subst (λ (tiles : List SetTile). AreTilePieces raw plane tiles new) (sym (on_append raw plane xs ys))
-    (subst (AreTilePieces raw plane (tiles_on raw plane xs ++ tiles_on raw plane ys)) (sym adds.1.0)
-    (pieces_joined raw plane (tiles_on raw plane xs) (tiles_on raw plane ys) (on_apart raw plane xs ys apart) old found are adds.1.1)))
+    (subst (AreTilePieces raw plane (tiles_on raw plane xs ++ tiles_on raw plane ys)) (sym added)
+    (pieces_joined raw plane (tiles_on raw plane xs) (tiles_on raw plane ys) (on_apart raw plane xs ys apart) old found are more)))
 
 -- pieces up to the next seam
 pub pieces_to_seam : (raw : RawTech) (plane : ℕ) (tiles : List PartTile) (start next : ℕ) (old new : List TypedStack) → IsSeam tiles start → start ≤ next
-    → AreTilePieces raw plane (tiles_on raw plane (take start tiles)) old
-    → AddsPieces raw plane (tiles_on raw plane (take (next - start) (drop start tiles))) old new
+    → AreTilePieces raw plane (tiles_on raw plane (take start tiles)) old → AddsPieces raw tiles start next plane old new
     → AreTilePieces raw plane (tiles_on raw plane (take next tiles)) new
 pieces_to_seam raw plane tiles start next old new seam order are adds =
     let whole : start + (next - start) ≡ next = omega (arith, order) in
-    both_pieces raw plane (take start tiles) (take (next - start) (drop start tiles)) (take next tiles) old new
+    both_pieces raw plane (take start tiles) (take (next - start) (drop start tiles)) (take next tiles) old adds.found new
     (sym (take_both start (next - start) tiles) ∙ ap (λ (n : ℕ). take n tiles) whole)
-    (λ one other first second. seam.apart one other first (In-take (next - start) (drop start tiles) other second)) are adds
+    (λ one other first second. seam.apart one other first (In-take (next - start) (drop start tiles) other second)) are adds.added adds.are
 
--- the pieces up to the end are those of all tiles, and of the parts that these make where they have types
-pub pieces_to_end : (raw : RawTech) (plane : ℕ) (tiles : List PartTile) (start : ℕ) (old new all : List TypedStack) → IsSeam tiles start
-    → AreTilePieces raw plane (tiles_on raw plane (take start tiles)) old
-    → AddsPieces raw plane (tiles_on raw plane (take (length tiles - start) (drop start tiles))) old new → all ≡ new
-    → (typed : HaveTypedParts raw tiles) → AreTypedStacks raw (parts_of_plane raw tiles typed.count plane) plane all
-pieces_to_end raw plane tiles start old new all seam are adds is typed =
-    let pieces = pieces_to_seam raw plane tiles start (length tiles) old new seam seam.within are adds in
-    subst (AreTypedStacks raw (parts_of_plane raw tiles typed.count plane) plane) (sym is)
-    ((subst (λ (t : List PartTile). AreTilePieces raw plane (tiles_on raw plane t) new) (take-length tiles) pieces).stand typed.count
-    (parts_on_plane raw plane typed.count tiles typed.of_parts) (typed.types plane))
+-- and the tiles that cover them
+pub tiles_to_seam : (raw : RawTech) (plane : ℕ) (tiles : List PartTile) (start next : ℕ) (old new : List TypedStack) → IsSeam tiles start → start ≤ next
+    → All (HasTiles tiles 0 start plane) old → AddsPieces raw tiles start next plane old new → All (HasTiles tiles 0 next plane) new
+tiles_to_seam raw plane tiles start next old new seam order have adds = All-from_In (HasTiles tiles 0 next plane) new (λ piece among.
+    elim (In-append_cases piece old adds.found (subst (λ (all : List TypedStack). In piece all) adds.added among)) [
+      | inl before ↦ tiles_before_seam tiles start next plane piece seam order (All-In (HasTiles tiles 0 start plane) old piece have before)
+      | inr behind ↦ tiles_behind_seam tiles start next plane piece seam (All-In (HasTiles tiles start next plane) adds.found piece adds.have behind)
+    ])
+
+-- the pieces up to the end are those of all tiles
+pub pieces_to_end : (raw : RawTech) (plane : ℕ) (tiles : List PartTile) (start : ℕ) (old new : List TypedStack) → IsSeam tiles start
+    → AreTilePieces raw plane (tiles_on raw plane (take start tiles)) old → AddsPieces raw tiles start (length tiles) plane old new
+    → AreTilePieces raw plane (tiles_on raw plane tiles) new
+pieces_to_end raw plane tiles start old new seam are adds =
+    subst (λ (t : List PartTile). AreTilePieces raw plane (tiles_on raw plane t) new) (take-length tiles)
+    (pieces_to_seam raw plane tiles start (length tiles) old new seam seam.within are adds)
+
+-- where what the tiles make has types, pieces of them are pieces of these parts
+pub typed_pieces : (raw : RawTech) (plane : ℕ) (tiles : List PartTile) (found : List TypedStack) → StandForTiles raw plane (tiles_on raw plane tiles) found
+    → (typed : HaveTypedParts raw tiles) → AreTypedStacks raw (parts_of_plane raw tiles typed.count plane) plane found
+typed_pieces raw plane tiles found stand typed = stand typed.count (parts_on_plane raw plane typed.count tiles typed.of_parts) (typed.types plane)
 
 -- the beginning is a seam
 pub seam_at_start : (tiles : List PartTile) → IsSeam tiles 0

@@ -21,7 +21,7 @@ use Rattle.layout_model.proofs.SetUnions.{none_union, union_assoc, union_none, u
 use Rattle.cell_library.specs.declared.part_tiles.PartTile.{PartTile}
 use Rattle.cell_library.specs.PartTiles.{IsPartTileIn, set_from, set_of_part, set_of_tiles}
 use Rattle.hier_merge.specs.Interactions.{IsWorkOver}
-use Rattle.hier_merge.specs.Visits.{AreVisits, IsVisit}
+use Rattle.hier_merge.specs.steps.Visits.{AreVisits, IsVisit}
 
 -- ---- unions over lists of tiles
 

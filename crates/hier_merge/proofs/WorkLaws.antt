@@ -18,7 +18,7 @@ use Rattle.cell_library.specs.LayoutTrees.{tree_at}
 use Rattle.cell_library.specs.Libraries.{IsLawfulLibrary, LibraryParts, seen}
 use Rattle.cell_library.specs.Views.{view_at}
 use Rattle.hier_merge.specs.Interactions.{ArePartBoxes, IsInteraction, IsWork, IsWorkOver, PaintBoxIs}
-use Rattle.hier_merge.specs.Visits.{AreVisits}
+use Rattle.hier_merge.specs.steps.Visits.{AreVisits}
 use Rattle.cell_library.proofs.PartLaws.{one_list_of_boxes}
 
 -- a layout has one box of paint, or none

@@ -8,9 +8,9 @@ ghost use Rattle.cell_library.specs.Libraries.{seen};
 ghost use Rattle.cell_library.specs.LayoutTrees.{tree_at};
 ghost use Rattle.cell_library.specs.ElementBoxes.{HoldParts};
 ghost use Rattle.hier_merge.specs.Interactions.{ArePartBoxes, IsWork, IsWorkOver};
-ghost use Rattle.hier_merge.specs.MeetingTiles.{AreMeetingTiles};
-ghost use Rattle.hier_merge.specs.Seams.{AreSeams};
-ghost use Rattle.hier_merge.specs.Visits.{AreVisits};
+ghost use Rattle.hier_merge.specs.steps.MeetingTiles.{AreMeetingTiles};
+ghost use Rattle.hier_merge.specs.steps.Seams.{AreSeams};
+ghost use Rattle.hier_merge.specs.steps.Visits.{AreVisits};
 
 use cell_library::{Opened, PartTile, Reader};
 use ext_model::CellKey;

@@ -1,11 +1,12 @@
 //! The pieces at which the parts of a cell meet.
-ghost use Rattle.std.specs.Prelude.{◌≡◌, ◌↔◌, ◌≤◌, ◌+◌, ◌++◌, ◌∷◌, ◌<◌, ◌^◌, ℕ, [], map, IfOk, IsPermutation, OnOk, length};
+ghost use Rattle.std.specs.Prelude.{◌≡◌, ◌↔◌, ◌≤◌, ◌+◌, ◌++◌, ◌<◌, ◌^◌, ℕ, [], map, IfOk, OnOk, length};
 ghost use Rattle.hierarchy_model.specs.CleanCells.{IsCleanBelow};
 ghost use Rattle.cell_library.specs.Libraries.{seen};
 ghost use Rattle.cell_library.specs.LayoutTrees.{tree_at};
 ghost use Rattle.hier_merge.specs.Interactions.{IsWork};
 ghost use Rattle.hier_merge.specs.MeetingPieces.{AreMeetingPieces};
-ghost use Rattle.hier_merge.specs.PlanePieces.{AddsPlane, AreByPlane, ArePlanePieces, HaveTypedParts, plane_stack, tiles_before};
+ghost use Rattle.hier_merge.specs.steps.PlanePieces.{AddsPlane, ArePlanePieces, HaveTypedParts, plane_stack};
+ghost use Rattle.hier_merge.specs.steps.Seams.{AreSeams};
 ghost use Rattle.hier_merge.specs.UncleanCells.{AreOffendingOf, IsCleanCell};
 
 use crate::interactions::{VisitedTiles, meeting_tiles};
@@ -18,13 +19,11 @@ use std::alloc::{AllocError, Global};
 use std::sync::ledger::Ledger;
 use tech_model::Tech;
 
-/// The tiles of the parts of a cell where they interact, by plane and part, and the pieces that they make.
+/// The tiles of the parts of a cell where they interact, and the pieces that they make.
 #[derive(Drop)]
 pub struct Meeting {
     pub tiles: Vec<PartTile>,
-    /// For each plane the number of its first tile.
-    pub starts: Vec<usize>,
-    /// By plane. The members of a piece are numbers of tiles of its plane, counted from the first of these.
+    /// By plane. The members of a piece are numbers of tiles.
     pub stacks: Vec<PlaneStack>,
     /// The strips of the squares that offend, by plane.
     pub offending: Vec<(u8, Rect)>,
@@ -33,7 +32,6 @@ pub struct Meeting {
 /// The pieces of planes, and what offends of them.
 #[derive(Drop)]
 pub struct Pieces {
-    pub starts: Vec<usize>,
     pub stacks: Vec<PlaneStack>,
     pub offending: Vec<(u8, Rect)>,
 }
@@ -50,7 +48,7 @@ pub fn meeting_of<L: Ledger>(
     requires cell { cell.0 < length library.now.contents }
     requires clean { IsCleanBelow library.now.tech (tree_at (seen library.now) cell.0) }
     ensures pieces { IfOk result (λ found. AreMeetingPieces library.now.tech (tree_at (seen library.now) cell.0)
-        found.tiles.items found.starts.items found.stacks.items) }
+        found.tiles.items found.stacks.items) }
     ensures squares { IfOk result (λ found. AreOffendingOf (seen library.now) cell.0 found.offending.items) }
     ensures clean { IfOk result (λ found. (found.offending.items ≡ []) ↔ IsCleanCell (seen library.now) cell.0) }
     ensures counted { IfOk result (λ found. steps.new ≡ steps.old + (length found.tiles.items + 1)) }
@@ -59,89 +57,60 @@ pub fn meeting_of<L: Ledger>(
 {
     library.lawful();
     library.typed(cell);
-    let VisitedTiles { mut tiles, .. } = meeting_tiles(alloc, library, cell, steps)?;
-    sort_tiles(&mut tiles)?;
-    let Pieces {
-        starts,
-        stacks,
-        offending,
-    } = pieces_of(alloc, library.tech(), tiles.as_slice())?;
+    let VisitedTiles { tiles, seams } = meeting_tiles(alloc, library, cell, steps)?;
+    let Pieces { stacks, offending } = pieces_of(
+        alloc,
+        library.tech(),
+        tiles.as_slice(),
+        seams.as_slice(),
+    )?;
     Ok(Meeting {
         tiles,
-        starts,
         stacks,
         offending,
     })
 }
 
-// Puts the tiles in the order of planes, and those of a plane in the order of parts. Their keys are sorted, and each tile is moved once.
-fn sort_tiles(tiles: &mut Vec<PartTile>) -> Result<(), AllocError>
-    ensures moved { IsPermutation tiles.old.items tiles.new.items }
-    ensures sorted { OnOk result (AreByPlane tiles.new.items) }
-{
-    tiles.sort_by_cached_key(|tile| (tile.plane, tile.part))?;
-    Ok(())
-}
-
 // The pieces that the tiles make, plane by plane.
-fn pieces_of(alloc: Global, tech: &Tech, tiles: &[PartTile]) -> Result<Pieces, AllocError>
+fn pieces_of(
+    alloc: Global,
+    tech: &Tech,
+    tiles: &[PartTile],
+    seams: &[usize],
+) -> Result<Pieces, AllocError>
     requires few { length tiles.now < 2 ^ 64 }
     requires typed { HaveTypedParts tech.now tiles.now }
-    requires sorted { AreByPlane tiles.now }
+    requires seams { AreSeams tiles.now seams.now }
     ensures { IfOk result (λ pieces. ArePlanePieces tech.now tiles.now (length tech.now.planes) pieces) }
 {
     let mut pieces = Pieces {
-        starts: Vec::new(alloc),
         stacks: Vec::new(alloc),
         offending: Vec::new(alloc),
     };
-    let mut start = 0;
     for plane in 0..tech.raw().planes.items().len() {
-        start = add_plane(alloc, tech, &mut pieces, tiles, plane as u8, start)?;
+        add_plane(alloc, tech, &mut pieces, tiles, seams, plane as u8)?;
     }
     Ok(pieces)
 }
 
-// Adds the pieces of a plane, whose tiles begin at this number; those of the next plane begin at the number that it hands out.
+// Adds the pieces of a plane.
 fn add_plane(
     alloc: Global,
     tech: &Tech,
     pieces: &mut Pieces,
     tiles: &[PartTile],
+    seams: &[usize],
     plane: u8,
-    start: usize,
-) -> Result<usize, AllocError>
+) -> Result<(), AllocError>
     requires few { length tiles.now < 2 ^ 64 }
     requires typed { HaveTypedParts tech.now tiles.now }
-    requires sorted { AreByPlane tiles.now }
-    requires start { start ≡ tiles_before tiles.now plane }
-    ensures next { IfOk result (λ next. next ≡ tiles_before tiles.now (plane + 1)) }
-    ensures added { OnOk result (AddsPlane tech.now tiles.now plane start pieces.old pieces.new) }
+    requires seams { AreSeams tiles.now seams.now }
+    ensures { OnOk result (AddsPlane tech.now tiles.now plane pieces.old pieces.new) }
 {
-    let PlanePieces {
-        tiles: count,
-        stacks,
-        offending,
-    } = plane_pieces(alloc, tech, tiles, plane)?;
-    add_found(pieces, plane, start, stacks, offending.as_slice())?;
-    Ok(start + count)
-}
-
-// Adds what was found of a plane.
-fn add_found(
-    pieces: &mut Pieces,
-    plane: u8,
-    start: usize,
-    found: Vec<TypedStack>,
-    strips: &[Rect],
-) -> Result<(), AllocError>
-    ensures starts { OnOk result (pieces.new.starts.items ≡ pieces.old.starts.items ++ start ∷ []) }
-    ensures stacks { OnOk result (pieces.new.stacks.items ≡ pieces.old.stacks.items ++ map (plane_stack plane) found.items) }
-    ensures offending { OnOk result (pieces.new.offending.items ≡ pieces.old.offending.items ++ map (λ area. (plane, area)) strips.now) }
-{
-    pieces.starts.push(start)?;
-    add_strips(&mut pieces.offending, plane, strips)?;
-    add_stacks(&mut pieces.stacks, plane, found)
+    let PlanePieces { stacks, offending } = plane_pieces(alloc, tech, tiles, seams, plane)?;
+    add_strips(&mut pieces.offending, plane, offending.as_slice())?;
+    add_stacks(&mut pieces.stacks, plane, stacks)?;
+    Ok(())
 }
 
 // Adds the pieces of a plane.

@@ -1,5 +1,5 @@
 //! The squares at which the parts of a cell spoil each other.
-ghost use Rattle.std.specs.Prelude.{◌≡◌, ◌≤◌, ◌+◌, ◌<◌, ◌↔◌, ℕ, [], IfOk, length};
+ghost use Rattle.std.specs.Prelude.{◌≡◌, ◌≤◌, ◌+◌, ◌<◌, ◌^◌, ◌↔◌, ℕ, [], IfOk, length};
 ghost use Rattle.layout_model.specs.FlatSets.{parts_in};
 ghost use Rattle.offences.specs.Offences.{OffendsOn};
 ghost use Rattle.hierarchy_model.specs.CleanCells.{IsClean, IsCleanBelow};
@@ -7,13 +7,12 @@ ghost use Rattle.hierarchy_model.specs.Laws.{KeepsWhatItHas};
 ghost use Rattle.cell_library.specs.Libraries.{seen};
 ghost use Rattle.cell_library.specs.LayoutTrees.{tree_at};
 ghost use Rattle.hier_merge.specs.Interactions.{IsWork};
-ghost use Rattle.hier_merge.specs.PlanePieces.{HaveTypedParts, parts_of_plane};
-ghost use Rattle.hier_merge.specs.Seams.{AreSeams};
+ghost use Rattle.hier_merge.specs.steps.PlanePieces.{HaveTypedParts, parts_of_plane};
+ghost use Rattle.hier_merge.specs.steps.Seams.{AreSeams};
 ghost use Rattle.hier_merge.specs.StripLists.{AreStripsByPlane};
 
 use crate::interactions::{VisitedTiles, meeting_tiles};
-use crate::plane_pieces::add_strips;
-use crate::plane_strips::plane_strips;
+use crate::plane_pieces::{add_strips, plane_pieces};
 use cell_library::{Opened, PartTile, Reader};
 use ext_model::CellKey;
 use geo_core::Rect;
@@ -55,6 +54,7 @@ fn offending_by_plane(
     tiles: &[PartTile],
     seams: &[usize],
 ) -> Result<Vec<(u8, Rect)>, AllocError>
+    requires few { length tiles.now < 2 ^ 64 }
     requires typed { HaveTypedParts tech.now tiles.now }
     requires seams { AreSeams tiles.now seams.now }
     ensures { IfOk result (λ found. (typed : HaveTypedParts tech.now tiles.now) → AreStripsByPlane
@@ -63,8 +63,8 @@ fn offending_by_plane(
     let mut found = Vec::new(alloc);
     for plane in 0..tech.raw().planes.items().len() {
         let plane = plane as u8;
-        let strips = plane_strips(alloc, tech, tiles, seams, plane)?;
-        add_strips(&mut found, plane, strips.as_slice())?;
+        let pieces = plane_pieces(alloc, tech, tiles, seams, plane)?;
+        add_strips(&mut found, plane, pieces.offending.as_slice())?;
     }
     Ok(found)
 }

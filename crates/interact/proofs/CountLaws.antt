@@ -16,8 +16,8 @@ use Rattle.interact.specs.declared.counts.Bounds.{Bounds}
 use Rattle.interact.specs.declared.counts.Counts.{Counts, Even, Cut'}
 use Rattle.interact.specs.declared.counts.Fork.{Fork}
 use Rattle.interact.specs.declared.counts.SharedRuns.{SharedRuns}
-use Rattle.interact.specs.Counts.{count_of, is_shared, bounds_of, shifted, joined, of_told, told_or, refreshed, row_of}
-use Rattle.interact.specs.Counts.{AreBounds, IsTold, IsCut, IsAdded, IsOfAll, IsPushed, IsSettled}
+use Rattle.interact.specs.steps.Counts.{count_of, is_shared, bounds_of, shifted, joined, of_told, told_or, refreshed, row_of}
+use Rattle.interact.specs.steps.Counts.{AreBounds, IsTold, IsCut, IsAdded, IsOfAll, IsPushed, IsSettled}
 
 module _ (a b : Bounds) (count count' : ℤ → ℤ) (shared shared' : ℤ → Bool) where
   -- the bounds of two sides hold wherever a column is on one of them

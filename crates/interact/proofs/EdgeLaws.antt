@@ -14,7 +14,7 @@ use Rattle.geo_core.specs.Areas.{has_square}
 use Rattle.geo_core.specs.Covering.{IsProper}
 use Rattle.geo_core.proofs.CoveringLaws.{has_square-IsProper}
 use Rattle.interact.specs.declared.edges.Edge.{Edge}
-use Rattle.interact.specs.Edges.{begin_of, edges_of, IsOf64Bits, AreEdges, sides_of, IsAtNoLaterRow}
+use Rattle.interact.specs.steps.Edges.{begin_of, edges_of, IsOf64Bits, AreEdges, sides_of, IsAtNoLaterRow}
 
 -- edges that a sort by rows has put in order
 edges_in_order : (edges : List Edge) → IsSortedByKey (λ edge. edge.row) int_cmp edges → AllPairs IsAtNoLaterRow edges

@@ -10,7 +10,7 @@ use Rattle.geo_core.specs.Areas.{has_square}
 use Rattle.geo_core.specs.Covering.{is_covered}
 use Rattle.geo_strips.proofs.SweepLaws.{at}
 use Rattle.interact.specs.declared.edges.Edge.{Edge}
-use Rattle.interact.specs.Edges.{edges_of, gain_of, AreEdges}
+use Rattle.interact.specs.steps.Edges.{edges_of, gain_of, AreEdges}
 use Rattle.interact.proofs.CoveringCounts.{covering}
 
 -- how many rectangles more cover the column from the edge on

@@ -16,14 +16,14 @@ use Rattle.geo_core.specs.declared.squares.Rect.{Rect}
 use Rattle.geo_strips.specs.declared.row_runs.Run.{Run}
 use Rattle.geo_core.specs.Covering.{CoversAt, IsInTwo}
 use Rattle.geo_strips.specs.RowRuns.{IsInRow}
-use Rattle.geo_strips.specs.Sweeping.{AreRunBars}
+use Rattle.geo_strips.specs.steps.Sweeping.{AreRunBars}
 use Rattle.geo_strips.proofs.SweepLaws.{at, AreBooked, IsSteady, booked_changed, booked_advanced}
 use Rattle.interact.specs.declared.counts.Counts.{Counts}
 use Rattle.interact.specs.declared.edges.Edge.{Edge}
 use Rattle.interact.specs.declared.sweep.Sweep.{Sweep}
-use Rattle.interact.specs.Counts.{count_of, row_of, IsCut, IsFresh, IsAdded, IsSettled}
-use Rattle.interact.specs.Edges.{gain_of, begin_of, IsOf64Bits, AreEdges}
-use Rattle.interact.specs.Sweeps.{first_column, last_column, IsBetweenRows, SettlesRow}
+use Rattle.interact.specs.steps.Counts.{count_of, row_of, IsCut, IsFresh, IsAdded, IsSettled}
+use Rattle.interact.specs.steps.Edges.{gain_of, begin_of, IsOf64Bits, AreEdges}
+use Rattle.interact.specs.steps.Sweeps.{first_column, last_column, IsBetweenRows, SettlesRow}
 use Rattle.interact.proofs.CoveringCounts.{covering, counts_two, two_cover}
 use Rattle.interact.proofs.EdgeLaws.{proper_begin_in_edges}
 use Rattle.interact.proofs.EdgeSums.{gain_at, gain_until, gains_cover, gains_end}

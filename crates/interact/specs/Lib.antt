@@ -1,4 +1,2 @@
 pub mod NearBoxes
-pub mod Counts
-pub mod Edges
-pub mod Sweeps
+pub mod steps

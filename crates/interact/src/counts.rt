@@ -3,8 +3,8 @@ ghost use Rattle.std.specs.Prelude.{◌≡◌, ◌↔◌, ℤ, pos, ◌+ℤ◌, 
 ghost use Rattle.finite_sets.specs.Lists.{In};
 ghost use Rattle.geo_strips.specs.RowRuns.{AreRuns, IsInRow};
 ghost use Rattle.interact.specs.declared.counts.Counts.{Even};
-ghost use Rattle.interact.specs.Counts.{count_of, is_shared, bounds_of, shifted, joined, of_all, IsTold, IsCut, IsCutAt};
-ghost use Rattle.interact.specs.Counts.{IsAdded, IsOfAll, IsPushed, IsFresh, IsSettled, refreshed, row_of};
+ghost use Rattle.interact.specs.steps.Counts.{count_of, is_shared, bounds_of, shifted, joined, of_all, IsTold, IsCut, IsCutAt};
+ghost use Rattle.interact.specs.steps.Counts.{IsAdded, IsOfAll, IsPushed, IsFresh, IsSettled, refreshed, row_of};
 
 use geo_strips::Bar;
 use geo_strips::column_bounds::{begin_after, begins_before, end_before, ends_after};

@@ -3,7 +3,7 @@ ghost use Rattle.std.specs.Prelude.{◌≡◌, ℤ, ◌≤ℤ◌, IfOk, All, All
 ghost use Rattle.std.specs.List.{flat_map};
 ghost use Rattle.finite_sets.specs.Lists.{In};
 ghost use Rattle.geo_core.specs.Areas.{has_square};
-ghost use Rattle.interact.specs.Edges.{edges_of, gain_of, IsOf64Bits, AreEdges, sides_of};
+ghost use Rattle.interact.specs.steps.Edges.{edges_of, gain_of, IsOf64Bits, AreEdges, sides_of};
 
 use geo_core::Rect;
 use std::alloc::{AllocError, Global};

@@ -1,8 +1,8 @@
 //! The sweep over rows, which finds the runs of what two or more rectangles cover.
 ghost use Rattle.std.specs.Prelude.{IfOk, OnOk};
 ghost use Rattle.geo_core.specs.Covering.{IsInTwo};
-ghost use Rattle.geo_strips.specs.Sweeping.{AreRunBars};
-ghost use Rattle.interact.specs.Sweeps.{IsBetweenRows, SettlesRow};
+ghost use Rattle.geo_strips.specs.steps.Sweeping.{AreRunBars};
+ghost use Rattle.interact.specs.steps.Sweeps.{IsBetweenRows, SettlesRow};
 
 use crate::counts::{Counts, SharedRuns, no_counts};
 use crate::edges::{edges, sides};

@@ -20,7 +20,7 @@ use Rattle.cell_tree.specs.Hulls.{SpansInRange}
 use Rattle.cell_tree.specs.Sizes.{IsHullInRange}
 use Rattle.cell_library.specs.LayoutTrees.{tree_at}
 use Rattle.cell_library.specs.Libraries.{LibraryParts, IsLawfulLibrary, seen}
-use Rattle.cell_library.specs.MaterialBelow.{HasMaterial, HasMaterialBelow}
+use Rattle.cell_library.specs.steps.MaterialBelow.{HasMaterial, HasMaterialBelow}
 use Rattle.cell_library.proofs.HullsHoldMaterial.{hull_holds_material, material_of_sets}
 use Rattle.library_trees.specs.TreeRecords.NamedTrees.{NamedTree, layouts_of, own_body}
 use Rattle.library_trees.specs.TreeRecords.NamedTrees.NamedTree.{named_tree}

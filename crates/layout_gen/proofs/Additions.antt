@@ -21,7 +21,7 @@ use Rattle.cell_library.specs.declared.faults.LibFault.{LibFault}
 use Rattle.cell_library.specs.declared.faults.LibFault.TheVariants as library_fault
 use Rattle.cell_library.specs.declared.limits.LibraryLimit.TheVariants.{Edits}
 use Rattle.cell_library.specs.declared.limits.TheConstants.{MOST_CELLS, MOST_EDITS}
-use Rattle.cell_library.specs.AddedCells.{AreCellsAdded, contents_with, held_from, kept_uses, new_views}
+use Rattle.cell_library.specs.steps.AddedCells.{AreCellsAdded, contents_with, held_from, kept_uses, new_views}
 use Rattle.cell_library.specs.Additions.{AddAllIsRefused, CanBeAdded, first_scale, kept_use, with_all}
 use Rattle.cell_library.specs.Libraries.{IsLawfulLibrary, LibraryParts, seen}
 use Rattle.cell_library.specs.Limits.{AreStatesOf}
@@ -32,7 +32,7 @@ use Rattle.cell_library.proofs.ArrivingUses.{cell_may_come}
 use Rattle.cell_library.proofs.ViewLaws.{count_seen}
 use Rattle.layout_gen.specs.declared.checks.TileLayers.{TileLayers}
 use Rattle.layout_gen.specs.declared.limits.TheConstants.{MADE_CELLS, MOST_TILES}
-use Rattle.layout_gen.specs.Bodies.{AreLayers, AreMade, AreNew, IsMade, array_use}
+use Rattle.layout_gen.specs.steps.Bodies.{AreLayers, AreMade, AreNew, IsMade, array_use}
 use Rattle.layout_gen.specs.Generated.{IsGenerated, no_paint, row_grid, row_name, stack_grid, tile_labels, tile_layout, tile_name}
 use Rattle.layout_gen.proofs.MadeCells.{all_three, can_be_listed, listed, listed_generated, row_uses, stack_uses}
 use Rattle.layout_gen.proofs.Sizes.{made_sizes, made_within, row_size, row_state, size_of_use, stack_state, tile_box, tile_box_is, tile_fits}

@@ -42,7 +42,7 @@ use Rattle.cell_library.proofs.NewCells.{name_is_new, named_seen}
 use Rattle.cell_library.proofs.ViewLaws.{names_seen, count_seen}
 use Rattle.layout_gen.specs.declared.checks.TileLayers.{TileLayers}
 use Rattle.layout_gen.specs.declared.limits.TheConstants.{MADE_CELLS, MOST_TILES}
-use Rattle.layout_gen.specs.Bodies.{AreLayers, AreNew, IsMade, array_use}
+use Rattle.layout_gen.specs.steps.Bodies.{AreLayers, AreNew, IsMade, array_use}
 use Rattle.layout_gen.specs.Generated.{IsGenerated, array_cell, diff_area, diff_label, no_paint, poly_area, poly_label, row_grid, row_name}
 use Rattle.layout_gen.specs.Generated.{stack_grid, stack_name, tile_cell, tile_labels, tile_layout, tile_name, with_generated}
 

@@ -14,7 +14,7 @@ use Rattle.layout_gen.specs.declared.checks.TileLayers.{TileLayers}
 use Rattle.layout_gen.specs.declared.faults.GenerateFault.{GenerateFault}
 use Rattle.layout_gen.specs.declared.faults.GenerateFault.TheVariants.{CellExists, NoLayer, TooMany}
 use Rattle.layout_gen.specs.declared.limits.TheConstants.{MADE_CELLS}
-use Rattle.layout_gen.specs.Bodies.{AreLayers, AreNew}
+use Rattle.layout_gen.specs.steps.Bodies.{AreLayers, AreNew}
 use Rattle.layout_gen.specs.Generated.{diff_name, poly_name, row_name, stack_name, tile_name}
 use Rattle.layout_gen.specs.Refusals.{IsFaultOrMemory, edits_fault, generate_fault, layers_fault, names_fault, room_fault}
 

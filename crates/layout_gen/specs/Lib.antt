@@ -1,3 +1,3 @@
-pub mod Bodies
 pub mod Generated
 pub mod Refusals
+pub mod steps

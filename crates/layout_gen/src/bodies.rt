@@ -4,7 +4,7 @@ ghost use Rattle.geo_core.specs.Areas.{has_square};
 ghost use Rattle.layout_model.specs.Places.{Place};
 ghost use Rattle.cell_paint.specs.Painting.{is_in_range, with_paint};
 ghost use Rattle.cell_paint.specs.Paints.{layout_of};
-ghost use Rattle.layout_gen.specs.Bodies.{AreLayers, AreMade, IsMade, array_use};
+ghost use Rattle.layout_gen.specs.steps.Bodies.{AreLayers, AreMade, IsMade, array_use};
 ghost use Rattle.layout_gen.specs.Generated.{no_paint, row_grid, stack_grid, tile_labels, tile_layout};
 
 use crate::checks::TileLayers;

@@ -3,7 +3,7 @@ ghost use Rattle.std.specs.Prelude.{◌≡◌, ◌<◌, ◌+◌, ◌≤◌, ◌�
 ghost use Rattle.tech_model.specs.Types.{layer_named};
 ghost use Rattle.cell_library.specs.Libraries.{seen};
 ghost use Rattle.cell_library.specs.Views.{cell_named};
-ghost use Rattle.layout_gen.specs.Bodies.{AreLayers, AreNew};
+ghost use Rattle.layout_gen.specs.steps.Bodies.{AreLayers, AreNew};
 ghost use Rattle.layout_gen.specs.Refusals.{IsFaultOrMemory, generate_fault, layer_fault, layers_fault, name_fault, names_fault};
 
 use crate::faults::GenerateFault;

@@ -11,7 +11,7 @@ use Rattle.std.proofs.lemmas.List.Folds.{list_any-append}
 use Rattle.std.proofs.lemmas.List.Sorted.{list_any-IsPermutation}
 use Rattle.cell_bodies.specs.declared.bodies.CellUse.{CellUse}
 use Rattle.cell_bodies.specs.Bodies.{ids_of}
-use Rattle.mag_text.specs.UseIds.{AreIds}
+use Rattle.mag_text.specs.steps.UseIds.{AreIds}
 use Rattle.mag_text.specs.Drafts.{has_id}
 
 abbrev is_word : List ℕ → Vec ℕ Global → Bool

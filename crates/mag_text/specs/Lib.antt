@@ -1,7 +1,6 @@
 pub mod NumberForms
 pub mod WordForms
 pub mod LineForms
-pub mod UseIds
 pub mod Drafts
 pub mod Drawings
 pub mod MagTexts
@@ -11,3 +10,4 @@ pub mod ReadBack
 pub mod ScaleLines
 pub mod CellTexts
 pub mod CellsAgain
+pub mod steps

@@ -18,7 +18,7 @@ pub struct UseTable {
 impl Model for UseTable {
     ghost use Rattle.std.specs.Prelude.{List};
     ghost use Rattle.cell_bodies.specs.declared.bodies.CellUse.{CellUse};
-    ghost use Rattle.mag_text.specs.UseIds.{AreIds};
+    ghost use Rattle.mag_text.specs.steps.UseIds.{AreIds};
 
     ghost Value = { List CellUse };
 

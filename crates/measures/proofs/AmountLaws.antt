@@ -20,7 +20,7 @@ use Rattle.rect_contacts.specs.Squares.{area_of, perimeter_of}
 use Rattle.layout_model.specs.declared.region_tiles.RegionTile.{RegionTile}
 use Rattle.flood_nodes.specs.SoundTiles.{IsSoundTile}
 use Rattle.flood_nodes.specs.TileShares.{no_tile, tile_at, indices_of, IsTileContact, is_of, open_by_contacts}
-use Rattle.measures.specs.Sizes.{area_in, perimeter_in, shared_in, area_amounts, perimeter_amounts, shared_amounts}
+use Rattle.measures.specs.steps.Sizes.{area_in, perimeter_in, shared_in, area_amounts, perimeter_amounts, shared_amounts}
 
 -- one contact more
 pub shared_amounts-append : (contains : ℕ → Bool) (tiles : List RegionTile) (xs ys : List Contact)

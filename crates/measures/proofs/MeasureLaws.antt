@@ -28,7 +28,7 @@ use Rattle.flood_nodes.proofs.OpenEdges.{tiles_area, tiles_measure}
 use Rattle.flood_nodes.proofs.ShareLaws.{one_plane}
 use Rattle.flood_nodes.proofs.StackLaws.{same_from_test}
 use Rattle.measures.specs.declared.columns.Column.{Column}
-use Rattle.measures.specs.Columns.{IsColumn, AreColumns, pairs_at}
+use Rattle.measures.specs.steps.Columns.{IsColumn, AreColumns, pairs_at}
 use Rattle.measures.proofs.AmountLaws.{from, area_sum, open_sum}
 
 -- space is of no class

@@ -1,3 +1,2 @@
-pub mod Sizes
-pub mod Columns
 pub mod Bounds
+pub mod steps

@@ -6,8 +6,8 @@ ghost use Rattle.finite_sets.specs.Lists.{Lists};
 ghost use Rattle.layout_model.specs.Technologies.{class_of};
 ghost use Rattle.flood_nodes.specs.SoundTiles.{IsSoundTile};
 ghost use Rattle.flood_nodes.specs.TileShares.{IsTileContact};
-ghost use Rattle.measures.specs.Sizes.{area_amounts, perimeter_amounts, shared_amounts};
-ghost use Rattle.measures.specs.Columns.{IsColumn};
+ghost use Rattle.measures.specs.steps.Sizes.{area_amounts, perimeter_amounts, shared_amounts};
+ghost use Rattle.measures.specs.steps.Columns.{IsColumn};
 
 use crate::sizes::{area_in, perimeter_in, shared_in};
 use key_sums::{Amount, sums_by_key};

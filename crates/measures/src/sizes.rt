@@ -4,7 +4,7 @@ ghost use Rattle.geo_core.specs.Areas.{IsNear};
 ghost use Rattle.geo_core.specs.Covering.{IsProper};
 ghost use Rattle.rect_contacts.specs.Squares.{area_of, perimeter_of};
 ghost use Rattle.layout_model.specs.Technologies.{class_of};
-ghost use Rattle.measures.specs.Sizes.{area_in, perimeter_in, shared_in};
+ghost use Rattle.measures.specs.steps.Sizes.{area_in, perimeter_in, shared_in};
 
 use geo_core::Rect;
 use layout_model::RegionTile;

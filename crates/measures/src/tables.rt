@@ -6,7 +6,7 @@ ghost use Rattle.layout_model.specs.RegionTiles.{AreLayoutTiles, AreMeasured};
 ghost use Rattle.layout_model.specs.Technologies.{class_of};
 ghost use Rattle.flood_nodes.specs.SoundTiles.{IsSoundTile};
 ghost use Rattle.flood_nodes.specs.TileShares.{IsTileContact};
-ghost use Rattle.measures.specs.Columns.{AreColumns, pairs_at};
+ghost use Rattle.measures.specs.steps.Columns.{AreColumns, pairs_at};
 
 use crate::columns::{Column, measured_in};
 use flood_nodes::Regions;

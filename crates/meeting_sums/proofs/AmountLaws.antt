@@ -9,7 +9,7 @@ use Rattle.finite_sets.proofs.Sums.{sum_on-push}
 use Rattle.key_sums.specs.declared.Amount.{Amount}
 use Rattle.key_sums.specs.Amounts.{counts_for, sum_of}
 use Rattle.offences.specs.declared.stacks.PartKind.{PartKind}
-use Rattle.meeting_sums.specs.Counts.{for_group, for_both, AddAmounts}
+use Rattle.meeting_sums.specs.steps.Counts.{for_group, for_both, AddAmounts}
 
 nothing_more : (n : ℤ) → n ≡ n +ℤ pos 0
 nothing_more n = omega (arith, ints)

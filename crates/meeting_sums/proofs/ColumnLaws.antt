@@ -13,7 +13,7 @@ use Rattle.layout_model.specs.Technologies.{class_of}
 use Rattle.offences.specs.declared.plane_stacks.PlaneStack.{PlaneStack}
 use Rattle.meeting_sums.specs.declared.columns.Column.{Column}
 use Rattle.meeting_sums.specs.declared.sums.MeetingSum.{MeetingSum}
-use Rattle.meeting_sums.specs.Counts.{AddAmounts, IsColumn, AreColumns}
+use Rattle.meeting_sums.specs.steps.Counts.{AddAmounts, IsColumn, AreColumns}
 use Rattle.meeting_sums.proofs.AmountLaws.{keys_all}
 
 -- a sum that stands for none

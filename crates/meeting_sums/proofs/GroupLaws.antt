@@ -26,7 +26,7 @@ use Rattle.meeting_laws.specs.PartLayouts.{part_layout, parts_layout, excess}
 use Rattle.meeting_laws.proofs.QuantityLaws.{combined, product_of_difference}
 use Rattle.meeting_sums.specs.declared.columns.Column.{Column}
 use Rattle.meeting_sums.specs.declared.sums.MeetingSum.{MeetingSum}
-use Rattle.meeting_sums.specs.Counts.{area_beyond, perimeter_beyond, IsColumn, AreColumns, pairs_at}
+use Rattle.meeting_sums.specs.steps.Counts.{area_beyond, perimeter_beyond, IsColumn, AreColumns, pairs_at}
 use Rattle.meeting_sums.specs.StackTiles.{tiles_of, IsInGroup}
 use Rattle.meeting_sums.specs.Sums.{AreMeetingMeasures, IsMeetingSum, IsSumOf, AreMeetingSums}
 use Rattle.meeting_sums.proofs.ColumnLaws.{no_sum}

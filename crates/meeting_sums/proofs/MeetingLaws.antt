@@ -29,8 +29,8 @@ use Rattle.offences.specs.PlaneStacks.{ArePlaneStacks}
 use Rattle.offences.specs.TypedStacks.{kind_in}
 use Rattle.meeting_laws.specs.TreeRecords.PlaceWeights.{area_weight, perimeter_weight}
 use Rattle.meeting_laws.specs.PartLayouts.{part_layout, parts_layout, excess}
-use Rattle.meeting_sums.specs.Counts.{flat_kind, beyond, for_group, for_both, no_piece, stack_at, contact_counted}
-use Rattle.meeting_sums.specs.Counts.{area_beyond, shared_beyond, perimeter_beyond}
+use Rattle.meeting_sums.specs.steps.Counts.{flat_kind, beyond, for_group, for_both, no_piece, stack_at, contact_counted}
+use Rattle.meeting_sums.specs.steps.Counts.{area_beyond, shared_beyond, perimeter_beyond}
 use Rattle.meeting_sums.specs.StackTiles.{tile_of, tiles_of, IsInGroup}
 use Rattle.meeting_sums.proofs.KindLaws.{sum_by_kinds}
 use Rattle.meeting_sums.proofs.StackLaws.{tiles_long, tile_is, counted, contacts_within}

@@ -32,9 +32,9 @@ use Rattle.measures.proofs.BoundLaws.{measures_are_small}
 use Rattle.offences.specs.declared.plane_stacks.PlaneStack.{PlaneStack}
 use Rattle.offences.specs.declared.stacks.PartKind.{PartKind}
 use Rattle.offences.specs.TypedStacks.{AreByPart, kind_in}
-use Rattle.meeting_sums.specs.Counts.{flat_kind, beyond, beyond_both, no_piece, stack_at, contact_counted, IsSmallSum}
+use Rattle.meeting_sums.specs.steps.Counts.{flat_kind, beyond, beyond_both, no_piece, stack_at, contact_counted, IsSmallSum}
 use Rattle.meeting_sums.specs.declared.columns.Column.{Column}
-use Rattle.meeting_sums.specs.Counts.{area_beyond, shared_beyond, perimeter_beyond, AreColumns, pairs_at}
+use Rattle.meeting_sums.specs.steps.Counts.{area_beyond, shared_beyond, perimeter_beyond, AreColumns, pairs_at}
 use Rattle.meeting_sums.specs.StackTiles.{tile_of, tiles_of}
 use Rattle.meeting_sums.proofs.AmountLaws.{gated}
 use Rattle.meeting_sums.proofs.KindLaws.{In-below}

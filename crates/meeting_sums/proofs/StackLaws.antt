@@ -22,7 +22,7 @@ use Rattle.flood_nodes.specs.TileShares.{no_tile, IsTileContact}
 use Rattle.offences.specs.declared.plane_stacks.PlaneStack.{PlaneStack}
 use Rattle.offences.specs.declared.stacks.TypedStack.{TypedStack}
 use Rattle.offences.specs.TypedStacks.{AreByPart}
-use Rattle.meeting_sums.specs.Counts.{beyond, beyond_both, for_group, for_both, no_piece, stack_at, contact_counted, AddAmounts}
+use Rattle.meeting_sums.specs.steps.Counts.{beyond, beyond_both, for_group, for_both, no_piece, stack_at, contact_counted, AddAmounts}
 use Rattle.meeting_sums.specs.StackTiles.{tile_of, tiles_of}
 use Rattle.meeting_sums.proofs.AmountLaws.{adds_then}
 

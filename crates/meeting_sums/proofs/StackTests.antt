@@ -27,7 +27,7 @@ use Rattle.offences.specs.PlaneStacks.{ArePlaneStacks}
 use Rattle.offences.specs.TypedStacks.{IsTypedStack, AreByPart, kind_in, on_plane}
 use Rattle.meeting_laws.specs.PartLayouts.{part_layout, parts_layout}
 use Rattle.meeting_laws.proofs.LinkLaws.{part_of_empty, layout_of_none}
-use Rattle.meeting_sums.specs.Counts.{flat_kind, no_piece, stack_at}
+use Rattle.meeting_sums.specs.steps.Counts.{flat_kind, no_piece, stack_at}
 use Rattle.meeting_sums.specs.StackTiles.{tile_of, tiles_of}
 use Rattle.meeting_sums.proofs.StackLaws.{tiles_long, tile_is}
 use Rattle.meeting_sums.proofs.TileTests.{IsTest, stands, lies_from_test, test_from_lies}

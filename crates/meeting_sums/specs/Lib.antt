@@ -2,7 +2,7 @@
 pub use Rattle.meeting_laws.specs.HierarchyModel as HierarchyModel
 pub use Rattle.meeting_laws.specs as LowerMeetingLaws
 pub use Rattle.meeting_laws.specs.TreeRecords as TreeRecords
-pub mod Counts
 pub mod Laws
 pub mod StackTiles
 pub mod Sums
+pub mod steps

@@ -11,7 +11,7 @@ use Rattle.meeting_laws.specs.TreeRecords.PlaceWeights.{area_weight, perimeter_w
 use Rattle.meeting_laws.specs.PartLayouts.{excess}
 use Rattle.meeting_sums.specs.declared.columns.Column.{Column}
 use Rattle.meeting_sums.specs.declared.sums.MeetingSum.{MeetingSum}
-use Rattle.meeting_sums.specs.Counts.{pairs_at}
+use Rattle.meeting_sums.specs.steps.Counts.{pairs_at}
 use Rattle.meeting_sums.specs.StackTiles.{IsInGroup}
 
 -- The pairs are what these places count for the area and for the perimeter in each class in order, in the flat layout of the parts less what

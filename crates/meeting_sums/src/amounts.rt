@@ -2,7 +2,7 @@
 ghost use Rattle.std.specs.Prelude.{◌≡◌, ◌⊎◌, pos, ◌-ℤ◌, ◌≤ℤ◌, if◌then◌else◌, OnOk};
 ghost use Rattle.layout_model.specs.Technologies.{class_of};
 ghost use Rattle.offences.specs.TypedStacks.{AreByPart};
-ghost use Rattle.meeting_sums.specs.Counts.{beyond, beyond_both, for_group, for_both, AddAmounts};
+ghost use Rattle.meeting_sums.specs.steps.Counts.{beyond, beyond_both, for_group, for_both, AddAmounts};
 
 use crate::kinds::{are_flat_of, is_flat_of, is_of, is_shared};
 use key_sums::Amount;

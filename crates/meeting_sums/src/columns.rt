@@ -5,7 +5,7 @@ ghost use Rattle.flood_nodes.specs.Stacking.{AreSpread};
 ghost use Rattle.flood_nodes.specs.TileShares.{IsTileContact};
 ghost use Rattle.layout_model.specs.Technologies.{class_of};
 ghost use Rattle.offences.specs.TypedStacks.{AreByPart};
-ghost use Rattle.meeting_sums.specs.Counts.{area_beyond, alone_beyond, shared_beyond, perimeter_beyond, AddAmounts, AreColumns};
+ghost use Rattle.meeting_sums.specs.steps.Counts.{area_beyond, alone_beyond, shared_beyond, perimeter_beyond, AddAmounts, AreColumns};
 ghost use Rattle.meeting_sums.specs.StackTiles.{tiles_of};
 
 use crate::amounts::{push_contact, push_stack};

@@ -2,7 +2,7 @@
 ghost use Rattle.std.specs.Prelude.{◌≡◌, ◌<◌, ◌≤◌, ◌&&◌, length, take, drop, All};
 ghost use Rattle.layout_model.specs.Technologies.{class_of};
 ghost use Rattle.offences.specs.TypedStacks.{AreByPart, kind_in};
-ghost use Rattle.meeting_sums.specs.Counts.{flat_kind};
+ghost use Rattle.meeting_sums.specs.steps.Counts.{flat_kind};
 
 use offences::{PartKind, TypedStack};
 use tech_model::{ClassRec, TypeId};

@@ -6,7 +6,7 @@ ghost use Rattle.flood_nodes.specs.TileShares.{IsTileContact};
 ghost use Rattle.offences.specs.Offences.{SetLayout};
 ghost use Rattle.offences.specs.PlaneStacks.{ArePlaneStacks};
 ghost use Rattle.offences.specs.TypedStacks.{AreByPart};
-ghost use Rattle.meeting_sums.specs.Counts.{pairs_at, IsSmallSum};
+ghost use Rattle.meeting_sums.specs.steps.Counts.{pairs_at, IsSmallSum};
 ghost use Rattle.meeting_sums.specs.StackTiles.{tiles_of};
 ghost use Rattle.meeting_sums.specs.Sums.{AreMeetingSums, IsSumOf};
 

@@ -12,7 +12,7 @@ use Rattle.ext_model.specs.ElementNames.{is_use_id, indexed_name}
 use Rattle.ext_model.specs.LawfulArrays.{BeginsIndexed}
 use Rattle.ext_model.specs.Plain.{before, behind}
 use Rattle.ext_model.proofs.IndexedNames.{id_plain, number_comma, number_bracket}
-use Rattle.merge_rows.specs.IndexTexts.{IsIndexText, HasIndexParts}
+use Rattle.merge_rows.specs.steps.IndexTexts.{IsIndexText, HasIndexParts}
 use Rattle.ext_model.proofs.CutLaws.{before-cut, behind-cut, cut_whole}
 
 -- ---- indices

@@ -3,7 +3,7 @@ use Rattle.std.proofs.Common.{◌≡◌, ◌↔◌, ◌&&◌, ℕ, ℤ, Bool, Li
 use Rattle.std.specs.Bool.{Decides}
 use Rattle.std.specs.Option.{SomeIff}
 use Rattle.std.specs.Ordering.{int_eq}
-use Rattle.std.specs.Result.{IfOk, OnOk}
+use Rattle.std.specs.Result.{IfOk}
 use Rattle.std.proofs.lemmas.Bool.Decides.{Decides-int_eq, Decides-and}
 
 -- texts are tested by one that is the first's
@@ -23,11 +23,6 @@ pair_test one other =
 pub with_value : {T E : Type 0} {P Q : T → Type 0} (result : Result T E) → ((value : T) → P value → Q value) → IfOk result P → IfOk result Q
 with_value (Ok value) follows is = follows value is
 with_value (Err error) follows is = tt
-
--- what follows where there is a value
-pub with_success : {T E P Q : Type 0} (result : Result T E) → (P → Q) → OnOk result P → OnOk result Q
-with_success (Ok value) follows is = follows is
-with_success (Err error) follows is = tt
 
 -- a count that is known is the one that was asked for
 pub counted : (found : Option ℕ) (P : Type 0) (count wanted : ℕ) → SomeIff found P wanted → found ≡ Some count → count ≡ wanted

@@ -1,3 +1,3 @@
-pub mod IndexTexts
 pub mod AddedMerges
 pub mod Laws
+pub mod steps

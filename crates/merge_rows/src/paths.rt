@@ -7,7 +7,7 @@ ghost use Rattle.ext_model.specs.declared.names.TheConstants.{SLASH};
 ghost use Rattle.ext_model.specs.ElementNames.{is_use_id};
 ghost use Rattle.ext_model.specs.LawfulArrays.{BeginsIndexed};
 ghost use Rattle.ext_model.specs.Plain.{before, behind, index_of, raised};
-ghost use Rattle.merge_rows.specs.IndexTexts.{IsIndexText};
+ghost use Rattle.merge_rows.specs.steps.IndexTexts.{IsIndexText};
 
 use ext_model::{SLASH, is_use_id};
 use itoa::Buffer;

@@ -17,8 +17,8 @@ use Rattle.full_names.specs.declared.names.FullNames.{FullNames}
 use Rattle.full_names.specs.Names.{IsReached}
 use Rattle.name_classes.specs.declared.tables.UseTable.{UseTable}
 use Rattle.name_classes.specs.declared.paths.Resolver.{Resolver}
-use Rattle.name_classes.specs.UseTables.{number_of}
-use Rattle.name_classes.specs.Paths.{IsResolver, IsBranchOf, LacksUse}
+use Rattle.name_classes.specs.steps.UseTables.{number_of}
+use Rattle.name_classes.specs.steps.Paths.{IsResolver, IsBranchOf, LacksUse}
 use Rattle.name_classes.proofs.ListLaws.{place_of_image}
 use Rattle.name_classes.proofs.TreeLaws.{tree_of_names, lawful_at, reached_at}
 

@@ -32,8 +32,8 @@ use Rattle.name_classes.specs.declared.classes.MergeEnd.{MergeEnd}
 use Rattle.name_classes.specs.declared.links.Link.{Link}
 use Rattle.name_classes.specs.declared.links.RecordLinks.{RecordLinks}
 use Rattle.name_classes.specs.Classes.{name_at, AreLabels, firsts_of, EndsAt, HasEnds}
-use Rattle.name_classes.specs.Links.{IsLink, HasLink, IsGlobalName, IsNear, IsLinkedTo, HasLinks, AreAllLinks, AreFirsts}
-use Rattle.name_classes.specs.Joins.{IsLinkAt, IsJoinOf, AreJoined, once_at, links_at}
+use Rattle.name_classes.specs.steps.Links.{IsLink, HasLink, IsGlobalName, IsNear, IsLinkedTo, HasLinks, AreAllLinks, AreFirsts}
+use Rattle.name_classes.specs.steps.Joins.{IsLinkAt, IsJoinOf, AreJoined, once_at, links_at}
 use Rattle.name_classes.proofs.ListLaws.{at_place}
 use Rattle.name_classes.proofs.TreeLaws.{tree_of_names, element_at}
 use Rattle.name_classes.proofs.SeenLaws.{record_here}

@@ -19,9 +19,9 @@ use Rattle.full_names.specs.Names.{AreNames, IsElement, HasSpot, GivesName, elem
 use Rattle.name_classes.specs.declared.classes.MergeEnd.{MergeEnd}
 use Rattle.name_classes.specs.declared.links.Link.{Link}
 use Rattle.name_classes.specs.declared.links.RecordLinks.{RecordLinks}
-use Rattle.name_classes.specs.Paths.{EndsThere, IsEndFrom}
-use Rattle.name_classes.specs.Links.{IsLink, IsLinkIn, AreLinksOf, HasLinks, AreAllLinks}
-use Rattle.name_classes.specs.Joins.{HasEndsAt, HasJoin, AddsJoins, IsLinkAt, AreJoined, once_at, links_at}
+use Rattle.name_classes.specs.steps.Paths.{EndsThere, IsEndFrom}
+use Rattle.name_classes.specs.steps.Links.{IsLink, IsLinkIn, AreLinksOf, HasLinks, AreAllLinks}
+use Rattle.name_classes.specs.steps.Joins.{HasEndsAt, HasJoin, AddsJoins, IsLinkAt, AreJoined, once_at, links_at}
 use Rattle.name_classes.proofs.ListLaws.{at_place}
 use Rattle.name_classes.proofs.TreeLaws.{element_at}
 use Rattle.name_classes.proofs.JoinLaws.{more_pairs}

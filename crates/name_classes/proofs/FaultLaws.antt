@@ -17,8 +17,8 @@ use Rattle.element_tree.specs.declared.tree.TreeElement.{TreeElement}
 use Rattle.full_names.specs.declared.names.FullNames.{FullNames}
 use Rattle.name_classes.specs.declared.classes.MergeEnd.{MergeEnd}
 use Rattle.name_classes.specs.declared.links.Link.{Link}
-use Rattle.name_classes.specs.Paths.{IsEndFrom}
-use Rattle.name_classes.specs.Links.{HasRecord, IsLink, AreMergeLinks, IsPathFault, IsMergeFault}
+use Rattle.name_classes.specs.steps.Paths.{IsEndFrom}
+use Rattle.name_classes.specs.steps.Links.{HasRecord, IsLink, AreMergeLinks, IsPathFault, IsMergeFault}
 use Rattle.name_classes.proofs.ListLaws.{at_place, slice_get-push_both}
 
 -- ---- the first fault of a list

@@ -9,7 +9,7 @@ use Rattle.full_names.specs.declared.names.FullNames.{FullNames}
 use Rattle.full_names.specs.declared.names.Spot.{Spot}
 use Rattle.full_names.specs.Names.{AreNames, HasSpot, GivesName}
 use Rattle.name_classes.specs.declared.links.Link.{Link}
-use Rattle.name_classes.specs.Joins.{JoinsEnds, IsJoin, HasJoin, AddsJoins}
+use Rattle.name_classes.specs.steps.Joins.{JoinsEnds, IsJoin, HasJoin, AddsJoins}
 use Rattle.name_classes.proofs.PathLaws.{append_none}
 
 -- the number of a name is below the count

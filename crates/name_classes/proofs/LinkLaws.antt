@@ -18,9 +18,10 @@ use Rattle.full_names.specs.Names.{AreNames}
 use Rattle.name_classes.specs.declared.classes.MergeEnd.{MergeEnd}
 use Rattle.name_classes.specs.declared.links.Link.{Link}
 use Rattle.name_classes.specs.declared.links.NodeLinks.{NodeLinks}
-use Rattle.name_classes.specs.Paths.{IsEndFrom, IsNameOf}
-use Rattle.name_classes.specs.Links.{HasRecord, IsLink, HasLink, IsGlobalName, IsNodeLink, IsNear, IsLinkedByGlobal, IsLinkedTo, AddsAlias, Grow, AddsNode}
-use Rattle.name_classes.specs.Links.{IsLinkIn, AreNodeLinks}
+use Rattle.name_classes.specs.steps.Paths.{IsEndFrom, IsNameOf}
+use Rattle.name_classes.specs.steps.Links.{HasRecord, IsLink, HasLink, IsGlobalName, IsNodeLink, IsNear, IsLinkedByGlobal, IsLinkedTo, AddsAlias, Grow}
+use Rattle.name_classes.specs.steps.Links.{AddsNode}
+use Rattle.name_classes.specs.steps.Links.{IsLinkIn, AreNodeLinks}
 use Rattle.name_classes.proofs.TreeLaws.{lawful_at}
 
 -- the names of a node of an element's record

@@ -32,7 +32,7 @@ use Rattle.full_names.specs.declared.names.FullNames.{FullNames}
 use Rattle.full_names.specs.declared.names.Spot.{Spot}
 use Rattle.full_names.specs.Names.{elements_in, AreNames, IsElement, IsReached, IsSpotOf, LacksName}
 use Rattle.name_classes.specs.declared.paths.Resolver.{Resolver}
-use Rattle.name_classes.specs.Paths.{IsResolver, IsSplit, IsBranchOf, LacksUse, EndsThere, IsEndFrom, LeadsNowhere, IsNameOf}
+use Rattle.name_classes.specs.steps.Paths.{IsResolver, IsSplit, IsBranchOf, LacksUse, EndsThere, IsEndFrom, LeadsNowhere, IsNameOf}
 use Rattle.name_classes.proofs.ListLaws.{at_place}
 use Rattle.name_classes.proofs.TreeLaws.{tree_of_names, element_at, record_of, reached, lawful_at, one_cell, child_of_use}
 

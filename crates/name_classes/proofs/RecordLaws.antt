@@ -7,8 +7,8 @@ use Rattle.ext_model.specs.declared.records.CellExt.{CellExt}
 use Rattle.element_tree.specs.declared.tree.TreeElement.{TreeElement}
 use Rattle.element_tree.specs.declared.tree.ElementTree.{ElementTree}
 use Rattle.name_classes.specs.declared.paths.Resolver.{Resolver}
-use Rattle.name_classes.specs.Paths.{IsResolver}
-use Rattle.name_classes.specs.Links.{HasRecord}
+use Rattle.name_classes.specs.steps.Paths.{IsResolver}
+use Rattle.name_classes.specs.steps.Links.{HasRecord}
 use Rattle.name_classes.proofs.TreeLaws.{element_at, record_of}
 
 module _ (resolver : Resolver) (is : IsResolver resolver) (number : ℕ) (within : number < length resolver.tree.now.elements) (elements : List TreeElement)

@@ -16,7 +16,7 @@ use Rattle.element_tree.specs.declared.tree.TreeElement.{TreeElement}
 use Rattle.full_names.specs.declared.names.FullNames.{FullNames}
 use Rattle.full_names.specs.Names.{AreNames, IsElement, elements_in}
 use Rattle.name_classes.specs.declared.links.RecordLinks.{RecordLinks}
-use Rattle.name_classes.specs.Links.{AreLinksOf, HasLinks, AreAllLinks, IsMergeFault}
+use Rattle.name_classes.specs.steps.Links.{AreLinksOf, HasLinks, AreAllLinks, IsMergeFault}
 use Rattle.name_classes.specs.Classes.{HasNoPathFault, IsPathFaultOf}
 use Rattle.name_classes.proofs.ListLaws.{at_place}
 use Rattle.name_classes.proofs.TreeLaws.{tree_of_names, element_at, record_of}

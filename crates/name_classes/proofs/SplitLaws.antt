@@ -8,7 +8,7 @@ use Rattle.std.proofs.lemmas.Iterator.Adapters.{position_from-zero}
 use Rattle.std.proofs.lemmas.List.Sums.{sum_by-cons}
 use Rattle.ext_model.specs.declared.names.TheConstants.{SLASH}
 use Rattle.ext_model.specs.NodeNames.{slashes_in}
-use Rattle.name_classes.specs.Paths.{IsSplit}
+use Rattle.name_classes.specs.steps.Paths.{IsSplit}
 
 is_slash : ℕ → Bool
 is_slash byte = byte == SLASH

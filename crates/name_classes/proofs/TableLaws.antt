@@ -10,7 +10,7 @@ use Rattle.finite_sets.proofs.Places.{slice_get-append_left, slice_get-push_new}
 use Rattle.ext_model.specs.declared.records.UseRec.{UseRec}
 use Rattle.ext_model.specs.declared.records.CellExt.{CellExt}
 use Rattle.name_classes.specs.declared.tables.UseTable.{UseTable}
-use Rattle.name_classes.specs.UseTables.{number_of, IsTableOf, AreUseTables}
+use Rattle.name_classes.specs.steps.UseTables.{number_of, IsTableOf, AreUseTables}
 use Rattle.name_classes.proofs.ListLaws.{slice_get-push_both}
 
 -- the table with one more use

@@ -1,7 +1,4 @@
 -- what crates above name of those below
 pub use Rattle.full_names.specs as FullNames
 pub mod Classes
-pub mod UseTables
-pub mod Paths
-pub mod Links
-pub mod Joins
+pub mod steps

@@ -2,7 +2,7 @@
 ghost use Rattle.std.specs.Prelude.{◌≡◌, ◌⊎◌, IfOk, IfErr};
 ghost use Rattle.full_names.specs.Names.{AreNames};
 ghost use Rattle.name_classes.specs.Classes.{AreClasses, HasNoPathFault, IsPathFaultOf};
-ghost use Rattle.name_classes.specs.Links.{AreAllLinks};
+ghost use Rattle.name_classes.specs.steps.Links.{AreAllLinks};
 
 use crate::joining::joined;
 use crate::links::{RecordLinks, all_firsts, all_links};

@@ -4,8 +4,8 @@ ghost use Rattle.finite_sets.specs.Lists.{In};
 ghost use Rattle.partition.specs.Marks.{IsNumbered};
 ghost use Rattle.full_names.specs.Names.{AreNames};
 ghost use Rattle.name_classes.specs.declared.links.Link.{Link as OneLink};
-ghost use Rattle.name_classes.specs.Links.{AreAllLinks};
-ghost use Rattle.name_classes.specs.Joins.{HasEndsAt, AddsJoins, AreJoined, once_at, links_at};
+ghost use Rattle.name_classes.specs.steps.Links.{AreAllLinks};
+ghost use Rattle.name_classes.specs.steps.Joins.{HasEndsAt, AddsJoins, AreJoined, once_at, links_at};
 
 use crate::links::{Link, RecordLinks};
 use element_tree::TreeElement;

@@ -3,9 +3,9 @@ ghost use Rattle.std.specs.Prelude.{◌≡◌, ◌⊎◌, ◌↔◌, ◌<◌, []
 ghost use Rattle.finite_sets.specs.Lists.{In};
 ghost use Rattle.ext_model.specs.declared.names.NameKind.TheVariants.{Global as GlobalKind};
 ghost use Rattle.ext_model.specs.NodeNames.{name_kind};
-ghost use Rattle.name_classes.specs.Paths.{IsResolver, IsEndFrom};
-ghost use Rattle.name_classes.specs.Links.{HasRecord, AddsAlias, AddsNode, AreNodeLinks, AreMergeLinks, AreLinksOf, AreAllLinks, IsPathFault};
-ghost use Rattle.name_classes.specs.Links.{IsMergeFault, AreFirsts};
+ghost use Rattle.name_classes.specs.steps.Paths.{IsResolver, IsEndFrom};
+ghost use Rattle.name_classes.specs.steps.Links.{HasRecord, AddsAlias, AddsNode, AreNodeLinks, AreMergeLinks, AreLinksOf, AreAllLinks, IsPathFault};
+ghost use Rattle.name_classes.specs.steps.Links.{IsMergeFault, AreFirsts};
 ghost use Rattle.name_classes.specs.Classes.{IsPathFaultOf};
 
 use crate::classes::MergeEnd;

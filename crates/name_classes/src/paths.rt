@@ -2,7 +2,7 @@
 ghost use Rattle.std.specs.Prelude.{◌≡◌, ◌<◌, ◌==◌, length, position, IfOk, IfSome, IfNone};
 ghost use Rattle.ext_model.specs.NodeNames.{slashes_in};
 ghost use Rattle.full_names.specs.Names.{AreNames, IsReached};
-ghost use Rattle.name_classes.specs.Paths.{IsSplit, IsResolver, IsNameOf, IsBranchOf, LacksUse, IsEndFrom, LeadsNowhere};
+ghost use Rattle.name_classes.specs.steps.Paths.{IsSplit, IsResolver, IsNameOf, IsBranchOf, LacksUse, IsEndFrom, LeadsNowhere};
 
 use crate::classes::MergeEnd;
 use crate::tables::{UseTable, use_tables};

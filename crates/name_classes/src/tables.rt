@@ -1,6 +1,6 @@
 //! The uses of records by the names of their elements.
 ghost use Rattle.std.specs.Prelude.{◌≡◌, IfOk};
-ghost use Rattle.name_classes.specs.UseTables.{AreUseTables, IsTableOf, number_of};
+ghost use Rattle.name_classes.specs.steps.UseTables.{AreUseTables, IsTableOf, number_of};
 
 use ext_model::{CellExt, UseRec};
 use std::alloc::{AllocError, Global};

@@ -32,7 +32,7 @@ use Rattle.ext_model.specs.NodeNames.{is_naming_text}
 use Rattle.flood_nodes.specs.TileShares.{no_tile}
 use Rattle.names.specs.declared.attaching.Attachment.{Attachment}
 use Rattle.names.specs.Attachments.{touched, Suits, AttachesTo}
-use Rattle.names.specs.TakenLabels.{suits_kind, image_within, takes, attachment_on, place_of, IsLeastOn, IsAttachment}
+use Rattle.names.specs.steps.TakenLabels.{suits_kind, image_within, takes, attachment_on, place_of, IsLeastOn, IsAttachment}
 use Rattle.names.proofs.PlaceOrders.{IsNoLater-trans, no_later_by_parts}
 use Rattle.names.proofs.TakingLaws.{IsLeastTaken-iff}
 

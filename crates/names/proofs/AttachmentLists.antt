@@ -10,14 +10,14 @@ use Rattle.finite_sets.proofs.Members.{In-get_or, In-index}
 use Rattle.ext_model.specs.NodeNames.{is_naming_text}
 use Rattle.flood_nodes.specs.SoundTiles.{IsSoundTile}
 use Rattle.flood_nodes.specs.TileShares.{no_tile}
-use Rattle.names.specs.CountedLabels.{region_found, text_at, IsNamed, AreCounted}
-use Rattle.names.specs.FirstTiles.{AreFirstTiles}
+use Rattle.names.specs.steps.CountedLabels.{region_found, text_at, IsNamed, AreCounted}
+use Rattle.names.specs.steps.FirstTiles.{AreFirstTiles}
 use Rattle.tech_model.specs.declared.raw.Label.{Label}
 use Rattle.tech_model.specs.declared.raw.RawTech.{RawTech}
 use Rattle.layout_model.specs.declared.region_tiles.RegionTile.{RegionTile}
 use Rattle.names.specs.declared.attaching.Attachment.{Attachment}
 use Rattle.names.specs.Attachments.{label_at, no_label}
-use Rattle.names.specs.TakenLabels.{IsAttachment, AreAttachments, found_at}
+use Rattle.names.specs.steps.TakenLabels.{IsAttachment, AreAttachments, found_at}
 use Rattle.names.proofs.AttachLaws.{attachment_moved}
 
 module _ (raw : RawTech) (tiles : List RegionTile) (labels : List Label) where

@@ -9,7 +9,7 @@ use Rattle.geo_core.proofs.CoveringLaws.{within_joined_second}
 use Rattle.layout_model.specs.declared.region_tiles.RegionTile.{RegionTile}
 use Rattle.flood_nodes.specs.TileShares.{tile_at}
 use Rattle.names.specs.declared.blocks.Block.{Block}
-use Rattle.names.specs.Blocks.{IsWithinBlock, IsBlockFrom, AddsTile, is_like}
+use Rattle.names.specs.steps.Blocks.{IsWithinBlock, IsBlockFrom, AddsTile, is_like}
 
 -- what stands past the end of a list of blocks
 abbrev pub no_block : Block

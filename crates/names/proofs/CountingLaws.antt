@@ -16,7 +16,7 @@ use Rattle.finite_sets.proofs.Chains.{Chain-one, Chain-append, Chain-same, Chain
 use Rattle.finite_sets.proofs.Members.{In-append_left, In-append_right, In-append_cases}
 use Rattle.partition.specs.Divides.{IsJoined, IsPair}
 use Rattle.ext_model.specs.NodeNames.{is_global}
-use Rattle.names.specs.CountedLabels.{counted_region, joined_pair, IsCounted, IsFirstRegion, IsNamed, ShareText, AreCounted}
+use Rattle.names.specs.steps.CountedLabels.{counted_region, joined_pair, IsCounted, IsFirstRegion, IsNamed, ShareText, AreCounted}
 
 -- two texts are one or not
 pub same_or_not : (a b : List ℕ) → (a ≡ b) ⊎ (a ≢ b)

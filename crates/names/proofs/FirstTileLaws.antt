@@ -16,7 +16,7 @@ use Rattle.finite_sets.proofs.Orders.{int_cmp-not_less, ordering_then-not_less, 
 use Rattle.layout_model.specs.Places.{IsNoLater}
 use Rattle.layout_model.specs.declared.region_tiles.RegionTile.{RegionTile}
 use Rattle.flood_nodes.specs.TileShares.{tile_at, no_tile}
-use Rattle.names.specs.FirstTiles.{corner_place, class_of, IsFirstTile, AreFirstTiles}
+use Rattle.names.specs.steps.FirstTiles.{corner_place, class_of, IsFirstTile, AreFirstTiles}
 use Rattle.names.proofs.PlaceOrders.{no_later_by_parts}
 use Rattle.names.proofs.TakingLaws.{IsSeen}
 

@@ -8,7 +8,7 @@ use Rattle.std.proofs.lemmas.List.Quantifiers.{all_pairs_push}
 use Rattle.std.proofs.lemmas.Option.{none-some, same_Some}
 use Rattle.finite_sets.specs.Lists.{In}
 use Rattle.finite_sets.proofs.Members.{In-get_or, In-push_cases, In-push, In-append_left}
-use Rattle.names.specs.Groups.{IsGroup, AreGroupsBy, AreGroups, AddsMember, key_at, class_in, region_key, label_key}
+use Rattle.names.specs.steps.Groups.{IsGroup, AreGroupsBy, AreGroups, AddsMember, key_at, class_in, region_key, label_key}
 
 -- a group has nothing of no numbers
 pub group_none : (keys : ℕ → Option ℕ) (group : ℕ) (members : List ℕ) → members ≡ [] → IsGroup keys 0 group members

@@ -23,10 +23,10 @@ use Rattle.flood_nodes.specs.TileShares.{no_tile}
 use Rattle.flood_nodes.proofs.TileEdges.{lies_in_one}
 use Rattle.names.specs.declared.attaching.Attachment.{Attachment}
 use Rattle.names.specs.Attachments.{AttachesTo, label_at, IsFirstToAttach, NamesPlace, HasText}
-use Rattle.names.specs.CountedLabels.{region_found, text_at, IsNamed, ShareText, AreCounted}
-use Rattle.names.specs.Groups.{key_at}
+use Rattle.names.specs.steps.CountedLabels.{region_found, text_at, IsNamed, ShareText, AreCounted}
+use Rattle.names.specs.steps.Groups.{key_at}
 use Rattle.names.specs.NamedNodes.{ShareGlobal, AreOneNamedNode}
-use Rattle.names.specs.TakenLabels.{place_of, IsAttachment, found_at}
+use Rattle.names.specs.steps.TakenLabels.{place_of, IsAttachment, found_at}
 use Rattle.names.proofs.AttachLaws.{suits_material, found_attaches, none_attaches, one_place}
 
 module _ (raw : RawTech) (well : IsWellFormed raw) (layout : Layout) (labels : List Label) (tiles : List RegionTile) (count : ℕ)

@@ -27,12 +27,12 @@ use Rattle.flood_nodes.specs.TileShares.{no_tile}
 use Rattle.names.specs.declared.attaching.Attachment.{Attachment}
 use Rattle.names.specs.declared.nodes.NamedNode.{NamedNode}
 use Rattle.names.specs.Attachments.{label_at, NamesPlace, AreTextsOf, AreUnattached, IsUnattached}
-use Rattle.names.specs.CountedLabels.{region_found, text_at, AreCounted}
-use Rattle.names.specs.FirstTiles.{corner_place, class_of, IsFirstTile, AreFirstTiles}
+use Rattle.names.specs.steps.CountedLabels.{region_found, text_at, AreCounted}
+use Rattle.names.specs.steps.FirstTiles.{corner_place, class_of, IsFirstTile, AreFirstTiles}
 use Rattle.names.specs.GeneratedNames.{generated_name}
-use Rattle.names.specs.Groups.{key_at, class_in, region_key, label_key, IsGroup, AreNodeNames, IsNodeOn, AreNodesOf}
+use Rattle.names.specs.steps.Groups.{key_at, class_in, region_key, label_key, IsGroup, AreNodeNames, IsNodeOn, AreNodesOf}
 use Rattle.names.specs.NamedNodes.{AreOneNamedNode, IsTextIn, IsNameOf, least_of, IsNamedNode, AreNamedNodes}
-use Rattle.names.specs.TakenLabels.{IsAttachment, found_at}
+use Rattle.names.specs.steps.TakenLabels.{IsAttachment, found_at}
 use Rattle.names.proofs.AttachLaws.{lies_on, tile_among, tile_proper, corner_first}
 use Rattle.names.proofs.JoinedRegions.{named_region, names_region, nodes_from_classes, node_material, region_below}
 use Rattle.names.proofs.PlaceOrders.{IsNoLater-trans}

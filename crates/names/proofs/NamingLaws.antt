@@ -16,8 +16,8 @@ use Rattle.finite_sets.proofs.Members.{In-map, In-map_source, In-permutation, In
 use Rattle.tech_model.specs.declared.raw.Label.{Label}
 use Rattle.ext_model.specs.NameOrder.{name_cmp}
 use Rattle.ext_model.proofs.NameOrders.{name_cmp_total, name_cmp_exact}
-use Rattle.names.specs.CountedLabels.{text_at}
-use Rattle.names.specs.Groups.{AreNamesAt}
+use Rattle.names.specs.steps.CountedLabels.{text_at}
+use Rattle.names.specs.steps.Groups.{AreNamesAt}
 
 equal_from_test : (order : Ordering) → is_eq order ≡ true → order ≡ Equal
 equal_from_test Less is = absurd (false≢true is)

@@ -7,8 +7,8 @@ use Rattle.tech_model.specs.declared.raw.Label.{Label}
 use Rattle.tech_model.specs.declared.raw.RawTech.{RawTech}
 use Rattle.layout_model.specs.declared.region_tiles.RegionTile.{RegionTile}
 use Rattle.names.specs.declared.nodes.NamedNode.{NamedNode}
-use Rattle.names.specs.FirstTiles.{class_of}
-use Rattle.names.specs.Groups.{IsNodeOn, AreNodesOn, AreNodesOf, AreGroupsBy, region_key, label_key}
+use Rattle.names.specs.steps.FirstTiles.{class_of}
+use Rattle.names.specs.steps.Groups.{IsNodeOn, AreNodesOn, AreNodesOf, AreGroupsBy, region_key, label_key}
 
 module _ (raw : RawTech) (labels : List Label) (firsts : List RegionTile) (classes : List ℕ) (regions indices : List (Vec ℕ Global)) where
   -- The first nodes were made.

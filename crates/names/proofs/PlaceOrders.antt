@@ -8,7 +8,7 @@ use Rattle.finite_sets.proofs.Orders.{less_equal_or_greater}
 use Rattle.layout_model.specs.Places.{Place, IsBefore, IsNoLater}
 use Rattle.layout_model.proofs.PlaceLaws.{IsBefore-trans}
 use Rattle.names.specs.declared.attaching.Attachment.{Attachment}
-use Rattle.names.specs.TakenLabels.{place_of, stands_earlier}
+use Rattle.names.specs.steps.TakenLabels.{place_of, stands_earlier}
 
 -- of three places in order the first is the least
 pub IsNoLater-trans : (a b c : Place) → IsNoLater a b → IsNoLater b c → IsNoLater a c

@@ -15,8 +15,8 @@ use Rattle.flood_nodes.specs.TileShares.{tile_at, no_tile}
 use Rattle.names.specs.declared.attaching.Attachment.{Attachment}
 use Rattle.names.specs.declared.blocks.Block.{Block}
 use Rattle.names.specs.Attachments.{touched}
-use Rattle.names.specs.Blocks.{IsWithinBlock, IsBlockFrom, IsBeaten, IsBlockBeaten}
-use Rattle.names.specs.TakenLabels.{suits_kind, takes, attachment_on, place_of, stands_earlier, earlier, IsLeastTaken}
+use Rattle.names.specs.steps.Blocks.{IsWithinBlock, IsBlockFrom, IsBeaten, IsBlockBeaten}
+use Rattle.names.specs.steps.TakenLabels.{suits_kind, takes, attachment_on, place_of, stands_earlier, earlier, IsLeastTaken}
 use Rattle.names.proofs.PlaceOrders.{IsNoLater-trans, no_later_by_parts, stands_earlier-true, stands_earlier-false}
 
 -- The tile stands in the list before this index.

@@ -11,8 +11,8 @@ use Rattle.finite_sets.proofs.Listings.{Lists-none, Lists-iff}
 use Rattle.finite_sets.proofs.Members.{In-get_or, In-push_cases, In-push, In-append_left}
 use Rattle.tech_model.specs.declared.raw.Label.{Label}
 use Rattle.names.specs.Attachments.{AreTextsOf}
-use Rattle.names.specs.CountedLabels.{text_at}
-use Rattle.names.specs.Groups.{key_at}
+use Rattle.names.specs.steps.CountedLabels.{text_at}
+use Rattle.names.specs.steps.Groups.{key_at}
 
 -- the index stands before this one, and the label at it names nothing
 abbrev pub IsLeftBelow : List (Option ℕ) → ℕ → ℕ → Type 0

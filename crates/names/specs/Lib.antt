@@ -2,8 +2,4 @@ pub mod Attachments
 pub mod GeneratedNames
 pub mod Labels
 pub mod NamedNodes
-pub mod TakenLabels
-pub mod Blocks
-pub mod CountedLabels
-pub mod FirstTiles
-pub mod Groups
+pub mod steps

@@ -5,9 +5,9 @@ ghost use Rattle.geo_core.specs.Areas.{IsNear, IsSmall};
 ghost use Rattle.geo_core.specs.Areas.{common_rect};
 ghost use Rattle.tech_model.specs.WellFormed.{IsWellFormed};
 ghost use Rattle.names.specs.Attachments.{touched_along, touched};
-ghost use Rattle.names.specs.Blocks.{AreBlocks, IsBlockBeaten};
+ghost use Rattle.names.specs.steps.Blocks.{AreBlocks, IsBlockBeaten};
 ghost use Rattle.names.specs.Labels.{IsLayerOf, IsLabelOf};
-ghost use Rattle.names.specs.TakenLabels.{suits_kind, takes, attachment_on, stands_earlier, earlier, IsLeastTaken, IsAttachment, AreAttachments};
+ghost use Rattle.names.specs.steps.TakenLabels.{suits_kind, takes, attachment_on, stands_earlier, earlier, IsLeastTaken, IsAttachment, AreAttachments};
 
 use crate::blocks::Block;
 use crate::texts::is_naming_text;

@@ -1,6 +1,6 @@
 //! Blocks of tiles that follow each other in a list, so that a search can pass over them.
 ghost use Rattle.std.specs.Prelude.{◌≡◌, ◌<◌, ◌≤◌, IfOk, IsPermutation, length};
-ghost use Rattle.names.specs.Blocks.{is_like, AreBlocks, IsBlockFrom, AddsTile};
+ghost use Rattle.names.specs.steps.Blocks.{is_like, AreBlocks, IsBlockFrom, AddsTile};
 
 use geo_core::{PLANE_EDGE, Rect};
 use layout_model::RegionTile;

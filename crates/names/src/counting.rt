@@ -4,7 +4,7 @@ ghost use Rattle.std.specs.Option.{unwrap_or};
 ghost use Rattle.std.specs.Ordering.{nat_cmp};
 ghost use Rattle.std.specs.Cmp.Lexicographic.{slice_cmp};
 ghost use Rattle.std.specs.BTreeMap.{get};
-ghost use Rattle.names.specs.CountedLabels.{IsCounted, AreCounted, text_at, region_found};
+ghost use Rattle.names.specs.steps.CountedLabels.{IsCounted, AreCounted, text_at, region_found};
 
 use crate::attaching::Attachment;
 use crate::texts::is_global;

@@ -2,7 +2,7 @@
 ghost use Rattle.std.specs.Prelude.{◌≡◌, ◌<◌, All, AllPairs, IfOk, IsPermutation, length};
 ghost use Rattle.finite_sets.specs.Lists.{In};
 ghost use Rattle.layout_model.specs.Places.{IsNoLater};
-ghost use Rattle.names.specs.FirstTiles.{corner_place, AreFirstTiles, AreUnmarked};
+ghost use Rattle.names.specs.steps.FirstTiles.{corner_place, AreFirstTiles, AreUnmarked};
 
 use layout_model::RegionTile;
 use std::alloc::{AllocError, Global};

@@ -1,6 +1,6 @@
 //! Numbers in groups by their keys.
 ghost use Rattle.std.specs.Prelude.{◌≡◌, ◌<◌, ℕ, All, IfOk, IfSome, OnOk, [], length, map, Some, take};
-ghost use Rattle.names.specs.Groups.{AreGroups, AreGroupsBy, AddsMember, class_in, region_key, label_key};
+ghost use Rattle.names.specs.steps.Groups.{AreGroups, AreGroupsBy, AddsMember, class_in, region_key, label_key};
 
 use std::alloc::{AllocError, Global};
 

@@ -3,9 +3,9 @@ ghost use Rattle.std.specs.Prelude.{◌≡◌, ◌++◌, ◌<◌, All, IfOk, OnO
 ghost use Rattle.geo_core.specs.Areas.{corner_of, IsNear};
 ghost use Rattle.tech_model.specs.Types.{is_type};
 ghost use Rattle.ext_model.specs.NameOrder.{name_cmp};
-ghost use Rattle.names.specs.CountedLabels.{text_at};
+ghost use Rattle.names.specs.steps.CountedLabels.{text_at};
 ghost use Rattle.names.specs.GeneratedNames.{coordinate_text, generated_name};
-ghost use Rattle.names.specs.Groups.{AreNamesAt, AreNodeNames};
+ghost use Rattle.names.specs.steps.Groups.{AreNamesAt, AreNodeNames};
 
 use ext_model::compare_names;
 use geo_core::Square;

@@ -4,9 +4,9 @@ ghost use Rattle.tech_model.specs.Types.{connects, is_type};
 ghost use Rattle.layout_model.specs.Layouts.{Layout as OneLayout};
 ghost use Rattle.layout_model.specs.RegionTiles.{AreRegions};
 ghost use Rattle.names.specs.Attachments.{AreUnattached, AreTextsOf};
-ghost use Rattle.names.specs.CountedLabels.{AreCountedOn};
-ghost use Rattle.names.specs.FirstTiles.{class_of};
-ghost use Rattle.names.specs.Groups.{AreGroups, AreNodesOf, AreNodesOn, IsNodeOn, key_at};
+ghost use Rattle.names.specs.steps.CountedLabels.{AreCountedOn};
+ghost use Rattle.names.specs.steps.FirstTiles.{class_of};
+ghost use Rattle.names.specs.steps.Groups.{AreGroups, AreNodesOf, AreNodesOn, IsNodeOn, key_at};
 ghost use Rattle.names.specs.Labels.{IsLabelOf};
 ghost use Rattle.names.specs.NamedNodes.{AreNamedNodes};
 

@@ -2,14 +2,17 @@
 ghost use Rattle.std.specs.Prelude.{◌≡◌, ◌↔◌, ◌==◌, [], IfOk, IsTrue};
 ghost use lib.Pointwise.{pointwise};
 
+use smallvec::SmallVec;
 use std::alloc::{AllocError, Global};
 use std::cmp::Ordering;
 use std::marker::Model;
 
 /// A name of a cell, a node, a layer or a file. Contracts see it as the list of its bytes.
+///
+/// A name of at most 16 bytes, as most are, stands in the value itself and takes no memory beside.
 #[derive(Debug, Drop)]
 pub struct Name {
-    text: Vec<u8>,
+    text: SmallVec<u8, 16>,
 }
 
 impl Model for Name {
@@ -26,7 +29,7 @@ impl Name {
         ensures { result ≡ [] }
     {
         Name {
-            text: Vec::new(alloc),
+            text: SmallVec::new(alloc),
         }
     }
 
@@ -35,7 +38,7 @@ impl Name {
         ensures { IfOk result (λ name. name ≡ bytes.now) }
     {
         Ok(Name {
-            text: Vec::from_slice(alloc, bytes)?,
+            text: SmallVec::from_slice(alloc, bytes)?,
         })
     }
 

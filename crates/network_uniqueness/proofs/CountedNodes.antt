@@ -4,7 +4,7 @@ use Rattle.std.specs.Prelude.{◌↔◌}
 use Rattle.std.proofs.lemmas.Bool.{cases_lt}
 use Rattle.switch_net.specs.Network.{Network}
 use Rattle.switch_net.specs.SimRecords.{IsNetworkOf, SimRecords}
-use Rattle.sim_networks.specs.Numbering.{AreNodesOf}
+use Rattle.sim_networks.specs.steps.Numbering.{AreNodesOf}
 use Rattle.sim_networks.specs.SimNetworks.{HasMoreNodesThan}
 use Rattle.sim_networks.proofs.CountLaws.{few_nodes, many_nodes}
 

@@ -16,7 +16,7 @@ use Rattle.switch_net.specs.Names.{HasName, NameNodesBelow, NameOneNodeEach}
 use Rattle.switch_net.specs.Network.{Network}
 use Rattle.switch_net.specs.Path.{is_input}
 use Rattle.switch_net.specs.SimRecords.{AreOfOneNode, AreTransistors, IsLetterOf, IsNetworkOf, SimRecords, TransistorLine}
-use Rattle.sim_networks.specs.Numbering.{arrivals}
+use Rattle.sim_networks.specs.steps.Numbering.{arrivals}
 use Rattle.sim_networks.specs.SimNetworks.{StandsAt}
 use Rattle.sim_networks.proofs.NodeLaws.{to_arrivals}
 use Rattle.vector_runs.proofs.RailStates.{same_networks}

@@ -20,7 +20,7 @@ use Rattle.offences.specs.declared.stacks.PartKind.{PartKind}
 use Rattle.offences.specs.declared.stacks.TypedStack.{TypedStack}
 use Rattle.offences.specs.Changes.{number_of, same_role}
 use Rattle.offences.specs.Offences.{SetLayout, joined_at, flat_type, union_of, HasKind, ChangesRole}
-use Rattle.offences.specs.Pieces.{is_hidden, is_shared, is_lost, spoils, is_spoiled, changes_role, sides_of, changed, changed_by}
+use Rattle.offences.specs.steps.Pieces.{is_hidden, is_shared, is_lost, spoils, is_spoiled, changes_role, sides_of, changed, changed_by}
 use Rattle.offences.specs.Roles.{Role, Channel, Terminal, Other, role_of}
 use Rattle.offences.specs.TypedStacks.{kind_in, has_kind, owner_of, on_plane, IsTypedStack}
 use Rattle.offences.proofs.KindLaws.{one_passes}

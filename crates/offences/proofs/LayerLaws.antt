@@ -31,9 +31,9 @@ use Rattle.tech_model.proofs.SetLaws.{set_not_empty}
 use Rattle.layout_model.specs.LayerTypes.{Kinds, AreTypesOf, or_space}
 use Rattle.layout_model.specs.Places.{Place, AreNeighbours}
 use Rattle.offences.specs.declared.set_tiles.SetTile.{SetTile}
-use Rattle.offences.specs.LayerParts.{layer_tile, IsPartTile, ArePartTiles}
+use Rattle.offences.specs.steps.LayerParts.{layer_tile, IsPartTile, ArePartTiles}
 use Rattle.offences.specs.Offences.{SetLayout, joined_at, flat_type, union_of, is_exactly, parts_with, HasKind, Offends, OffendsOn, HaveTypes}
-use Rattle.offences.specs.Pieces.{CoverExactly}
+use Rattle.offences.specs.steps.Pieces.{CoverExactly}
 use Rattle.offences.specs.Roles.{role_of}
 use Rattle.offences.specs.SetTiles.{AreTilesOfParts, tile_part, tile_parts, set_layout}
 use Rattle.offences.specs.TypedStacks.{on_plane}

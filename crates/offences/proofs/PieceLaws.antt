@@ -26,8 +26,8 @@ use Rattle.tech_model.specs.Types.{joined}
 use Rattle.tech_model.specs.WellFormed.{IsWellFormed}
 use Rattle.offences.specs.declared.stacks.TypedStack.{TypedStack}
 use Rattle.offences.specs.Offences.{SetLayout, joined_at, flat_type, OffendsOn, ChangesRole}
-use Rattle.offences.specs.Pieces.{is_spoiled, has_owner, changed, changed_across, changed_pieces, spoiled_areas, CoverExactly, AreFoundChanges}
-use Rattle.offences.specs.Pieces.{no_channel, of_contacts}
+use Rattle.offences.specs.steps.Pieces.{is_spoiled, has_owner, changed, changed_across, changed_pieces, spoiled_areas, CoverExactly, AreFoundChanges}
+use Rattle.offences.specs.steps.Pieces.{no_channel, of_contacts}
 use Rattle.offences.specs.Roles.{role_of}
 use Rattle.offences.specs.TypedStacks.{typed_stack_areas, on_plane, typed_stack_at, no_typed_stack, AreTypedStacks}
 use Rattle.offences.proofs.ChangeLaws.{changed_sound, changed_whole, changes_elsewhere, owns_here, union_none}

@@ -15,7 +15,7 @@ use Rattle.rect_contacts.specs.declared.contacts.Contact.{Contact}
 use Rattle.rect_contacts.specs.Contacts.{shared_length, IsSharedEdge}
 use Rattle.rect_contacts.specs.Rects.{rect_at, no_rect}
 use Rattle.rect_contacts.proofs.Abutting.{neighbours_share}
-use Rattle.offences.specs.Pieces.{moved_rect, sides_of}
+use Rattle.offences.specs.steps.Pieces.{moved_rect, sides_of}
 
 -- the square, moved
 abbrev pub moved_square : Square → ℤ → ℤ → Square

@@ -22,7 +22,7 @@ use Rattle.offences.specs.declared.stacks.PartKind.{PartKind}
 use Rattle.offences.specs.declared.stacks.TypedStack.{TypedStack}
 use Rattle.offences.specs.Changes.{number_of}
 use Rattle.offences.specs.Offences.{SetLayout, flat_type, parts_with, HasKind, HasNoType, HidesPart, SharesChannel, LosesChannel}
-use Rattle.offences.specs.Pieces.{is_hidden, is_shared, is_lost, spoils, is_spoiled}
+use Rattle.offences.specs.steps.Pieces.{is_hidden, is_shared, is_lost, spoils, is_spoiled}
 use Rattle.offences.specs.TypedStacks.{kind_in, has_kind, on_plane, IsTypedStack}
 use Rattle.offences.proofs.KindLaws.{kind_in-listed, kind_is_listed, parts_with-kinds}
 

@@ -10,5 +10,4 @@ pub mod PartSets
 pub mod Changes
 pub mod TypedStacks
 pub mod PlaneStacks
-pub mod Pieces
-pub mod LayerParts
+pub mod steps

@@ -1,7 +1,7 @@
 //! Squares of channels beside which a role changes.
 ghost use Rattle.std.specs.Prelude.{◌≡◌, ◌<◌, ◌++◌, All, length, IfOk, OnOk, pos, negsuc, ◌≤ℤ◌};
 ghost use Rattle.geo_core.specs.Areas.{IsNear};
-ghost use Rattle.offences.specs.Pieces.{changes_role, moved_rect, sides_of, changed, changed_pieces};
+ghost use Rattle.offences.specs.steps.Pieces.{changes_role, moved_rect, sides_of, changed, changed_pieces};
 ghost use Rattle.offences.specs.TypedStacks.{AreByPart, kind_in};
 
 use crate::roles::role_of;

@@ -5,7 +5,7 @@ ghost use Rattle.geo_core.specs.Areas.{widened, common_rect, IsNear};
 ghost use Rattle.geo_core.specs.Covering.{Covers, IsProper};
 ghost use Rattle.geo_core.specs.Strips.{IsStrips};
 ghost use Rattle.layout_model.specs.LayerTypes.{AreTypesOf};
-ghost use Rattle.offences.specs.LayerParts.{layer_tile, ArePartTiles};
+ghost use Rattle.offences.specs.steps.LayerParts.{layer_tile, ArePartTiles};
 ghost use Rattle.offences.specs.Offences.{OffendsOn};
 ghost use Rattle.offences.specs.SetTiles.{set_layout};
 

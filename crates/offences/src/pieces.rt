@@ -5,7 +5,7 @@ ghost use Rattle.geo_core.specs.Areas.{IsNear, AreDisjoint};
 ghost use Rattle.geo_core.specs.Covering.{IsProper};
 ghost use Rattle.geo_core.specs.Strips.{IsStrips};
 ghost use Rattle.offences.specs.Offences.{SetLayout, OffendsOn, HaveTypes};
-ghost use Rattle.offences.specs.Pieces.{has_owner, CoverExactly, AreFoundChanges};
+ghost use Rattle.offences.specs.steps.Pieces.{has_owner, CoverExactly, AreFoundChanges};
 ghost use Rattle.offences.specs.SetTiles.{AreTilesOfParts, tile_parts};
 ghost use Rattle.offences.specs.TypedStacks.{typed_stack_areas, AreByPart, AreTypedStacks};
 

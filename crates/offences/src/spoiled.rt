@@ -1,7 +1,7 @@
 //! Pieces that offend for what stands in them.
 ghost use Rattle.std.specs.Prelude.{◌≡◌, IfOk};
 ghost use Rattle.std.specs.List.{list_any};
-ghost use Rattle.offences.specs.Pieces.{is_hidden, is_shared, is_lost, is_spoiled, spoiled_areas};
+ghost use Rattle.offences.specs.steps.Pieces.{is_hidden, is_shared, is_lost, is_spoiled, spoiled_areas};
 
 use crate::stacks::{PartKind, TypedStack};
 use geo_core::Rect;

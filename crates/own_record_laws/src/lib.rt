@@ -1,6 +1,6 @@
 //! The laws that the record of a cell without uses is held to. The functions here do nothing; their contracts are the laws.
 //!
-//! `specs/Laws.antt` has them, over `own_records`' definitions of the record and of the circuit of a layout with labels.
+//! `specs/Laws.antt` has them, over `tree_records`' definitions of the record and of the circuit of a layout with labels.
 //!
 //! # How the proof goes
 //!

@@ -16,7 +16,7 @@ use Rattle.merge_rows.proofs.AddedRows.{add_none, add_same, add_then}
 use Rattle.meeting_sums.specs.TreeRecords.Merges.{Adjustment, MemberGroup, group_merges, is_zero_adjustment, merge_of, zero_adjustment}
 use Rattle.meeting_sums.specs.declared.sums.MeetingSum.{MeetingSum}
 use Rattle.piece_groups.specs.declared.members.Member.{Member}
-use Rattle.piece_groups.specs.Groups.{name_at, mark_at, names_behind, merges_behind, is_first, sum_at, group_at, groups_before, AddsMerges}
+use Rattle.piece_groups.specs.steps.Groups.{name_at, mark_at, names_behind, merges_behind, is_first, sum_at, group_at, groups_before, AddsMerges}
 use Rattle.piece_groups.specs.MarkedGroups.{adjustment_of}
 use Rattle.piece_groups.proofs.WalkLaws.{IsNext, mark_read}
 

@@ -8,8 +8,8 @@ use Rattle.std.proofs.lemmas.List.{length-set, length-map, get_or-set_same, get_
 use Rattle.std.proofs.lemmas.List.Elements.{All-get_or}
 use Rattle.finite_sets.proofs.Searches.{drop_split}
 use Rattle.piece_groups.specs.declared.members.Member.{Member}
-use Rattle.piece_groups.specs.Members.{marks_of}
-use Rattle.piece_groups.specs.Links.{place_with, AreLinkedFrom}
+use Rattle.piece_groups.specs.steps.Members.{marks_of}
+use Rattle.piece_groups.specs.steps.Links.{place_with, AreLinkedFrom}
 
 -- a place has its mark, or the first place with that mark stands behind it
 pub place_with_here : (marks : List ℕ) (from mark : ℕ) → from < length marks

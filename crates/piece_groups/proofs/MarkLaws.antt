@@ -23,11 +23,11 @@ use Rattle.meeting_sums.specs.TreeRecords.FetRecords.{IsNameBefore}
 use Rattle.meeting_sums.specs.TreeRecords.Merges.{MemberGroup, group_name, group_merges, zero_adjustment}
 use Rattle.meeting_sums.specs.declared.sums.MeetingSum.{MeetingSum}
 use Rattle.piece_groups.specs.declared.members.Member.{Member}
-use Rattle.piece_groups.specs.Groups.{name_at, mark_at, names_with, names_behind, is_first, sum_at, group_at, all_groups, AddsMerges}
-use Rattle.piece_groups.specs.Links.{place_with}
+use Rattle.piece_groups.specs.steps.Groups.{name_at, mark_at, names_with, names_behind, is_first, sum_at, group_at, all_groups, AddsMerges}
+use Rattle.piece_groups.specs.steps.Links.{place_with}
 use Rattle.piece_groups.specs.MarkedGroups.{adjustment_of, HasMark, IsGroupOfMark, AreMarkedGroups}
 use Rattle.piece_groups.specs.MarkMerges.{AreMergesOfMarks}
-use Rattle.piece_groups.specs.Members.{marks_of, AreMembers}
+use Rattle.piece_groups.specs.steps.Members.{marks_of, AreMembers}
 use Rattle.piece_groups.proofs.WalkLaws.{StandsFirst, first_or_none, stands_at, name_read, mark_within}
 
 -- numbers in a row rise

@@ -23,7 +23,7 @@ use Rattle.ext_model.specs.NodeNames.{name_kind, slashes_in}
 use Rattle.ext_model.proofs.NameOrders.{name_cmp_total, name_cmp_exact}
 use Rattle.meeting_sums.specs.TreeRecords.FetRecords.{IsNameBefore}
 use Rattle.piece_groups.specs.declared.members.Member.{Member}
-use Rattle.piece_groups.specs.Members.{names_of, marks_of, member_cmp, member_rank, IsMemberAt, AreMembers}
+use Rattle.piece_groups.specs.steps.Members.{names_of, marks_of, member_cmp, member_rank, IsMemberAt, AreMembers}
 
 pub member_cmp_total : IsTotalOrder member_cmp
 unfolding member_cmp

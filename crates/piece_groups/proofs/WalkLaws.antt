@@ -15,9 +15,9 @@ use Rattle.merge_rows.specs.AddedMerges.{AddsToRows}
 use Rattle.merge_rows.proofs.AddedRows.{add_none, add_same, add_then}
 use Rattle.piece_groups.specs.declared.links.LinkedMembers.{LinkedMembers}
 use Rattle.piece_groups.specs.declared.members.Member.{Member}
-use Rattle.piece_groups.specs.Groups.{name_at, mark_at, names_with, names_behind}
-use Rattle.piece_groups.specs.Links.{place_with, AreLinked}
-use Rattle.piece_groups.specs.Members.{names_of, marks_of}
+use Rattle.piece_groups.specs.steps.Groups.{name_at, mark_at, names_with, names_behind}
+use Rattle.piece_groups.specs.steps.Links.{place_with, AreLinked}
+use Rattle.piece_groups.specs.steps.Members.{names_of, marks_of}
 use Rattle.piece_groups.proofs.LinkLaws.{place_with_same, place_with_other, place_with_past}
 
 -- The member stands at the place, with those behind it.

@@ -7,8 +7,6 @@ pub mod PieceMembers
 pub mod MemberMarks
 pub mod MemberLaws
 pub mod MarkedGroups
-pub mod Members
-pub mod Links
-pub mod Groups
 pub mod MarkMerges
 pub mod Laws
+pub mod steps

@@ -1,7 +1,7 @@
 //! Which members have one mark.
 ghost use Rattle.std.specs.Prelude.{◌≡◌, ◌<◌, All, IfOk, length};
-ghost use Rattle.piece_groups.specs.Groups.{is_first, mark_at};
-ghost use Rattle.piece_groups.specs.Links.{AreLinked};
+ghost use Rattle.piece_groups.specs.steps.Groups.{is_first, mark_at};
+ghost use Rattle.piece_groups.specs.steps.Links.{AreLinked};
 
 use crate::members::Member;
 use std::alloc::{AllocError, Global};

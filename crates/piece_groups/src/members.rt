@@ -2,7 +2,7 @@
 ghost use Rattle.std.specs.Prelude.{◌≡◌, ◌≤◌, IfOk, IsPermutation, IsSorted, length};
 ghost use Rattle.finite_sets.specs.Lists.{Distinct};
 ghost use Rattle.ext_model.specs.NodeNames.{name_kind, slashes_in};
-ghost use Rattle.piece_groups.specs.Members.{member_cmp, AreMembers};
+ghost use Rattle.piece_groups.specs.steps.Members.{member_cmp, AreMembers};
 
 use ext_model::{NameKind, SLASH, kind_of_name};
 use names_lists::Name;

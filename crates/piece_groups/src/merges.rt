@@ -8,8 +8,8 @@ ghost use Rattle.ext_model.specs.declared.records.MergeRec.{MergeRec};
 ghost use Rattle.ext_model.specs.Rows.{AreRowsOf};
 ghost use Rattle.merge_rows.specs.AddedMerges.{AddsToRows};
 ghost use Rattle.meeting_sums.specs.TreeRecords.Merges.{is_zero_adjustment, merge_of, zero_adjustment};
-ghost use Rattle.piece_groups.specs.Groups.{merges_behind, mark_at, group_at, all_groups, AddsMerges};
-ghost use Rattle.piece_groups.specs.Links.{AreLinked};
+ghost use Rattle.piece_groups.specs.steps.Groups.{merges_behind, mark_at, group_at, all_groups, AddsMerges};
+ghost use Rattle.piece_groups.specs.steps.Links.{AreLinked};
 ghost use Rattle.piece_groups.specs.MarkedGroups.{adjustment_of};
 ghost use Rattle.piece_groups.specs.MarkMerges.{AreMergesOfMarks};
 

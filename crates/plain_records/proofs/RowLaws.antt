@@ -23,7 +23,7 @@ use Rattle.circuit_model.specs.Elements.{Element, elements_of}
 use Rattle.circuit_model.specs.Refusals.{past, merge_count}
 use Rattle.plain_records.specs.Plains.{plains, AreArrayRecords}
 use Rattle.plain_records.specs.Reached.{with_merges, AreCalled, IsExpandedAt}
-use Rattle.plain_records.specs.Rows.{capped, merges_in}
+use Rattle.plain_records.specs.steps.Rows.{capped, merges_in}
 use Rattle.plain_records.proofs.PlaceLaws.{array_of, own_array}
 use Rattle.plain_records.proofs.ReachLaws.{element_form, elements-new, all_reached}
 

@@ -48,12 +48,6 @@ rest_step values uses children at used long within is =
     read : (xs : List ℕ) (k : ℕ) → k < length xs → get_or xs k 0 ≡ get_or xs k (get_or xs k 0)
     read xs k h = get_or_default xs k 0 (get_or xs k 0) h
 
--- nothing is behind the last
-pub rest_none : (values : ℕ → ℕ) (uses : List ArrayUse) (children : List ℕ) (at : ℕ) → length children ≡ length uses → length children ≤ at
-    → rest_of values uses children at ≡ 0
-rest_none values uses children at long past =
-    ap (λ z. sum (map values (spread z (drop at children)))) (drop_all at uses (omega (arith, long)))
-
 -- the record that is read at a place
 ext_read : (exts : List ArrayExt) (root : ℕ) (graph : RecordGraph) (place cell : ℕ) (row : List ℕ) (ext : ArrayExt)
     → IsRead (thins exts) root graph place cell row → ext ≡ get_or exts cell ext → slice_get exts cell ≡ Some ext

@@ -8,7 +8,7 @@ use Rattle.geo_core.specs.Images.{identity, six_of}
 use Rattle.ext_model.specs.declared.limits.TheConstants.{SHIFT_EDGE}
 use Rattle.ext_model.specs.Lawful.{IsPlacement}
 use Rattle.ext_model.proofs.NearSteps.{element_placement}
-use Rattle.plain_records.specs.Steps.{IsShortStep}
+use Rattle.plain_records.specs.steps.Steps.{IsShortStep}
 
 -- the place at which a cell stands as it is
 still : IsPlacement SHIFT_EDGE (six_of identity)

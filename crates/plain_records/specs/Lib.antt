@@ -1,5 +1,4 @@
 pub mod Plains
-pub mod Steps
 pub mod Thin
 pub mod Reached
-pub mod Rows
+pub mod steps

@@ -1,6 +1,6 @@
 //! The merges of rows as records of their own.
 ghost use Rattle.std.specs.Prelude.{◌≡◌, ◌==◌, ◌∷◌, ◌++◌, position, IfOk, OnOk};
-ghost use Rattle.ext_model.specs.Plain.{before, behind, index_of, first_index, raised, plain_merges};
+ghost use Rattle.ext_model.specs.Plain.{before, behind, index_of, first_index, raised, plain_merge, plain_merges};
 ghost use Rattle.text_scan.specs.Decimal.{decimal};
 
 use ext_model::{MergeRec, MergeRow, copy_numbers};
@@ -89,6 +89,26 @@ fn raised(
     with_index(alloc, parts, i128::from(parts.index) + i128::from(n))
 }
 
+// The merge of this number of a row, whose first second path has these parts.
+fn plain_merge(
+    alloc: Global,
+    row: &MergeRow,
+    parts: &IndexedPath<'_>,
+    n: u64,
+) -> Result<MergeRec, AllocError>
+    requires front { parts.now.front.now ≡ before 91 row.now.second }
+    requires index { parts.now.index ≡ first_index row.now.second }
+    requires back { parts.now.back.now ≡ behind 44 (behind 91 row.now.second) }
+    ensures { IfOk result (λ merge. merge ≡ plain_merge row.now n) }
+{
+    Ok(MergeRec {
+        first: row.first.copy(alloc)?,
+        second: raised(alloc, row, parts, n)?,
+        cap: row.cap,
+        measures: copy_numbers(alloc, &row.measures)?,
+    })
+}
+
 /// Appends the merges of a row. Want of memory alone refuses.
 pub fn add_merges(
     alloc: Global,
@@ -99,12 +119,7 @@ pub fn add_merges(
 {
     let parts = indexed_path(row.second.bytes());
     for n in 0..row.count {
-        merges.push(MergeRec {
-            first: row.first.copy(alloc)?,
-            second: raised(alloc, row, &parts, n)?,
-            cap: row.cap,
-            measures: copy_numbers(alloc, &row.measures)?,
-        })?;
+        merges.push(plain_merge(alloc, row, &parts, n)?)?;
     }
     Ok(())
 }

@@ -6,7 +6,7 @@ ghost use Rattle.element_tree.specs.Trees.{IsTreeOf};
 ghost use Rattle.flat_limits.specs.Counts.{HasNoMergeFault, IsMergeFaultOf};
 ghost use Rattle.plain_records.specs.Plains.{plains, AreArrayRecords};
 ghost use Rattle.plain_records.specs.Reached.{IsExpandedAt};
-ghost use Rattle.plain_records.specs.Rows.{capped, merges_in};
+ghost use Rattle.plain_records.specs.steps.Rows.{capped, merges_in};
 
 use circuit_model::{CircuitLimit, FlatFault, MOST_MERGES};
 use element_tree::ElementTree;

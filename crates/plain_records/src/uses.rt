@@ -8,7 +8,7 @@ ghost use Rattle.ext_model.specs.Lawful.{IsPlacement};
 ghost use Rattle.ext_model.specs.LawfulArrays.{IsArrayUse};
 ghost use Rattle.ext_model.specs.Plain.{displaced, element_use, plain_uses};
 ghost use Rattle.plain_records.specs.Thin.{first_use};
-ghost use Rattle.plain_records.specs.Steps.{IsShortStep};
+ghost use Rattle.plain_records.specs.steps.Steps.{IsShortStep};
 
 use ext_model::{ArrayUse, UseRec};
 use geo_core::{Grid, Orient, Transform};

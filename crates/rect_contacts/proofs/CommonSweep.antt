@@ -19,8 +19,8 @@ use Rattle.rect_contacts.specs.declared.actives.Active.{Active}
 use Rattle.rect_contacts.specs.declared.events.Event.{Event}
 use Rattle.rect_contacts.specs.Rects.{no_rect, rect_at}
 use Rattle.rect_contacts.specs.CommonSquares.{IsOverlap}
-use Rattle.rect_contacts.specs.Events.{pair_of, ComesNoLater, list_of, event_at, IsEvent, AreEvents}
-use Rattle.rect_contacts.specs.Actives.{Row, AreActives, IsMet, AddsMet, IsWith, IsWithout, IsTurned}
+use Rattle.rect_contacts.specs.steps.Events.{pair_of, ComesNoLater, list_of, event_at, IsEvent, AreEvents}
+use Rattle.rect_contacts.specs.steps.Actives.{Row, AreActives, IsMet, AddsMet, IsWith, IsWithout, IsTurned}
 use Rattle.rect_contacts.proofs.Apart.{AreApart, apart_from_disjoint, AreApart-sym}
 use Rattle.rect_contacts.proofs.RowLaws.{int_same, one_ends}
 

@@ -18,7 +18,7 @@ use Rattle.geo_core.proofs.FiniteSets.Pairs.{AllPairs-permutation}
 use Rattle.geo_core.proofs.FiniteSets.Searches.{drop_split}
 use Rattle.rect_contacts.specs.declared.events.Event.{Event}
 use Rattle.rect_contacts.specs.Rects.{no_rect, rect_at}
-use Rattle.rect_contacts.specs.Events.{event_of, event_at, events_from, ComesNoLater, list_of, IsEvent, AreEvents}
+use Rattle.rect_contacts.specs.steps.Events.{event_of, event_at, events_from, ComesNoLater, list_of, IsEvent, AreEvents}
 
 -- the rectangle at each place has its beginning and its end among them
 event_in : (begins s : Bool) (n : ℕ) (rects : List Rect) (k : ℕ) → k < length rects → In (event_of begins s (n + k) (rect_at rects k)) (events_from s n rects)

@@ -6,8 +6,8 @@ use Rattle.geo_core.specs.FiniteSets.Lists.{Lists}
 use Rattle.geo_core.proofs.FiniteSets.Listings.{Lists-one, Lists-append, Lists-iff}
 use Rattle.rect_contacts.specs.declared.actives.Active.{Active}
 use Rattle.rect_contacts.specs.declared.events.Event.{Event}
-use Rattle.rect_contacts.specs.Events.{pair_of}
-use Rattle.rect_contacts.specs.Actives.{Row, AreActives, IsFirstPast, IsMet, AddsMet}
+use Rattle.rect_contacts.specs.steps.Events.{pair_of}
+use Rattle.rect_contacts.specs.steps.Actives.{Row, AreActives, IsFirstPast, IsMet, AddsMet}
 
 -- two columns are one or not
 pub int_same : (a b : ℤ) → (a ≡ b) ⊎ (a ≡ b → ⊥)

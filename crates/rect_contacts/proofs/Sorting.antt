@@ -19,7 +19,7 @@ use Rattle.rect_contacts.specs.declared.sides.Edge.TheVariants.{Left, Right, Bot
 use Rattle.rect_contacts.specs.declared.sides.Side.{Side}
 use Rattle.geo_core.specs.Areas.{AreDisjoint, IsNear}
 use Rattle.rect_contacts.specs.Rects.{rect_at}
-use Rattle.rect_contacts.specs.Sides.{side_of, IsSpan, EndsBefore, AreSidesOf}
+use Rattle.rect_contacts.specs.steps.Sides.{side_of, IsSpan, EndsBefore, AreSidesOf}
 use Rattle.rect_contacts.proofs.Apart.{AreApart, apart_from_disjoint}
 
 -- The sides are those of two rectangles that are apart: where they lie on one line, one ends before the other begins.

@@ -12,7 +12,7 @@ use Rattle.geo_core.proofs.FiniteSets.Members.{In-append_left, In-push, In-push_
 use Rattle.rect_contacts.specs.declared.contacts.Contact.{Contact}
 use Rattle.rect_contacts.specs.declared.sides.Side.{Side}
 use Rattle.rect_contacts.specs.Contacts.{overlap}
-use Rattle.rect_contacts.specs.Sides.{EndsBefore, ReachesNoFarther, AreOpposite, Meet, contact_of, IsMeeting, AddsContact}
+use Rattle.rect_contacts.specs.steps.Sides.{EndsBefore, ReachesNoFarther, AreOpposite, Meet, contact_of, IsMeeting, AddsContact}
 use Rattle.rect_contacts.proofs.Intervals.{overlap-before, overlap-comm}
 
 -- The contacts are those of sides of the two lists that meet, each once, but for sides that are both among what is left of their lists.

@@ -13,7 +13,7 @@ use Rattle.rect_contacts.specs.declared.sides.Edge.TheVariants.{Left, Right, Bot
 use Rattle.rect_contacts.specs.declared.sides.Side.{Side}
 use Rattle.rect_contacts.specs.Rects.{rect_at}
 use Rattle.rect_contacts.specs.Contacts.{overlap, shared_beside, shared_upon, shared_stacked, shared_abreast, shared_length, IsSharedEdgeBy, IsSharedEdge}
-use Rattle.rect_contacts.specs.Sides.{side_of, AreSidesOf, AreOpposite, Meet, IsMeeting}
+use Rattle.rect_contacts.specs.steps.Sides.{side_of, AreSidesOf, AreOpposite, Meet, IsMeeting}
 use Rattle.rect_contacts.proofs.Intervals.{overlap-not_negative}
 use Rattle.rect_contacts.proofs.Shared.{shared_beside-cases, shared_upon-cases, shared_upon-not_negative, upon_not_beside, upon_not_beside_back}
 use Rattle.rect_contacts.proofs.Sorting.{side_owner}

@@ -1,8 +1,6 @@
 pub mod Rects
 pub mod Contacts
-pub mod Sides
 pub mod Squares
 pub mod EdgeLaws
 pub mod CommonSquares
-pub mod Events
-pub mod Actives
+pub mod steps

@@ -4,8 +4,8 @@ ghost use Rattle.std.specs.Ordering.{int_cmp};
 ghost use Rattle.std.specs.BTreeMap.{get};
 ghost use Rattle.geo_core.specs.Areas.{IsSmall};
 ghost use Rattle.rect_contacts.specs.declared.actives.Active.{Active as OneActive};
-ghost use Rattle.rect_contacts.specs.Actives.{AreActives, IsFirstPast, AddsMet};
-ghost use Rattle.rect_contacts.specs.Events.{pair_of};
+ghost use Rattle.rect_contacts.specs.steps.Actives.{AreActives, IsFirstPast, AddsMet};
+ghost use Rattle.rect_contacts.specs.steps.Events.{pair_of};
 
 use crate::events::Event;
 use std::alloc::AllocError;

@@ -1,6 +1,6 @@
 //! Where rectangles of two lists begin and end, in order from below.
 ghost use Rattle.std.specs.Prelude.{◌≡◌, ◌++◌, IfOk, OnOk};
-ghost use Rattle.rect_contacts.specs.Events.{events_from, AreEvents};
+ghost use Rattle.rect_contacts.specs.steps.Events.{events_from, AreEvents};
 
 use geo_core::Rect;
 use std::alloc::{AllocError, Global};

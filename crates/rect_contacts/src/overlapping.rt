@@ -5,7 +5,7 @@ ghost use Rattle.std.specs.BTreeMap.{get};
 ghost use Rattle.geo_core.specs.FiniteSets.Lists.{Lists};
 ghost use Rattle.geo_core.specs.Covering.{IsProper};
 ghost use Rattle.geo_core.specs.Areas.{AreDisjoint, IsNear, IsSmall};
-ghost use Rattle.rect_contacts.specs.Actives.{AreActives, IsTurned};
+ghost use Rattle.rect_contacts.specs.steps.Actives.{AreActives, IsTurned};
 ghost use Rattle.rect_contacts.specs.CommonSquares.{IsOverlap};
 
 use crate::actives::{Active, add_met};

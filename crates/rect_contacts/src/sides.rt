@@ -3,7 +3,7 @@ ghost use Rattle.std.specs.Prelude.{◌≡◌, ◌↔◌, IfOk, OnOk, IsTrue, Al
 ghost use Rattle.geo_core.specs.Covering.{IsProper};
 ghost use Rattle.geo_core.specs.FiniteSets.Lists.{Lists};
 ghost use Rattle.geo_core.specs.Areas.{AreDisjoint, IsNear};
-ghost use Rattle.rect_contacts.specs.Sides.{side_of, AreSidesOf, ReachesNoFarther, AreSidesInOrder, AreOpposite, IsSpan, AddsContact, IsMeeting};
+ghost use Rattle.rect_contacts.specs.steps.Sides.{side_of, AreSidesOf, ReachesNoFarther, AreSidesInOrder, AreOpposite, IsSpan, AddsContact, IsMeeting};
 
 use crate::contacts::Contact;
 use geo_core::Rect;

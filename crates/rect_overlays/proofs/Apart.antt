@@ -13,9 +13,9 @@ use Rattle.geo_core.specs.Covering.{Covers, IsProper}
 use Rattle.geo_core.proofs.CoveringLaws.{IsProper-has_square, covers_first, covers_second, covers_both}
 use Rattle.rect_contacts.specs.Rects.{rect_at}
 use Rattle.rect_overlays.specs.declared.stacks.Stack.{Stack}
-use Rattle.rect_overlays.specs.Regions.{Region, meets_at, IsRegion}
-use Rattle.rect_overlays.specs.Singles.{AreApart, single_of, contents_of}
-use Rattle.rect_overlays.specs.Splits.{IsSplit}
+use Rattle.rect_overlays.specs.steps.Regions.{Region, meets_at, IsRegion}
+use Rattle.rect_overlays.specs.steps.Singles.{AreApart, single_of, contents_of}
+use Rattle.rect_overlays.specs.steps.Splits.{IsSplit}
 use Rattle.geo_core.specs.Covering.{CoversAt}
 use Rattle.rect_overlays.specs.Stacks.{IsStack}
 use Rattle.rect_overlays.proofs.Lists.{AllPairs-front}

@@ -15,7 +15,7 @@ use Rattle.rect_contacts.specs.Rects.{rect_at}
 use Rattle.rect_contacts.proofs.BothWays.{Lists-below}
 use Rattle.rect_overlays.specs.declared.regions.Part.{Part}
 use Rattle.rect_overlays.specs.declared.regions.Regions.{Regions}
-use Rattle.rect_overlays.specs.Regions.{Region, has_square_at, IsWholeOf, IsRegion, IsBeginning, Holds, AddsGathered}
+use Rattle.rect_overlays.specs.steps.Regions.{Region, has_square_at, IsWholeOf, IsRegion, IsBeginning, Holds, AddsGathered}
 use Rattle.geo_core.specs.Covering.{CoversAt}
 use Rattle.rect_overlays.proofs.Lists.{kept_more, some-In, range_rises}
 use Rattle.rect_overlays.proofs.Parts.{square_meets, rect_at_covers, at_is_below}

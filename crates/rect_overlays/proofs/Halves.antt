@@ -10,8 +10,8 @@ use Rattle.geo_core.specs.Covering.{Covers, IsProper}
 use Rattle.geo_core.proofs.CoveringLaws.{IsProper-has_square, has_square-IsProper}
 use Rattle.rect_overlays.specs.declared.cuts.Cut.{Cut}
 use Rattle.rect_overlays.specs.declared.cuts.Cut.TheVariants.{Column, Row}
-use Rattle.rect_overlays.specs.Cuts.{low_half, high_half, is_past_low, is_past_high, IsInside}
-use Rattle.rect_overlays.specs.Regions.{meets, goes_round}
+use Rattle.rect_overlays.specs.steps.Cuts.{low_half, high_half, is_past_low, is_past_high, IsInside}
+use Rattle.rect_overlays.specs.steps.Regions.{meets, goes_round}
 
 -- where a rectangle begins above the lowest row of an area that it meets, its lower side cuts the area
 pub begins_inside : (area : Rect) (rect : Rect) → meets area rect ≡ true → area.ylo <ℤ rect.ylo → rect.ylo <ℤ area.yhi

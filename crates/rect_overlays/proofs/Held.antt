@@ -8,9 +8,9 @@ use Rattle.rect_overlays.specs.declared.cuts.Cut.{Cut}
 use Rattle.rect_overlays.specs.declared.regions.Part.{Part}
 use Rattle.rect_overlays.specs.declared.regions.Regions.{Regions}
 use Rattle.rect_overlays.specs.declared.regions.Span.{Span}
-use Rattle.rect_overlays.specs.Cuts.{low_half, high_half}
-use Rattle.rect_overlays.specs.Regions.{Region, span_of, members_of, IsGathered, AddsPart, Holds, AddsGathered}
-use Rattle.rect_overlays.specs.Splits.{CutsInTwo}
+use Rattle.rect_overlays.specs.steps.Cuts.{low_half, high_half}
+use Rattle.rect_overlays.specs.steps.Regions.{Region, span_of, members_of, IsGathered, AddsPart, Holds, AddsGathered}
+use Rattle.rect_overlays.specs.steps.Splits.{CutsInTwo}
 use Rattle.rect_overlays.proofs.Lists.{map_ends, last_are, front_is}
 use Rattle.rect_overlays.proofs.Parts.{gathered_is_part, none_is_there}
 

@@ -12,7 +12,7 @@ use Rattle.finite_sets.proofs.Members.{In-append_left, In-push}
 use Rattle.finite_sets.proofs.Pairs.{Pairwise, AllPairs-from_Pairwise, Pairwise-from_AllPairs}
 use Rattle.finite_sets.proofs.Searches.{find-In, find-passes, find-none, All-In}
 use Rattle.geo_core.specs.declared.squares.Rect.{Rect}
-use Rattle.rect_overlays.specs.Regions.{AllMeet, AllGoRound, meets_at, goes_round_at}
+use Rattle.rect_overlays.specs.steps.Regions.{AllMeet, AllGoRound, meets_at, goes_round_at}
 
 Pairwise-front : {X : Type 0} (R : X → X → Type 0) (xs : List X) (y : X) → Pairwise R (xs ++ y ∷ []) → Pairwise R xs × ((x : X) → In x xs → R x y)
 Pairwise-front R [] y h = (tt, λ x i. absurd i)

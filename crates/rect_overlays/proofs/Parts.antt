@@ -17,7 +17,7 @@ use Rattle.geo_core.proofs.CoveringLaws.{IsProper-has_square, has_square-IsPrope
 use Rattle.geo_core.proofs.CoveringLaws.{covers_joined_left, covers_joined_right, joined_within, common_within}
 use Rattle.rect_contacts.specs.Rects.{no_rect, rect_at}
 use Rattle.rect_overlays.specs.declared.regions.Part.{Part}
-use Rattle.rect_overlays.specs.Regions.{Region, meets, meets_at, turned_over, IsHull, IsGathered, IsPart, AddsPart, Knows, IsRegion}
+use Rattle.rect_overlays.specs.steps.Regions.{Region, meets, meets_at, turned_over, IsHull, IsGathered, IsPart, AddsPart, Knows, IsRegion}
 use Rattle.geo_core.specs.Covering.{CoversAt}
 use Rattle.rect_overlays.proofs.Lists.{kept_more, some-In}
 

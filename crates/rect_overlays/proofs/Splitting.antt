@@ -11,9 +11,9 @@ use Rattle.geo_core.specs.Covering.{Covers, IsProper}
 use Rattle.rect_contacts.specs.Rects.{rect_at}
 use Rattle.rect_overlays.specs.declared.cuts.Cut.{Cut}
 use Rattle.rect_overlays.specs.declared.stacks.Stack.{Stack}
-use Rattle.rect_overlays.specs.Cuts.{low_half, high_half, IsInside}
-use Rattle.rect_overlays.specs.Regions.{Region, IsPart, AddsPart, IsRegion, IsWhole}
-use Rattle.rect_overlays.specs.Splits.{IsMade, AddsHalves, IsSplit}
+use Rattle.rect_overlays.specs.steps.Cuts.{low_half, high_half, IsInside}
+use Rattle.rect_overlays.specs.steps.Regions.{Region, IsPart, AddsPart, IsRegion, IsWhole}
+use Rattle.rect_overlays.specs.steps.Splits.{IsMade, AddsHalves, IsSplit}
 use Rattle.geo_core.specs.Covering.{CoversAt}
 use Rattle.rect_overlays.specs.Stacks.{IsStack, AreStacks}
 use Rattle.rect_overlays.proofs.Halves.{round_covers, low_covers, high_covers, in_one_half, halves_are_apart}

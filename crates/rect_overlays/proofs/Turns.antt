@@ -7,10 +7,10 @@ use Rattle.rect_overlays.specs.declared.cuts.Cut.{Cut}
 use Rattle.rect_overlays.specs.declared.regions.Regions.{Regions}
 use Rattle.rect_overlays.specs.declared.regions.Span.{Span}
 use Rattle.rect_overlays.specs.declared.stacks.Stack.{Stack}
-use Rattle.rect_overlays.specs.Cuts.{IsInside}
-use Rattle.rect_overlays.specs.Regions.{Region, Holds, IsRegion}
-use Rattle.rect_overlays.specs.Singles.{AreApart, AddsSingles}
-use Rattle.rect_overlays.specs.Splits.{CutsInTwo, IsMade, IsSplit, IsSplitWith}
+use Rattle.rect_overlays.specs.steps.Cuts.{IsInside}
+use Rattle.rect_overlays.specs.steps.Regions.{Region, Holds, IsRegion}
+use Rattle.rect_overlays.specs.steps.Singles.{AreApart, AddsSingles}
+use Rattle.rect_overlays.specs.steps.Splits.{CutsInTwo, IsMade, IsSplit, IsSplitWith}
 use Rattle.rect_overlays.proofs.Apart.{singles_keep}
 use Rattle.rect_overlays.proofs.Held.{last_is_taken}
 use Rattle.rect_overlays.proofs.Splitting.{last_is_region, finish_keeps, cut_keeps}

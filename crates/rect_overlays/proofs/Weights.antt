@@ -14,9 +14,9 @@ use Rattle.rect_overlays.specs.declared.cuts.Cut.{Cut}
 use Rattle.rect_overlays.specs.declared.cuts.Cut.TheVariants.{Column, Row}
 use Rattle.rect_overlays.specs.declared.regions.Regions.{Regions}
 use Rattle.rect_overlays.specs.declared.regions.Span.{Span}
-use Rattle.rect_overlays.specs.Cuts.{low_half, high_half, IsInside}
-use Rattle.rect_overlays.specs.Regions.{Region, span_of, IsPart, AddsPart, Holds}
-use Rattle.rect_overlays.specs.Splits.{AddsHalves, CutsInTwo}
+use Rattle.rect_overlays.specs.steps.Cuts.{low_half, high_half, IsInside}
+use Rattle.rect_overlays.specs.steps.Regions.{Region, span_of, IsPart, AddsPart, Holds}
+use Rattle.rect_overlays.specs.steps.Splits.{AddsHalves, CutsInTwo}
 use Rattle.rect_overlays.proofs.Halves.{low_is_proper, high_is_proper}
 
 -- how many squares an area has

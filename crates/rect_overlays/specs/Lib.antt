@@ -1,5 +1,2 @@
 pub mod Stacks
-pub mod Cuts
-pub mod Regions
-pub mod Splits
-pub mod Singles
+pub mod steps

@@ -1,7 +1,7 @@
 //! Where an area is cut in two.
 ghost use Rattle.std.specs.Prelude.{◌≡◌, ◌≤◌, ◌<◌, ◌⊎◌, All, IfSome, IfNone, find, filter, length, not, true, false};
-ghost use Rattle.rect_overlays.specs.Cuts.{low_half, high_half, is_inside, is_past_low, is_past_high, IsInside};
-ghost use Rattle.rect_overlays.specs.Regions.{meets, goes_round, goes_round_at, has_columns, has_rows, AllMeet, AllGoRound};
+ghost use Rattle.rect_overlays.specs.steps.Cuts.{low_half, high_half, is_inside, is_past_low, is_past_high, IsInside};
+ghost use Rattle.rect_overlays.specs.steps.Regions.{meets, goes_round, goes_round_at, has_columns, has_rows, AllMeet, AllGoRound};
 
 use geo_core::Rect;
 

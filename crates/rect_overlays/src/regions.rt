@@ -1,7 +1,7 @@
 //! Regions: areas that are to be made stacks or cut, with the rectangles that have squares in them.
 ghost use Rattle.std.specs.Prelude.{◌≡◌, ◌++◌, ◌∷◌, [], ◌-◌, if◌then◌else◌, take, drop, length, IfOk, OnOk};
 ghost use Rattle.geo_core.specs.Areas.{joined_rect};
-ghost use Rattle.rect_overlays.specs.Regions.{turned_over, AddsGathered, IsBeginning};
+ghost use Rattle.rect_overlays.specs.steps.Regions.{turned_over, AddsGathered, IsBeginning};
 
 use geo_core::Rect;
 use std::alloc::{AllocError, Global};

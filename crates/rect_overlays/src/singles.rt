@@ -1,8 +1,8 @@
 //! Regions whose members lie apart, so that each member makes a stack of its own.
 ghost use Rattle.std.specs.Prelude.{◌≡◌, ◌<◌, All, IfOk, OnOk, length, true};
 ghost use Rattle.std.specs.List.{list_any};
-ghost use Rattle.rect_overlays.specs.Regions.{meets_at};
-ghost use Rattle.rect_overlays.specs.Singles.{single_of, contents_of, AddsSingles, AreApart};
+ghost use Rattle.rect_overlays.specs.steps.Regions.{meets_at};
+ghost use Rattle.rect_overlays.specs.steps.Singles.{single_of, contents_of, AddsSingles, AreApart};
 
 use crate::stacks::Stack;
 use geo_core::Rect;

@@ -1,9 +1,9 @@
 //! The pieces that rectangles make where they lie over each other.
 ghost use Rattle.std.specs.Prelude.{◌≡◌, ◌<◌, All, IfOk, OnOk, filter, length};
 ghost use Rattle.geo_core.specs.Covering.{IsProper};
-ghost use Rattle.rect_overlays.specs.Cuts.{low_half, high_half, IsInside};
-ghost use Rattle.rect_overlays.specs.Regions.{goes_round_at, AllMeet, IsGathered};
-ghost use Rattle.rect_overlays.specs.Splits.{CutsInTwo};
+ghost use Rattle.rect_overlays.specs.steps.Cuts.{low_half, high_half, IsInside};
+ghost use Rattle.rect_overlays.specs.steps.Regions.{goes_round_at, AllMeet, IsGathered};
+ghost use Rattle.rect_overlays.specs.steps.Splits.{CutsInTwo};
 ghost use Rattle.rect_overlays.specs.Stacks.{AreStacks};
 
 use crate::cuts::{Cut, goes_round, next_cut};

@@ -13,6 +13,7 @@ use Rattle.switch_net.specs.Vicinity.{IsStorage, IsInVicinity}
 use Rattle.switch_net.proofs.Paths.{NotOvercome, drop_not_overcome, drop_unblocked, unblocked-hop, unblocked-root}
 use Rattle.switch_net.proofs.Ranges.{strength_low, at_input, end_in_range, ends_in_range, input_strength, input_stands, level_cases, low_everywhere}
 use Rattle.switch_net.proofs.Vicinities.{in_more, in_self, in_turn, turned, chain_to}
+use Rattle.switch_net.proofs.Locality.{IsMatched}
 use Rattle.replay_laws.specs.Differences.{AreWiredAlike, IsAlike, HoldsDifferences}
 
 -- Two runs agree on a part: its nodes are alike; the gates of all switches that end in it have the same states; and where a switch that may conduct
@@ -39,12 +40,6 @@ other_way net other s t V g = record {
   nodes = λ v e. sym (g.nodes v e);
   roots = λ v e. sym (g.roots v e);
 }
-
--- a definite path to a node is in the other run one at least as strong
-record IsMatched (net : Network) (s : List Level) (v k : ℕ) : Type 0 where
-  by : ℕ
-  path : DefiniteTo net s v by
-  as_strong : k ≤ by
 
 -- each definite path to the part has a match
 matched : (net other : Network) (s t : List Level) (V : ℕ → Type 0) → IsSound net → AgreeOn net other s t V → (root : ℕ) (p : List Hop)

@@ -20,7 +20,7 @@ use Rattle.geo_core.specs.Planes.{AreSet}
 use Rattle.run_plane.specs.declared.runs.Run.{Run}
 use Rattle.run_plane.specs.declared.rows.Row.{Row}
 use Rattle.run_plane.specs.Rows.{value_at, number_at, top_runs, edge, AreRising, AreRows}
-use Rattle.run_plane.specs.Changes.{square_at, IsRowWith, Spans, IsBand, AreAbove, AreHeights, AreRowsFor}
+use Rattle.run_plane.specs.steps.Changes.{square_at, IsRowWith, Spans, IsBand, AreAbove, AreHeights, AreRowsFor}
 use Rattle.run_plane.specs.Contents.{replaced}
 use Rattle.run_plane.proofs.RowLaws.{runs_stop, runs_top, runs_own, row_above, row_facts, rising_from, rising_take, rising_drop, rising_append}
 use Rattle.run_plane.proofs.ChangeLaws.{IsRight, HasCritical, all_right}

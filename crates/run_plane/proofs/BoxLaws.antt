@@ -18,10 +18,10 @@ use Rattle.geo_core.specs.Strips.{IsStrip}
 use Rattle.run_plane.specs.declared.runs.Run.{Run}
 use Rattle.run_plane.specs.declared.rows.Row.{Row}
 use Rattle.run_plane.specs.Rows.{value_at, runs_from, number_at, edge, AreRuns, AreRows}
-use Rattle.run_plane.specs.Changes.{square_at}
+use Rattle.run_plane.specs.steps.Changes.{square_at}
 use Rattle.geo_core.specs.Areas.{joined_rect}
 use Rattle.geo_core.proofs.CoveringLaws.{covers_joined_left, covers_joined_right, joined_within}
-use Rattle.run_plane.specs.Listings.{no_row, IsRowBox}
+use Rattle.run_plane.specs.steps.Listings.{no_row, IsRowBox}
 use Rattle.run_plane.proofs.RunLaws.{value_of_run, run_of_value, run_facts}
 use Rattle.run_plane.proofs.BandLaws.{number_high}
 use Rattle.run_plane.proofs.RowLaws.{runs_stop, runs_top, runs_ordered, row_above, row_facts, rising_next, all_above}

@@ -8,7 +8,7 @@ use Rattle.geo_core.specs.Covering.{Covers}
 use Rattle.run_plane.specs.declared.runs.Run.{Run}
 use Rattle.run_plane.specs.declared.rows.Row.{Row}
 use Rattle.run_plane.specs.Rows.{value_at, runs_from, number_at, AreRising}
-use Rattle.run_plane.specs.Changes.{square_at, IsSetTo, HasEdgeAt}
+use Rattle.run_plane.specs.steps.Changes.{square_at, IsSetTo, HasEdgeAt}
 use Rattle.run_plane.proofs.RowLaws.{runs_in, runs_under, runs_between, row_above}
 
 module _ (rows : List Row) (pieces : List Piece) where

@@ -13,7 +13,7 @@ use Rattle.finite_sets.specs.Lists.{In}
 use Rattle.finite_sets.proofs.Members.{Contains-from_In, In-from_Contains, In-map, In-map_source, In-append_left, In-append_right, In-append_cases}
 use Rattle.geo_core.specs.declared.squares.Piece.{Piece}
 use Rattle.run_plane.specs.declared.rows.Row.{Row}
-use Rattle.run_plane.specs.Changes.{AreAbove, all_heights, AreHeights}
+use Rattle.run_plane.specs.steps.Changes.{AreAbove, all_heights, AreHeights}
 
 strict_above : (low : ℤ) (heights : List ℤ) → IsStrictlySortedBy int_cmp heights → ((height : ℤ) → In height heights → low <ℤ height) → AreAbove low heights
 unfolding IsStrictlySortedBy

@@ -15,7 +15,7 @@ use Rattle.geo_core.specs.Covering.{Covers}
 use Rattle.run_plane.specs.declared.runs.Run.{Run}
 use Rattle.run_plane.specs.declared.rows.Row.{Row}
 use Rattle.run_plane.specs.Rows.{value_at, runs_from, number_at, edge, AreRuns, AreRising}
-use Rattle.run_plane.specs.Listings.{no_row, piece_of, AreBetween}
+use Rattle.run_plane.specs.steps.Listings.{no_row, piece_of, AreBetween}
 use Rattle.run_plane.proofs.RunLaws.{value_of_run, run_of_value}
 use Rattle.run_plane.proofs.RowLaws.{runs_in, runs_under, runs_stop, row_above, row_facts, all_above}
 

@@ -15,7 +15,7 @@ use Rattle.geo_core.proofs.StripSets.{strip_same, strips_same, InBand, clipped, 
 use Rattle.geo_core.proofs.SquareLaws.{rect_is}
 use Rattle.run_plane.specs.declared.rows.Row.{Row}
 use Rattle.run_plane.specs.Rows.{number_at, edge, AreRows}
-use Rattle.run_plane.specs.Listings.{AreBetween, IsInPieces, AgreeOnSquares, IsTileFrom, AreTilesFrom}
+use Rattle.run_plane.specs.steps.Listings.{AreBetween, IsInPieces, AgreeOnSquares, IsTileFrom, AreTilesFrom}
 use Rattle.run_plane.proofs.BoxLaws.{number_near}
 
 module _ (rows : List Row) (low high : ℤ) (pieces : List Piece) (between : AreBetween rows low high pieces) where

@@ -13,7 +13,7 @@ use Rattle.run_plane.specs.Rows.{value_at, edge, IsRunFrom, AreRuns}
 use Rattle.geo_core.specs.declared.squares.Piece.{Piece}
 use Rattle.geo_core.specs.Areas.{IsSmall, IsNear}
 use Rattle.geo_core.specs.Covering.{IsProper}
-use Rattle.run_plane.specs.Changes.{parts_before, parts_after, AreRunsWith}
+use Rattle.run_plane.specs.steps.Changes.{parts_before, parts_after, AreRunsWith}
 
 -- the first run has x
 pub value_here : (run : Run) (runs : List Run) (x : ℤ) → run.xlo ≤ℤ x → x <ℤ run.xhi → value_at (run ∷ runs) x ≡ run.value

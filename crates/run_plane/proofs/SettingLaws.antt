@@ -19,9 +19,9 @@ use Rattle.geo_core.specs.Covering.{Covers, IsProper}
 use Rattle.run_plane.specs.declared.runs.Run.{Run}
 use Rattle.run_plane.specs.declared.rows.Row.{Row}
 use Rattle.run_plane.specs.Rows.{value_at, runs_from, number_at, edge, AreRuns, AreRising}
-use Rattle.run_plane.specs.Changes.{square_at, AreRunsWith, IsSetTo, IsRowWith, Spans, AreRowsFor, IsRowSet, IsSetIn}
+use Rattle.run_plane.specs.steps.Changes.{square_at, AreRunsWith, IsSetTo, IsRowWith, Spans, AreRowsFor, IsRowSet, IsSetIn}
 use Rattle.geo_core.proofs.CornerLaws.{no_piece}
-use Rattle.run_plane.specs.Listings.{no_row}
+use Rattle.run_plane.specs.steps.Listings.{no_row}
 use Rattle.run_plane.proofs.RunLaws.{small_min, small_max}
 use Rattle.run_plane.proofs.RowLaws.{runs_ordered}
 

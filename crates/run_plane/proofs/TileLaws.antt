@@ -21,7 +21,7 @@ use Rattle.finite_sets.proofs.Pairs.{AllPairs-permutation}
 use Rattle.finite_sets.proofs.Searches.{All-In}
 use Rattle.geo_core.proofs.SquareLaws.{piece_is}
 use Rattle.geo_core.proofs.StripSets.{one_strip_at, strip_within, strips_same, StandsBefore-irreflexive}
-use Rattle.run_plane.specs.Listings.{rects_with, parts_in, IsInPieces, AgreeOnSquares, IsTileFrom, HaveTileAt, AreTilesFrom}
+use Rattle.run_plane.specs.steps.Listings.{rects_with, parts_in, IsInPieces, AgreeOnSquares, IsTileFrom, HaveTileAt, AreTilesFrom}
 
 same_number : (m n : ℕ) → (m == n) ≡ true → m ≡ n
 same_number m n test = grind arith

@@ -1,4 +1,3 @@
-pub mod Changes
 pub mod Contents
-pub mod Listings
 pub mod Rows
+pub mod steps

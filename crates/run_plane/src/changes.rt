@@ -3,7 +3,7 @@ ghost use Rattle.std.specs.Prelude.{◌≡◌, ◌+◌, ◌≤◌, vec_len, vec_
 ghost use Rattle.geo_core.specs.Areas.{AreDisjoint, IsNear, IsSmall};
 ghost use Rattle.geo_core.specs.Covering.{IsProper};
 ghost use Rattle.geo_core.specs.Planes.{AreSet};
-ghost use Rattle.run_plane.specs.Changes.{Spans, IsBand, all_heights, AreHeights, AreAbove, AreRowsFor, IsSetIn};
+ghost use Rattle.run_plane.specs.steps.Changes.{Spans, IsBand, all_heights, AreHeights, AreAbove, AreRowsFor, IsSetIn};
 ghost use Rattle.run_plane.specs.Contents.{replaced, IsNoChange};
 ghost use Rattle.run_plane.specs.Rows.{number_at, edge, AreRising, AreRows};
 

@@ -3,7 +3,7 @@ ghost use Rattle.std.specs.Prelude.{◌≡◌, ◌+◌, ◌<◌, ◌≤◌, ◌�
 ghost use Rattle.geo_core.specs.Planes.{IsBox};
 ghost use Rattle.geo_core.specs.Strips.{IsStrips};
 ghost use Rattle.geo_core.specs.declared.squares.Square.{Square as OneSquare};
-ghost use Rattle.run_plane.specs.Listings.{no_row, piece_of, AreBetween, rects_with, IsInPieces, AgreeOnSquares, parts_in, AreTilesFrom, IsRowBox};
+ghost use Rattle.run_plane.specs.steps.Listings.{no_row, piece_of, AreBetween, rects_with, IsInPieces, AgreeOnSquares, parts_in, AreTilesFrom, IsRowBox};
 ghost use Rattle.run_plane.specs.Rows.{edge, number_at, AreRuns, AreRising, AreRows};
 
 use crate::rows::{Row, rows_up_to};

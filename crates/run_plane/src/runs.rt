@@ -3,7 +3,7 @@ ghost use Rattle.std.specs.Prelude.{◌≡◌, IfOk};
 ghost use Rattle.geo_core.specs.Areas.{IsNear};
 ghost use Rattle.geo_core.specs.Covering.{IsProper};
 ghost use Rattle.run_plane.specs.Rows.{value_at, edge, AreRuns};
-ghost use Rattle.run_plane.specs.Changes.{parts_before, parts_after, AreRunsWith};
+ghost use Rattle.run_plane.specs.steps.Changes.{parts_before, parts_after, AreRunsWith};
 
 use geo_core::Piece;
 use std::alloc::{AllocError, Global};

@@ -14,7 +14,7 @@ use Rattle.text_scan.specs.declared.numeral.NumFault.TheVariants.{Range}
 use Rattle.text_scan.specs.Numbers.{natural_of, in_range, integer_of, number_of, signed, with_sign, within}
 use Rattle.text_scan.proofs.NumberLemmas.{natural_of-empty, within_ok, within_outside}
 use Rattle.run_words.specs.RunWords.{as_budget, budget_of, in_budget}
-use Rattle.run_words.specs.ClapWords.{signed_budget}
+use Rattle.run_words.specs.steps.ClapWords.{signed_budget}
 use Rattle.run_words.proofs.WalkLaws.{minus_is_none}
 
 abbrev pub budget_in : Result ℤ NumFault → Option ℕ

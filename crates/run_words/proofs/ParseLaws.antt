@@ -16,7 +16,7 @@ use Rattle.clap.specs.Simple.{built, matches_of}
 use Rattle.clap.proofs.OnLiterals.{clap_on_literals}
 use Rattle.run_words.specs.declared.limits.TheConstants.{DEFAULT_BUDGET}
 use Rattle.run_words.specs.RunWords.{Given, begins_with_budget, budget_of, given_by, nothing_given, run_of, with_word, words_of}
-use Rattle.run_words.specs.ClapWords.{budget_told, command_line, digits_in, is_known}
+use Rattle.run_words.specs.steps.ClapWords.{budget_told, command_line, digits_in, is_known}
 use Rattle.run_words.proofs.WalkLaws.{Agree, Found, none, quiet, budget, quiet_budget, budget_quiet, quiet_at, budget_at, given_at, rows_at}
 use Rattle.run_words.proofs.WalkLaws.{agrees, budget_front, faults_from, minus_is_none, rules, shape, walk_end}
 

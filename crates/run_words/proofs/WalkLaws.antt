@@ -14,7 +14,7 @@ use Rattle.clap.specs.Simple.{Shape, built, filled}
 use Rattle.clap.proofs.OnLiterals.{clap_on_literals}
 use Rattle.text_scan.proofs.NumberLemmas.{natural_of-empty, natural_of-fault}
 use Rattle.run_words.specs.RunWords.{Given, begins_with_budget, budget_of, given_by, in_budget, nothing_given}
-use Rattle.run_words.specs.ClapWords.{budget_rule, command_line, digits_in, is_known, quiet_rule}
+use Rattle.run_words.specs.steps.ClapWords.{budget_rule, command_line, digits_in, is_known, quiet_rule}
 
 abbrev pub shape : Shape
 shape = (built command_line).top

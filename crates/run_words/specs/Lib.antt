@@ -1,2 +1,2 @@
-pub mod ClapWords
 pub mod RunWords
+pub mod steps

@@ -4,7 +4,7 @@
 //! form have are refused before, and what is left to it is how they stand together: that an option comes once at most, with its number.
 ghost use Rattle.std.specs.Prelude.{◌≡◌, Some, IfOk, true, false, codes, map, option_map, string_bytes};
 ghost use Rattle.clap.specs.Words.{FailsBy, fault_of, first_of, found_of, matches_of, one_of, rows_of};
-ghost use Rattle.run_words.specs.ClapWords.{budget_told, command_line, digits_in, is_known, signed_budget};
+ghost use Rattle.run_words.specs.steps.ClapWords.{budget_told, command_line, digits_in, is_known, signed_budget};
 ghost use Rattle.run_words.specs.RunWords.{budget_of};
 
 use crate::limits::{DEFAULT_BUDGET, GREATEST_BUDGET};

@@ -1,7 +1,7 @@
 //! The words of a run.
 ghost use Rattle.std.specs.Prelude.{◌≡◌, IfOk, map, string_bytes};
 ghost use Rattle.std.specs.List.{list_all};
-ghost use Rattle.run_words.specs.ClapWords.{is_known};
+ghost use Rattle.run_words.specs.steps.ClapWords.{is_known};
 ghost use Rattle.run_words.specs.RunWords.{words_of};
 
 use crate::command_line::{is_known, options_of, parse};

@@ -7,7 +7,7 @@ use Rattle.std.proofs.Math.Bool.{and-true}
 use Rattle.std.proofs.lemmas.List.{take_more_set, map-append}
 use Rattle.std.proofs.lemmas.List.Folds.{list_all-append}
 use Rattle.script_lines.specs.Arguments.{behind, behind_word, is_number, number_in}
-use Rattle.script_lines.specs.NextWords.{begins_with_numbers, fitting, is_fitting}
+use Rattle.script_lines.specs.steps.NextWords.{begins_with_numbers, fitting, is_fitting}
 
 behind-suc : (count : ℕ) (line : List ℕ) → behind_word (behind count line) ≡ behind (suc count) line
 behind-suc zero line = refl

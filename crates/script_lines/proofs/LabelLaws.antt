@@ -15,7 +15,7 @@ use Rattle.script_lines.specs.Arguments.{ArgumentKind, Layer, Number, Position, 
 use Rattle.script_lines.specs.Arguments.{Argument, Word, Value, are_formed, are_in_range, arguments_of, read_words}
 use Rattle.script_lines.specs.Arguments.{is_number, number_in, is_between, behind, behind_word, words_and_text, label_given}
 use Rattle.script_lines.specs.Commands.{label_kinds}
-use Rattle.script_lines.specs.NextWords.{begins_with_numbers, is_fitting}
+use Rattle.script_lines.specs.steps.NextWords.{begins_with_numbers, is_fitting}
 use Rattle.script_lines.proofs.FrontLaws.{second, second-fails}
 use Rattle.script_lines.proofs.ReadLaws.{judged, read-front, read-front-err, read-unformed, read-outside, read-ok}
 

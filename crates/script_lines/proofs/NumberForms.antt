@@ -10,7 +10,7 @@ use Rattle.text_scan.specs.declared.numeral.NumFault.{NumFault}
 use Rattle.text_scan.specs.declared.numeral.NumFault.TheVariants.{Empty, Digit, Range}
 use Rattle.text_scan.specs.Numbers.{natural_of, integer_of, number_of, in_range, without_minus, signed}
 use Rattle.script_lines.specs.Arguments.{is_number, number_in}
-use Rattle.script_lines.specs.NextWords.{fitting}
+use Rattle.script_lines.specs.steps.NextWords.{fitting}
 
 abbrev chosen : Bool → ℤ → Result ℤ NumFault
 chosen b y = if b then Ok y else Err Range

@@ -9,7 +9,7 @@ use Rattle.script_lines.specs.Arguments.{ArgumentKind, Number, Argument, Value, 
 use Rattle.script_lines.specs.Arguments.{is_in_range, argument_of, are_formed, are_in_range, arguments_of, read_words}
 use Rattle.script_lines.specs.Arguments.{is_number, number_in}
 use Rattle.script_lines.proofs.FrontLaws.{both, first, second, second-fails}
-use Rattle.script_lines.specs.NextWords.{begins_with, begins_with_numbers, is_fitting}
+use Rattle.script_lines.specs.steps.NextWords.{begins_with, begins_with_numbers, is_fitting}
 
 abbrev pub judged : Bool → Bool → List Argument → Result (List Argument) LineFault
 judged formed fit given = if formed then (if fit then Ok given else Err NumberRange) else Err BadForm

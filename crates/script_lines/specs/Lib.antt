@@ -3,5 +3,5 @@ pub use Rattle.cell_bodies.specs as CellBodies
 pub mod Arguments
 pub mod Commands
 pub mod Forms
-pub mod NextWords
 pub mod Verbs
+pub mod steps

@@ -7,7 +7,7 @@ ghost use Rattle.text_scan.specs.PlainNames.{is_plain_name};
 ghost use Rattle.text_scan.specs.Words.{words_of};
 ghost use Rattle.script_lines.specs.declared.faults.LineFault.TheVariants.{BadForm};
 ghost use Rattle.script_lines.specs.Arguments.{Plain, UseId, Number, Value, first_word, behind_word, behind, is_between, is_number, number_in, read_words};
-ghost use Rattle.script_lines.specs.NextWords.{begins_with, begins_with_numbers, fitting, is_fitting};
+ghost use Rattle.script_lines.specs.steps.NextWords.{begins_with, begins_with_numbers, fitting, is_fitting};
 
 use crate::faults::LineFault;
 use crate::limits::{GREATEST_NUMBER, LEAST_NUMBER};

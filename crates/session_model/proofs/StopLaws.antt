@@ -4,7 +4,7 @@ use Rattle.std.specs.Prelude.{Option, Result, Err}
 use Rattle.outside_io.specs.CallPlans.{CallPlan, told_after_call}
 use Rattle.session_model.specs.declared.stops.Stop.{Stop}
 use Rattle.session_model.specs.declared.stops.Stop.TheVariants.{Refused, Halted}
-use Rattle.session_model.specs.Stops.{AsksOnce, IfRefusal, IfRefused}
+use Rattle.session_model.specs.steps.Stops.{AsksOnce, IfRefusal, IfRefused}
 
 -- what holds of a refusal since another thing does
 pub refusal_weaker : {Fault : Type 0} (stop : Stop Fault) (P Q : Fault → Type 0) → ((told : Fault) → P told → Q told) → IfRefusal stop P → IfRefusal stop Q

@@ -8,4 +8,4 @@ pub mod Progress
 pub mod Reports
 pub mod Reruns
 pub mod Scripts
-pub mod Stops
+pub mod steps

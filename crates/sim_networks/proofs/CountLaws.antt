@@ -9,7 +9,7 @@ use Rattle.finite_sets.proofs.Searches.{All-from_In}
 use Rattle.switch_net.specs.Names.{HasName}
 use Rattle.switch_net.specs.SimRecords.{AreOfOneNode, SimRecords, names_of}
 use Rattle.sim_networks.specs.SimNetworks.{HasMoreNodesThan}
-use Rattle.sim_networks.specs.Numbering.{AreNodesOf}
+use Rattle.sim_networks.specs.steps.Numbering.{AreNodesOf}
 
 -- the numbers below one, the greatest first
 abbrev numbers_down : ℕ → List ℕ

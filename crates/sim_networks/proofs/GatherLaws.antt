@@ -18,7 +18,7 @@ use Rattle.sim_text.specs.declared.files.SimFet.{SimFet}
 use Rattle.sim_text.specs.declared.files.SimFile.{SimFile}
 use Rattle.sim_networks.specs.declared.names.NodeNames.{NodeNames}
 use Rattle.sim_networks.specs.SimNetworks.{transistor_of, records_of}
-use Rattle.sim_networks.specs.Numbering.{with_name, with_names, arrivals, AreIndexed, AddsNames, AreNamesOf}
+use Rattle.sim_networks.specs.steps.Numbering.{with_name, with_names, arrivals, AreIndexed, AddsNames, AreNamesOf}
 
 with_names-append : (names xs ys : List (List ℕ)) → with_names names (xs ++ ys) ≡ with_names (with_names names xs) ys
 with_names-append names [] ys = refl

@@ -12,7 +12,7 @@ use Rattle.switch_net.specs.Names.{HasName, NameNodesBelow, NameOneNodeEach}
 use Rattle.switch_net.specs.Network.{IsSound, Network}
 use Rattle.switch_net.specs.SimRecords.{AreTransistors, IsNetworkOf, SimRecords}
 use Rattle.sim_networks.specs.declared.nodes.NodeTable.{NodeTable}
-use Rattle.sim_networks.specs.Numbering.{IsTable, IsTableOf, MarksInput, names_with_nodes}
+use Rattle.sim_networks.specs.steps.Numbering.{IsTable, IsTableOf, MarksInput, names_with_nodes}
 use Rattle.sim_networks.proofs.NumberLaws.{has_labelled, one_number}
 
 -- a name of the table has one node

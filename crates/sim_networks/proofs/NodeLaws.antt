@@ -17,7 +17,7 @@ use Rattle.sim_text.specs.declared.files.SimFile.{SimFile}
 use Rattle.sim_networks.specs.declared.names.NodeNames.{NodeNames}
 use Rattle.sim_networks.specs.declared.nodes.NodeTable.{NodeTable}
 use Rattle.sim_networks.specs.SimNetworks.{IsNumberedByCaps, StandsAt, records_of}
-use Rattle.sim_networks.specs.Numbering.{AreKnown, AreNamesOf, AreNodesOf, IsTableOf, arrivals, number_in, numbers_in}
+use Rattle.sim_networks.specs.steps.Numbering.{AreKnown, AreNamesOf, AreNodesOf, IsTableOf, arrivals, number_in, numbers_in}
 use Rattle.sim_networks.proofs.GatherLaws.{AreGathered, gathered}
 use Rattle.sim_networks.proofs.NumberLaws.{IsLabelled, number_is, number_in-is, labelled_has, has_labelled}
 

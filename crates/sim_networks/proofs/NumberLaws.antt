@@ -4,7 +4,6 @@ use Rattle.std.proofs.Common.{get_or, take, inl, inr, refl, sym, ap, ◌∙◌, 
 use Rattle.std.specs.Prelude.{zip, position, unwrap_or}
 use Rattle.std.specs.Str.{bytes_eq}
 use Rattle.std.proofs.lemmas.Bool.{cases_order}
-use Rattle.std.proofs.lemmas.Iterator.Adapters.{position_from-zero}
 use Rattle.std.proofs.lemmas.List.{take_all, take_more}
 use Rattle.std.proofs.lemmas.List.Quantifiers.{position-Some}
 use Rattle.std.proofs.lemmas.Option.{get_or_from_slice_get, slice_get_read}
@@ -13,9 +12,9 @@ use Rattle.std.proofs.lemmas.Slice.Eq.{bytes_eq-Decides}
 use Rattle.finite_sets.specs.Lists.{In, Distinct}
 use Rattle.finite_sets.proofs.Members.{In-get_or}
 use Rattle.finite_sets.proofs.Distincts.{Distinct-places}
-use Rattle.finite_sets.proofs.Searches.{position_from-none}
 use Rattle.switch_net.specs.Names.{HasName}
-use Rattle.sim_networks.specs.Numbering.{number_in}
+use Rattle.sim_networks.specs.steps.Numbering.{number_in}
+use Rattle.name_index.proofs.Positions.{stands_nowhere}
 
 -- The name stands at this number.
 pub record IsNumber (names : List (List ℕ)) (name : List ℕ) (number : ℕ) : Type 0 where
@@ -31,19 +30,12 @@ found_number names name number found =
       is = sym ((bytes_eq-Decides name (get_or names number [])).0 place.1);
     }
 
--- a name that is not found does not stand in the list
-pub found_nowhere : (names : List (List ℕ)) (name : List ℕ) → position (bytes_eq name) names ≡ None → In name names → ⊥
-found_nowhere names name none here =
-    let fails = position_from-none (bytes_eq name) 0 names name (sym (position_from-zero (bytes_eq name) names) ∙ none) here in
-    let passes = (bytes_eq-Decides name name).1 refl in
-    cc
-
 -- a name of the list stands at its number
 pub number_is : (names : List (List ℕ)) (name : List ℕ) → In name names → IsNumber names name (number_in names name)
 number_is names name here = step (position (bytes_eq name) names) refl
   where
     step : (found : Option ℕ) → position (bytes_eq name) names ≡ found → IsNumber names name (unwrap_or found 0)
-    step None none = absurd (found_nowhere names name none here)
+    step None none = absurd (stands_nowhere names name none here)
     step (Some number) found = found_number names name number found
 
 -- and nowhere else

@@ -13,7 +13,7 @@ use Rattle.switch_net.specs.Network.{IsWithin}
 use Rattle.switch_net.specs.SimRecords.{AreTransistors, IsTransistor, TransistorLine, names_of_aliases, names_of_transistors}
 use Rattle.sim_networks.specs.declared.nodes.NodeTable.{NodeTable}
 use Rattle.sim_networks.specs.SimNetworks.{records_of, transistor_of}
-use Rattle.sim_networks.specs.Numbering.{HasTerminals, IsTableOf}
+use Rattle.sim_networks.specs.steps.Numbering.{HasTerminals, IsTableOf}
 use Rattle.sim_networks.proofs.NumberLaws.{has_labelled}
 
 transistors_push : (names : List (List ℕ × ℕ)) (lines : List TransistorLine) (switches : List Switch) (line : TransistorLine)

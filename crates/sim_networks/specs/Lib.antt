@@ -1,2 +1,2 @@
 pub mod SimNetworks
-pub mod Numbering
+pub mod steps

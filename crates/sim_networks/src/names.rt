@@ -2,7 +2,7 @@
 ghost use Rattle.std.specs.Prelude.{◌≡◌, [], ◌∷◌, map, IfOk, OnOk};
 ghost use Rattle.switch_net.specs.SimRecords.{names_of_aliases, names_of_transistors};
 ghost use Rattle.sim_networks.specs.SimNetworks.{transistor_of};
-ghost use Rattle.sim_networks.specs.Numbering.{AddsNames, AreIndexed, AreNamesOf};
+ghost use Rattle.sim_networks.specs.steps.Numbering.{AddsNames, AreIndexed, AreNamesOf};
 
 use crate::adding::put;
 use name_index::NameIndex;

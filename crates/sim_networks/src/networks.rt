@@ -6,7 +6,7 @@ ghost use Rattle.switch_net.specs.Net.{network_of};
 ghost use Rattle.switch_net.specs.SimRecords.{AreTransistors, IsNetworkOf};
 ghost use Rattle.sim_networks.specs.SimNetworks.{HasLetter, HasMoreNodesThan, HasTooManyNodes, HasTooManySwitches, IsNumberedByCaps};
 ghost use Rattle.sim_networks.specs.SimNetworks.{records_of, transistor_of};
-ghost use Rattle.sim_networks.specs.Numbering.{IsTable, IsTableOf, MarksInput, names_with_nodes};
+ghost use Rattle.sim_networks.specs.steps.Numbering.{IsTable, IsTableOf, MarksInput, names_with_nodes};
 
 use crate::nodes::NodeTable;
 use crate::switches::switches_of;

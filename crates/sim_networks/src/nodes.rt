@@ -6,7 +6,7 @@ ghost use Rattle.partition.specs.Marks.{IsNumbered};
 ghost use Rattle.switch_net.specs.declared.limits.TheConstants.{MOST_NODES};
 ghost use Rattle.switch_net.specs.Names.{HasName};
 ghost use Rattle.sim_networks.specs.SimNetworks.{records_of};
-ghost use Rattle.sim_networks.specs.Numbering.{AreKnown, IsTable, IsTableOf, names_with_nodes, number_in, numbers_in};
+ghost use Rattle.sim_networks.specs.steps.Numbering.{AreKnown, IsTable, IsTableOf, names_with_nodes, number_in, numbers_in};
 
 use crate::adding::put;
 use crate::names::NodeNames;

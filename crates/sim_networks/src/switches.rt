@@ -6,7 +6,7 @@ ghost use Rattle.switch_net.specs.declared.limits.TheConstants.{MOST_NODES};
 ghost use Rattle.switch_net.specs.Names.{HasName};
 ghost use Rattle.switch_net.specs.SimRecords.{AreTransistors, IsLetterOf, IsTransistor};
 ghost use Rattle.sim_networks.specs.SimNetworks.{HasLetter, transistor_of};
-ghost use Rattle.sim_networks.specs.Numbering.{HasTerminals, IsTable, names_with_nodes};
+ghost use Rattle.sim_networks.specs.steps.Numbering.{HasTerminals, IsTable, names_with_nodes};
 
 use crate::adding::put;
 use crate::nodes::NodeTable;

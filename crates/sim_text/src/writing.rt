@@ -1,6 +1,5 @@
 //! Writes a sim text.
 ghost use Rattle.std.specs.Prelude.{◌≡◌, ◌≢◌, ◌<◌, ◌≤◌, ◌∷◌, ◌++◌, length, IfOk, IfErr, OnOk};
-ghost use Rattle.text_scan.specs.Decimal.{decimal};
 ghost use Rattle.sim_text.specs.declared.files.SimLine.TheVariants.{Header, Fet, Cap, Alias};
 ghost use Rattle.sim_text.specs.declared.faults.SimFault.TheVariants.{Memory as OutOfMemory};
 ghost use Rattle.sim_text.specs.WrittenTexts.{line_saying, saying_cap, saying_alias, whole_line_saying};
@@ -11,7 +10,7 @@ use crate::files::{SimFet, SimFile};
 use crate::limits::LONGEST_TEXT;
 use names_lists::Name;
 use std::alloc::{AllocError, Global};
-use text_scan::append_decimal;
+use text_scan::{append_number, append_word};
 
 /// The text of a circuit: the header, its transistors, its capacitances and its aliases.
 ///
@@ -225,18 +224,4 @@ fn append_numbers(out: &mut Vec<u8>, numbers: &[i128]) -> Result<(), AllocError>
         append_number(out, number)?;
     }
     Ok(())
-}
-
-fn append_word(out: &mut Vec<u8>, word: &[u8]) -> Result<(), AllocError>
-    ensures { OnOk result (out.new.items ≡ out.old.items ++ 32 ∷ word.now) }
-{
-    out.push(b' ')?;
-    out.extend_from_slice(word)
-}
-
-fn append_number(out: &mut Vec<u8>, value: i128) -> Result<(), AllocError>
-    ensures { OnOk result (out.new.items ≡ out.old.items ++ 32 ∷ decimal value) }
-{
-    out.push(b' ')?;
-    append_decimal(out, value)
 }

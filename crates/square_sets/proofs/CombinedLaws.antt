@@ -14,7 +14,7 @@ use Rattle.geo_core.specs.Strips.{IsInUnion}
 use Rattle.rect_overlays.specs.declared.stacks.Stack.{Stack}
 use Rattle.rect_overlays.specs.Stacks.{AreStacks}
 use Rattle.rect_overlays.proofs.Lists.{some-In}
-use Rattle.square_sets.specs.Combined.{area_of, has_first, has_second, is_lone, is_shared, IsInBoth, IsInFirstAlone}
+use Rattle.square_sets.specs.steps.Combined.{area_of, has_first, has_second, is_lone, is_shared, IsInBoth, IsInFirstAlone}
 use Rattle.square_sets.specs.Reaches.{AreSameSquares}
 
 -- ---- tests of numbers

@@ -2,7 +2,7 @@
 ghost use Rattle.std.specs.Prelude.{◌≡◌, ◌++◌, IfOk, filter, map};
 ghost use Rattle.geo_core.specs.Strips.{IsStrips};
 ghost use Rattle.rect_overlays.specs.Stacks.{AreStacks};
-ghost use Rattle.square_sets.specs.Combined.{area_of, has_first, has_second, is_lone, is_shared, IsInBoth, IsInFirstAlone};
+ghost use Rattle.square_sets.specs.steps.Combined.{area_of, has_first, has_second, is_lone, is_shared, IsInBoth, IsInFirstAlone};
 
 use geo_core::Rect;
 use geo_strips::strips;

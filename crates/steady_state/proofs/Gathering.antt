@@ -1,5 +1,5 @@
 -- What paths begin with at a node, and the strengths with which a pass begins.
-use Rattle.std.proofs.Common.{◌≡◌, ◌≢◌, ℕ, ◌+◌, ◌<◌, ◌≤◌, List, [], Bool, ◌⊎◌, inl, inr, refl, ap, subst, sym, arith, length}
+use Rattle.std.proofs.Common.{◌≡◌, ◌≢◌, ℕ, ◌+◌, ◌<◌, ◌≤◌, List, [], inl, inr, ap, subst, arith, length}
 use Rattle.std.proofs.Common.{slice_index, slice_index_or, slice_set, get_or-set_same, get_or-set_other}
 use Rattle.std.proofs.lemmas.Bool.{cases_eq}
 use Rattle.switch_net.specs.declared.switches.Level.{Level}
@@ -8,16 +8,15 @@ use Rattle.switch_net.specs.declared.switches.Switch.{Switch}
 use Rattle.switch_net.specs.declared.terminals.Side.{Side}
 use Rattle.switch_net.specs.declared.terminals.Side.TheVariants.{Left, Right}
 use Rattle.switch_net.specs.Network.{Network, IsSound}
-use Rattle.switch_net.specs.Sets.{IsAmong, IsInside}
+use Rattle.switch_net.specs.Sets.{IsAmong}
 use Rattle.switch_net.specs.Terminals.{near_end, far_end}
 use Rattle.switch_net.proofs.Ranges.{root_strength-pos, ends_in_range}
 use Rattle.steady_state.specs.declared.beginning.Begun.{Begun}
 use Rattle.steady_state.specs.declared.kinds.PathKind.{PathKind}
 use Rattle.steady_state.specs.declared.kinds.PathKind.TheVariants.{Definite, FromOther}
-use Rattle.steady_state.specs.Gathering.{IsGathered, AreGathering, AreGathered, AreGatheredAt, AreMore, ArePulled, BringAtMost}
-use Rattle.steady_state.specs.Kinds.{IsFloor, HasPath}
-use Rattle.steady_state.specs.Lowering.{IsLowered}
-use Rattle.steady_state.specs.Spreading.{IsFirstStrength, IsRelaxed}
+use Rattle.steady_state.specs.steps.Gathering.{IsGathered, AreGathering, AreGathered, AreGatheredAt, AreMore, ArePulled, BringAtMost}
+use Rattle.steady_state.specs.steps.Kinds.{IsFloor, HasPath}
+use Rattle.steady_state.specs.steps.Spreading.{IsFirstStrength, IsRelaxed}
 use Rattle.steady_state.proofs.Within.{brings_up, brought, by_itself, pulled_up}
 
 pub none_more : (b : Begun) → AreMore b b
@@ -137,54 +136,3 @@ module _ (s : List Level) (kind : PathKind) (order floor best : List ℕ) (side 
 -- each node has at least the strength 1 by itself
 pub least_definite : (net : Network) (s : List Level) (sound : IsSound net) (v k : ℕ) → v < net.nodes → IsGathered net s Definite v k → 1 ≤ k
 least_definite net s sound v k lt g = let r = g.gathering.own tt in omega (arith, r, root_strength-pos net sound v lt)
-
--- one node more is lowered, where it is below its floor
-pub lowered_low : (order floor : List ℕ) (n : ℕ) (old best : List ℕ) (waiting : List Bool) → n < length order → slice_index order n < length best →
-    slice_index best (slice_index order n) < slice_index floor (slice_index order n) → IsLowered order floor n old best waiting →
-    IsLowered order floor (n + 1) old (slice_set best (slice_index order n) 0) waiting
-lowered_low order floor n old best waiting in_order in_best below x = record {
-  low = λ i lt less. elim (cases_eq (slice_index order i) v) [
-    | inl same ↦ rw (same, get_or-set_same best v 0 0 in_best) refl
-    | inr other ↦ rw (get_or-set_other best v (slice_index order i) 0 0 other) (x.low i (before i lt other) less)
-  ];
-  kept = λ u le. elim (cases_eq u v) [
-    | inl same ↦ absurd (let r = x.kept u le in let e = ap (slice_index best) same in let f = ap (slice_index floor) same in omega (arith, r, e, f, below, le))
-    | inr other ↦ rw (get_or-set_other best v u 0 0 other) (x.kept u le)
-  ];
-  less = λ u. elim (cases_eq u v) [
-    | inl same ↦ rw (same, get_or-set_same best v 0 0 in_best) (omega arith)
-    | inr other ↦ rw (get_or-set_other best v u 0 0 other) (x.less u)
-  ];
-  waits = λ i lt many le. elim (cases_eq (slice_index order i) v) [
-    | inl same ↦ absurd (let r = x.kept (slice_index order i) le in let e = ap (slice_index best) same in let f = ap (slice_index floor) same in
-        omega (arith, r, e, f, below, le))
-    | inr other ↦ x.waits i (before i lt other) many le
-  ];
-  inner = x.inner;
-}
-  where
-    v : ℕ
-    v = slice_index order n
-
-    before : (i : ℕ) → i < n + 1 → slice_index order i ≢ slice_index order n → i < n
-    before i lt ne = elim (cases_eq i n) [ inl e ↦ absurd (ne (ap (slice_index order) e)) | inr other ↦ omega arith ]
-
--- one node more is not below its floor, and waits if there are others
-pub lowered_high : (order floor : List ℕ) (n : ℕ) (old best : List ℕ) (waiting new : List Bool) → n < length order →
-    slice_index floor (slice_index order n) ≤ slice_index best (slice_index order n) →
-    ((v : ℕ) → IsInside waiting v → IsInside new v) → ((v : ℕ) → IsInside new v → IsInside waiting v ⊎ (v ≡ slice_index order n)) →
-    (1 < length order → IsInside new (slice_index order n)) → IsLowered order floor n old best waiting → IsLowered order floor (n + 1) old best new
-lowered_high order floor n old best waiting new in_order above kept others here x = record {
-  low = λ i lt less. elim (cases_eq i n) [
-    | inl same ↦ absurd (let e = ap (slice_index order) same in let r = x.less (slice_index order i) in
-        let f = ap (slice_index floor) e in let g = ap (slice_index best) e in omega (arith, r, f, g, above, less))
-    | inr other ↦ x.low i (omega arith) less
-  ];
-  kept = x.kept;
-  less = x.less;
-  waits = λ i lt many le. elim (cases_eq i n) [
-    | inl same ↦ rw same (here many)
-    | inr other ↦ kept (slice_index order i) (x.waits i (omega arith) many le)
-  ];
-  inner = λ u now. elim (others u now) [ inl old' ↦ x.inner u old' | inr is ↦ (n, in_order, sym is) ];
-}

@@ -8,7 +8,7 @@ use Rattle.switch_net.specs.declared.switches.Switch.{Switch}
 use Rattle.switch_net.specs.declared.switches.Level.TheVariants.{Zero, One, X}
 use Rattle.steady_state.specs.declared.kinds.PathKind.{PathKind}
 use Rattle.steady_state.specs.declared.kinds.PathKind.TheVariants.{Definite, FromOther}
-use Rattle.steady_state.specs.Strongest.{IsStrongestDefinite}
+use Rattle.steady_state.specs.steps.Strongest.{IsStrongestDefinite}
 use Rattle.steady_state.specs.Levels.{IsLevelOf}
 use Rattle.switch_net.proofs.Ranges.{level_cases, root_strength-pos, strength-pos, ends_in_range}
 use Rattle.switch_net.specs.declared.terminals.Side.{Side}
@@ -16,14 +16,14 @@ use Rattle.switch_net.specs.declared.terminals.Side.TheVariants.{Left, Right}
 use Rattle.switch_net.specs.Network.{Network, IsSound}
 use Rattle.switch_net.specs.Path.{Joins, switch_strength, root_strength, is_input, end_of, strength, state_of, is_closed_or_unknown}
 use Rattle.switch_net.specs.Steady.{AllRootsAre, IsSteadyValue}
-use Rattle.steady_state.specs.Kinds.{goes_through, BeginsAt, IsFloor, IsStrongestOfKind}
+use Rattle.steady_state.specs.steps.Kinds.{goes_through, BeginsAt, IsFloor, IsStrongestOfKind}
 use Rattle.switch_net.specs.Terminals.{near_end, far_end}
 use Rattle.switch_net.specs.declared.node_set.NodeSet.{NodeSet}
 use Rattle.switch_net.specs.Sets.{IsInside}
-use Rattle.steady_state.specs.Spreading.{IsRelaxed, IsWorking, IsFirstStrength}
+use Rattle.steady_state.specs.steps.Spreading.{IsRelaxed, IsWorking, IsFirstStrength}
 use Rattle.switch_net.specs.Vicinity.{IsStorage}
 use Rattle.steady_state.specs.declared.part.Part.{Part}
-use Rattle.steady_state.specs.Parts.{IsInPart, IsPartOf}
+use Rattle.steady_state.specs.steps.Parts.{IsInPart, IsPartOf}
 use Rattle.switch_net.proofs.Listing.{none_inside}
 use Rattle.steady_state.proofs.Within.{IsSpread, bound}
 

@@ -20,7 +20,7 @@ use Rattle.switch_net.proofs.Listing.{count-le, inside_range, known, none_inside
 use Rattle.switch_net.proofs.Ranges.{level_cases}
 use Rattle.switch_net.proofs.Unique.{one_value}
 use Rattle.switch_net.proofs.Vicinities.{chain_from, keeps_steady}
-use Rattle.steady_state.specs.Rounds.{AreMadeX, IsRoundDue}
+use Rattle.steady_state.specs.steps.Rounds.{AreMadeX, IsRoundDue}
 use Rattle.steady_state.specs.Levels.{AreSteady, KeepsOthers}
 use Rattle.steady_state.specs.Marked.{AddsMarks, AreMarked, IsGated}
 use Rattle.steady_state.proofs.Moving.{same_states}

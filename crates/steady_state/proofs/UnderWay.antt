@@ -13,8 +13,8 @@ use Rattle.switch_net.specs.declared.terminals.Side.{Side}
 use Rattle.switch_net.specs.declared.terminals.Side.TheVariants.{Left, Right}
 use Rattle.switch_net.specs.Network.{Network}
 use Rattle.switch_net.specs.Path.{Hop, Joins, DefiniteTo, strength, switch_strength, state_of, end_of, is_closed_or_unknown}
-use Rattle.steady_state.specs.Spreading.{IsLift, IsRelaxed, IsWorking, IsRaised, total}
-use Rattle.steady_state.specs.Kinds.{goes_through, IsFloor, HasPath}
+use Rattle.steady_state.specs.steps.Spreading.{IsLift, IsRelaxed, IsWorking, IsRaised, total}
+use Rattle.steady_state.specs.steps.Kinds.{goes_through, IsFloor, HasPath}
 use Rattle.switch_net.specs.Terminals.{near_end, far_end}
 use Rattle.switch_net.specs.Sets.{IsInside}
 use Rattle.switch_net.proofs.Paths.{NotOvercome, unblocked-hop}

@@ -17,7 +17,7 @@ use Rattle.switch_net.specs.Vicinity.{IsStorage}
 use Rattle.switch_net.proofs.Listing.{count-le, known}
 use Rattle.steady_state.specs.declared.part.Part.{Part}
 use Rattle.steady_state.specs.Marked.{AreMarked, AddsMarks, AreClosed, IsCovered, IsLate}
-use Rattle.steady_state.specs.Parts.{IsInPart, IsPartOf}
+use Rattle.steady_state.specs.steps.Parts.{IsInPart, IsPartOf}
 
 -- the list from there on has those that are listed late
 module _ (marks : NodeSet) (before : ℕ) (order : List ℕ) (is_order : order ≡ drop before (take marks.count marks.order)) where

@@ -14,7 +14,7 @@ use Rattle.switch_net.specs.Sorted.{AreSorted, earlier}
 use Rattle.switch_net.specs.Terminals.{node_at}
 use Rattle.switch_net.proofs.Counting.{no_switch}
 use Rattle.steady_state.specs.declared.wiring.Wiring.{Wiring}
-use Rattle.steady_state.specs.Wired.{network_in, sorted_at, AreSwitchesAt, IsSwitchOf}
+use Rattle.steady_state.specs.steps.Wired.{network_in, sorted_at, AreSwitchesAt, IsSwitchOf}
 
 pub sound_of : (net : Wiring) → IsSound (network_in net)
 sound_of net = record { switches_within = net.switches_within; one_size = net.one_size; one_input = net.one_input; sizes_in_range = net.sizes_in_range }

@@ -7,13 +7,11 @@ use Rattle.switch_net.specs.declared.switches.Switch.{Switch}
 use Rattle.steady_state.specs.declared.kinds.PathKind.{PathKind}
 use Rattle.steady_state.specs.declared.kinds.PathKind.TheVariants.{Definite, FromOther}
 use Rattle.switch_net.specs.declared.terminals.Side.{Side}
-use Rattle.switch_net.specs.declared.terminals.Side.TheVariants.{Left, Right}
 use Rattle.switch_net.specs.Network.{Network, IsSound}
 use Rattle.switch_net.specs.Path.{Hop, Joins, IsBlocked, strength, switch_strength, root_strength, is_input, end_of, is_closed_or_unknown}
-use Rattle.steady_state.specs.Strongest.{IsStrongestDefinite}
-use Rattle.steady_state.specs.Kinds.{IsOfKind, goes_through, BeginsAt, IsFloor, HasPath}
-use Rattle.switch_net.specs.Terminals.{near_end, far_end}
-use Rattle.steady_state.specs.Spreading.{BringsAtMost, IsPulled}
+use Rattle.steady_state.specs.steps.Strongest.{IsStrongestDefinite}
+use Rattle.steady_state.specs.steps.Kinds.{IsOfKind, goes_through, BeginsAt, IsFloor, HasPath}
+use Rattle.steady_state.specs.steps.Spreading.{BringsAtMost, IsPulled}
 use Rattle.switch_net.proofs.Paths.{NotOvercome, drop_not_overcome, drop_unblocked, unblocked-root}
 use Rattle.steady_state.proofs.UnderWay.{extend}
 use Rattle.switch_net.proofs.Ranges.{switch_strength-le, at_input, end_in_range, input_stands}
@@ -73,10 +71,6 @@ brought net s sound kind w a b f c j g input in_a adm fl le =
     alone : (kind : PathKind) → BeginsAt s kind a → IsOfKind net s kind a []
     alone Definite adm = (in_a, tt)
     alone (FromOther kept) adm = (in_a, unblocked-root net s a (input_stands net s sound a input), adm)
-
-pub joins_back : (side : Side) (w : Switch) → Joins w (far_end side w) (near_end side w)
-joins_back Left w = inr (refl, refl)
-joins_back Right w = inl (refl, refl)
 
 -- what inputs bring at most they bring at most where that is more
 pub brings_up : (net : Network) (s : List Level) (kind : PathKind) (floor : List ℕ) (side : Side) (best new : ℕ) (w : Switch) → best ≤ new →

@@ -1,11 +1,3 @@
-pub mod Wired
-pub mod Strongest
-pub mod Kinds
 pub mod Marked
-pub mod Parts
-pub mod Spreading
-pub mod Gathering
-pub mod Lowering
-pub mod Passing
 pub mod Levels
-pub mod Rounds
+pub mod steps

@@ -2,7 +2,7 @@
 
 ghost use Rattle.std.specs.Prelude.{◌≡◌, ◌≤◌, ◌<◌, ◌+◌, length, slice_index, slice_range};
 ghost use Rattle.switch_net.specs.Path.{root_strength};
-ghost use Rattle.steady_state.specs.Wired.{network_in, sorted_at, AreSwitchesAt};
+ghost use Rattle.steady_state.specs.steps.Wired.{network_in, sorted_at, AreSwitchesAt};
 
 use crate::wiring::Wiring;
 use switch_net::{Side, SortedSwitches, Terminal};

@@ -4,11 +4,11 @@ ghost use Rattle.std.specs.Prelude.{◌≡◌, ◌<◌, ◌≤◌, ℕ, List, []
 ghost use Rattle.switch_net.specs.Path.{is_input};
 ghost use Rattle.switch_net.specs.Terminals.{near_end, far_end};
 ghost use Rattle.switch_net.specs.Vicinity.{IsReached};
-ghost use Rattle.steady_state.specs.Gathering.{IsGathering, AreGathering, AreGathered, AreMore};
-ghost use Rattle.steady_state.specs.Gathering.{ArePulled, BringAtMost};
+ghost use Rattle.steady_state.specs.steps.Gathering.{IsGathering, AreGathering, AreGathered, AreMore};
+ghost use Rattle.steady_state.specs.steps.Gathering.{ArePulled, BringAtMost};
 ghost use Rattle.steady_state.specs.Marked.{AddsMarks, AreMarked, AreReached, IsCovered, LeadsInside};
-ghost use Rattle.steady_state.specs.Spreading.{BringsAtMost};
-ghost use Rattle.steady_state.specs.Wired.{network_in, IsSwitchOf};
+ghost use Rattle.steady_state.specs.steps.Spreading.{BringsAtMost};
+ghost use Rattle.steady_state.specs.steps.Wired.{network_in, IsSwitchOf};
 
 use crate::adjacent::{strength_at, switches_at};
 use crate::kinds::{PathKind, begins_at, may_conduct, passes, strength_of};
@@ -26,6 +26,7 @@ pub(crate) struct Begun {
 }
 
 /// What paths of a kind from the node itself begin with.
+#[inline(always)]
 fn own_one(net: &Wiring<'_>, kind: PathKind, state: &[Level], node: usize) -> u8
     requires state { length state.now ≡ net.now.nodes }
     requires node { node < net.now.nodes }
@@ -39,6 +40,7 @@ fn own_one(net: &Wiring<'_>, kind: PathKind, state: &[Level], node: usize) -> u8
 }
 
 /// What paths from the node itself begin with.
+#[inline(always)]
 fn own(net: &Wiring<'_>, state: &[Level], node: usize) -> Begun
     requires state { length state.now ≡ net.now.nodes }
     requires node { node < net.now.nodes }
@@ -173,6 +175,7 @@ fn look_all(
 }
 
 /// What paths begin with at a node. Marks the nodes to which closed or unknown switches lead from it.
+#[inline(always)]
 pub(crate) fn gather(net: &Wiring<'_>, state: &[Level], node: u32, marks: &mut NodeSet) -> Begun
     requires state { length state.now ≡ net.now.nodes }
     requires node { node < net.now.nodes }

@@ -3,7 +3,7 @@
 ghost use Rattle.std.specs.Prelude.{◌≡◌, ◌≢◌, ◌<◌, ◌≤◌, ℕ, All, IfSome, length, slice_index};
 ghost use Rattle.switch_net.specs.Path.{state_of};
 ghost use Rattle.switch_net.specs.Vicinity.{IsStorage};
-ghost use Rattle.steady_state.specs.Wired.{network_in, IsSwitchOf};
+ghost use Rattle.steady_state.specs.steps.Wired.{network_in, IsSwitchOf};
 ghost use Rattle.switch_net.specs.Sets.{IsInside, IsAmong};
 ghost use Rattle.steady_state.specs.Marked.{AreEndsMarked, AreMarked, AreMarkedAt, EndsInside, IsGated, IsTouched};
 

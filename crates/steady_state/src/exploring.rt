@@ -3,9 +3,9 @@
 ghost use Rattle.std.specs.Prelude.{◌≡◌, ◌<◌, ◌≤◌, ℕ, List, length, slice_index};
 ghost use Rattle.switch_net.specs.Sets.{IsInside};
 ghost use Rattle.switch_net.specs.Vicinity.{IsStorage, IsReached};
-ghost use Rattle.steady_state.specs.Gathering.{AreGatheredAt};
+ghost use Rattle.steady_state.specs.steps.Gathering.{AreGatheredAt};
 ghost use Rattle.steady_state.specs.Marked.{AddsMarks, AreMarked, AreReached, IsCovered};
-ghost use Rattle.steady_state.specs.Wired.{network_in};
+ghost use Rattle.steady_state.specs.steps.Wired.{network_in};
 
 use crate::beginning::gather;
 use crate::marking::mark;

@@ -4,11 +4,11 @@
 ghost use Rattle.std.specs.Prelude.{◌≡◌, ◌<◌, ℕ, All, length, slice_index};
 ghost use Rattle.switch_net.specs.Sets.{IsInside, IsAmong};
 ghost use Rattle.steady_state.specs.declared.kinds.PathKind.TheVariants.{Definite, FromOther};
-ghost use Rattle.steady_state.specs.Gathering.{IsGathered};
-ghost use Rattle.steady_state.specs.Lowering.{IsLowered};
-ghost use Rattle.steady_state.specs.Parts.{IsPartOf, IsInPart};
-ghost use Rattle.steady_state.specs.Kinds.{IsStrongestOfKind};
-ghost use Rattle.steady_state.specs.Wired.{network_in};
+ghost use Rattle.steady_state.specs.steps.Gathering.{IsGathered};
+ghost use Rattle.steady_state.specs.steps.Lowering.{IsLowered};
+ghost use Rattle.steady_state.specs.steps.Parts.{IsPartOf, IsInPart};
+ghost use Rattle.steady_state.specs.steps.Kinds.{IsStrongestOfKind};
+ghost use Rattle.steady_state.specs.steps.Wired.{network_in};
 
 use crate::kinds::PathKind;
 use crate::part::{Part, Pass};
@@ -18,6 +18,7 @@ use switch_net::{Level, NodeSet};
 
 /// Has the nodes of a part wait that may bring something to others: those of more than the least
 /// strength, unless the part has one node alone.
+#[inline(always)]
 fn enqueue(order: &[u32], best: &[u8], waiting: &mut NodeSet)
     requires order { All (λ v. v < length best.now) order.now }
     requires fits { length waiting.old.inside ≡ length best.now }
@@ -39,6 +40,7 @@ fn enqueue(order: &[u32], best: &[u8], waiting: &mut NodeSet)
 
 /// Writes 0 at the nodes of a part that are below their floors. The others wait, unless the part has one
 /// node alone.
+#[inline(always)]
 fn lower(order: &[u32], floor: &[u8], best: &mut [u8], waiting: &mut NodeSet)
     requires order { All (λ v. v < length best.old) order.now }
     requires floor { length floor.now ≡ length best.old }

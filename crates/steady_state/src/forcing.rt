@@ -5,10 +5,10 @@ ghost use Rattle.std.specs.Prelude.{◌≡◌, ◌≤◌, ◌<◌, ◌⊎◌, �
 ghost use Rattle.switch_net.specs.Phase.{AreForced};
 ghost use Rattle.switch_net.specs.Sets.{IsAmong, IsInside};
 ghost use Rattle.switch_net.specs.Steady.{IsStep};
-ghost use Rattle.steady_state.specs.Rounds.{AreMadeX};
+ghost use Rattle.steady_state.specs.steps.Rounds.{AreMadeX};
 ghost use Rattle.steady_state.specs.Levels.{AreReadyFor, KeepsOthers};
 ghost use Rattle.steady_state.specs.Marked.{AddsMarks, AreMarked};
-ghost use Rattle.steady_state.specs.Wired.{network_in};
+ghost use Rattle.steady_state.specs.steps.Wired.{network_in};
 
 use crate::changes::{changes, mark_changed};
 use crate::stepping::step_marked;

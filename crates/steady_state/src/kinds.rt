@@ -2,7 +2,7 @@
 
 ghost use Rattle.std.specs.Prelude.{◌≡◌, ◌<◌, ◌↔◌, IsTrue, length};
 ghost use Rattle.switch_net.specs.Path.{switch_strength, is_closed, is_closed_or_unknown};
-ghost use Rattle.steady_state.specs.Kinds.{goes_through, BeginsAt};
+ghost use Rattle.steady_state.specs.steps.Kinds.{goes_through, BeginsAt};
 
 use switch_net::{Level, Switch, SwitchKind};
 

@@ -3,7 +3,7 @@
 ghost use Rattle.std.specs.Prelude.{◌≡◌, ◌<◌, ◌≤◌, ◌↔◌, ℕ, List, All, Contains, IsTrue, length};
 ghost use Rattle.switch_net.specs.Sets.{IsAmong, IsInside};
 ghost use Rattle.switch_net.specs.Vicinity.{IsStorage, IsReached};
-ghost use Rattle.steady_state.specs.Wired.{network_in};
+ghost use Rattle.steady_state.specs.steps.Wired.{network_in};
 ghost use Rattle.steady_state.specs.Marked.{IsLate, States};
 ghost use Rattle.steady_state.specs.Marked.{AreMarked, AddsMarks, AreReached};
 
@@ -11,6 +11,7 @@ use crate::wiring::Wiring;
 use switch_net::NodeSet;
 
 /// Whether a node stores charge.
+#[inline(always)]
 fn stores_charge(net: &Wiring<'_>, node: u32) -> bool
     requires { node < net.now.nodes }
     ensures { IsTrue result ↔ IsStorage (network_in net.now) node }
@@ -19,6 +20,7 @@ fn stores_charge(net: &Wiring<'_>, node: u32) -> bool
 }
 
 /// Marks a node that stores charge.
+#[inline(always)]
 pub(crate) fn mark(net: &Wiring<'_>, node: u32, marks: &mut NodeSet)
     requires node { node < net.now.nodes }
     requires marks { AreMarked (network_in net.now) marks.old }

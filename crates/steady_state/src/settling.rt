@@ -7,10 +7,10 @@ ghost use Rattle.switch_net.specs.Path.{state_of};
 ghost use Rattle.switch_net.specs.Steady.{IsStep, IsSteadyValue};
 ghost use Rattle.switch_net.specs.Phase.{AreSteadyOrX, HasRounds, IsPhase};
 ghost use Rattle.switch_net.specs.Vicinity.{IsReached};
-ghost use Rattle.steady_state.specs.Rounds.{DoStepsEnd};
+ghost use Rattle.steady_state.specs.steps.Rounds.{DoStepsEnd};
 ghost use Rattle.steady_state.specs.Levels.{AreReadyFor, AreSteady, KeepsOthers};
 ghost use Rattle.steady_state.specs.Marked.{AreMarked, IsNear, IsQuiet, IsRestedBut, States};
-ghost use Rattle.steady_state.specs.Wired.{network_in};
+ghost use Rattle.steady_state.specs.steps.Wired.{network_in};
 
 use crate::changes::{changes, commit, mark_all_touched, mark_changed};
 use crate::forcing::force_all;

@@ -2,10 +2,10 @@
 
 ghost use Rattle.std.specs.Prelude.{◌≡◌, ◌<◌, ◌≤◌, ◌↔◌, ℕ, [], ◌∷◌, IfSome, IsTrue, length, slice_index};
 ghost use Rattle.switch_net.specs.Terminals.{near_end};
-ghost use Rattle.steady_state.specs.Wired.{network_in, IsSwitchOf};
-ghost use Rattle.steady_state.specs.Parts.{IsPassOver, floors_in};
-ghost use Rattle.steady_state.specs.Passing.{IsOver, IsSpreading, BringsNoMore, BringsNoMoreFrom};
-ghost use Rattle.steady_state.specs.Spreading.{IsLift, IsRaised};
+ghost use Rattle.steady_state.specs.steps.Wired.{network_in, IsSwitchOf};
+ghost use Rattle.steady_state.specs.steps.Parts.{IsPassOver, floors_in};
+ghost use Rattle.steady_state.specs.steps.Passing.{IsOver, IsSpreading, BringsNoMore, BringsNoMoreFrom};
+ghost use Rattle.steady_state.specs.steps.Spreading.{IsLift, IsRaised};
 
 use crate::adjacent::switches_at;
 use crate::kinds::{passes, strength_of};

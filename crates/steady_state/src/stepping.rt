@@ -7,11 +7,11 @@ ghost use Rattle.switch_net.specs.Steady.{IsStep, IsSteadyValue};
 ghost use Rattle.switch_net.specs.Vicinity.{IsInVicinity, IsReached, IsStorage};
 ghost use Rattle.steady_state.specs.Levels.{AreReadyFor, AreSteady, KeepsOthers};
 ghost use Rattle.steady_state.specs.Levels.{IsLevelOf, IsWritten};
-ghost use Rattle.steady_state.specs.Gathering.{AreGatheredAt};
+ghost use Rattle.steady_state.specs.steps.Gathering.{AreGatheredAt};
 ghost use Rattle.switch_net.specs.Sets.{IsInside};
 ghost use Rattle.steady_state.specs.Marked.{AreClosed, AreMarked, AreReached, IsNear, IsQuiet, States};
-ghost use Rattle.steady_state.specs.Parts.{IsInPart, IsPartOf};
-ghost use Rattle.steady_state.specs.Wired.{network_in};
+ghost use Rattle.steady_state.specs.steps.Parts.{IsInPart, IsPartOf};
+ghost use Rattle.steady_state.specs.steps.Wired.{network_in};
 
 use crate::changes::{mark_beside, mark_changed};
 use crate::exploring::explore;
@@ -23,6 +23,7 @@ use switch_net::{Level, NodeSet, Strengths};
 
 /// The level of a node, by the strengths of the strongest unblocked paths from roots other than one
 /// and other than zero.
+#[inline(always)]
 fn level_of(other_than_one: u8, other_than_zero: u8) -> Level
     ensures { IsLevelOf other_than_one other_than_zero result }
 {
@@ -36,6 +37,7 @@ fn level_of(other_than_one: u8, other_than_zero: u8) -> Level
 }
 
 /// Writes the levels of the nodes that are listed.
+#[inline(always)]
 fn write_levels(order: &[u32], one: &[u8], zero: &[u8], next: &mut [Level])
     requires order { All (λ v. v < length next.old) order.now }
     requires one { length one.now ≡ length next.old }

@@ -29,10 +29,10 @@ other_way net s t V g = record {
 }
 
 -- a definite path to a node is in the other state one at least as strong
-record IsMatched (net : Network) (s : List Level) (v k : ℕ) : Type 0 where
-  by : ℕ
-  path : DefiniteTo net s v by
-  as_strong : k ≤ by
+pub record IsMatched (net : Network) (s : List Level) (v k : ℕ) : Type 0 where
+  pub by : ℕ
+  pub path : DefiniteTo net s v by
+  pub as_strong : k ≤ by
 
 matched : (net : Network) (s t : List Level) (V : ℕ → Type 0) → IsSound net → AgreeOn net s t V → (root : ℕ) (p : List Hop) → IsPath net s root p →
     IsDefinite s p → V (end_of root p) →

@@ -32,6 +32,7 @@ impl NodeSet {
     }
 
     /// Whether a node is in the set.
+    #[inline(always)]
     pub fn has(&self, node: u32) -> bool
         requires { node < length self.now.inside }
         ensures { IsTrue result ↔ IsInside self.now.inside node }
@@ -40,6 +41,7 @@ impl NodeSet {
     }
 
     /// The nodes of the set, in the order in which they were added.
+    #[inline(always)]
     pub fn nodes(&self) -> &[u32]
         ensures { result.now ≡ take self.now.count self.now.order }
     {
@@ -47,6 +49,7 @@ impl NodeSet {
     }
 
     /// Adds a node, behind the others, where it is not in the set.
+    #[inline(always)]
     pub fn add(&mut self, node: u32)
         requires { node < length self.old.inside }
         ensures fits { length self.new.inside ≡ length self.old.inside }
@@ -67,6 +70,7 @@ impl NodeSet {
     }
 
     /// Takes off the node that was added last.
+    #[inline(always)]
     pub fn take_last(&mut self) -> u32
         requires { 0 < self.old.count }
         ensures fits { length self.new.inside ≡ length self.old.inside }

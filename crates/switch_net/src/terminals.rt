@@ -21,6 +21,7 @@ pub enum Terminal {
 
 impl Switch {
     /// The node at the end on this side.
+    #[inline(always)]
     pub fn near(&self, side: Side) -> u32
         ensures { result ≡ near_end side self.now }
     {
@@ -31,6 +32,7 @@ impl Switch {
     }
 
     /// The node at the other end.
+    #[inline(always)]
     pub fn far(&self, side: Side) -> u32
         ensures { result ≡ far_end side self.now }
     {

@@ -5,9 +5,9 @@ pub mod Lines
 pub mod ListLines
 pub mod Lookups
 pub mod PairFlags
-pub mod Parts
 pub mod SetLines
 pub mod Sound
 pub mod TypeLines
 pub mod WordRules
 pub mod Words
+pub mod steps

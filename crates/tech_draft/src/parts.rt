@@ -1,7 +1,7 @@
 //! The parts of a text, which are read where they stand.
 ghost use Rattle.std.specs.Prelude.{◌≡◌, ◌∷◌, [], MatchOption, position, slice_index_or};
 ghost use Rattle.tech_draft.specs.Words.{is_comma, pieces_of};
-ghost use Rattle.tech_draft.specs.Parts.{parts_in};
+ghost use Rattle.tech_draft.specs.steps.Parts.{parts_in};
 
 use std::marker::Model;
 use text_scan::split_word;
@@ -27,7 +27,7 @@ pub(crate) struct Parts<'a> {
 
 impl<'a> Model for Parts<'a> {
     ghost use Rattle.std.specs.Prelude.{ℕ, List};
-    ghost use Rattle.tech_draft.specs.Parts.{parts_in};
+    ghost use Rattle.tech_draft.specs.steps.Parts.{parts_in};
 
     ghost Value = { List (List ℕ) };
 

@@ -4,7 +4,7 @@ ghost use Rattle.std.specs.List.{list_any, list_all};
 ghost use Rattle.std.specs.Str.{bytes_eq};
 ghost use Rattle.tech_model.specs.declared.faults.TechFault.TheVariants.{Memory};
 ghost use Rattle.tech_model.specs.Forms.{is_label_byte, ends_in_hash, is_naming_label, is_layer_name, reserved_words};
-ghost use Rattle.tech_draft.specs.Parts.{parts_in};
+ghost use Rattle.tech_draft.specs.steps.Parts.{parts_in};
 ghost use Rattle.tech_draft.specs.Words.{is_slash, is_operator};
 ghost use Rattle.tech_draft.specs.Words.{has_slash, has_operator, name_part, plane_part, has_name_length, is_term_byte, is_term};
 ghost use Rattle.tech_draft.specs.Words.{is_entry, is_layer_term_byte, is_layer_term, has_form, is_entry_list, measure_in};

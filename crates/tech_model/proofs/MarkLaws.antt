@@ -13,7 +13,7 @@ use Rattle.tech_model.specs.Types.{plane_of, parts_of, images_of, type_number, w
 use Rattle.tech_model.specs.WellFormed.{IsWellFormed, IsMarked, IsContact}
 use Rattle.tech_model.specs.Columns.{all_parts, mark_of}
 use Rattle.tech_model.proofs.WellFormedLaws.{layer_well_formed}
-use Rattle.tech_model.proofs.SetLaws.{bit_cases, or_bit_cases, set_bits, image_mark, mark_layer}
+use Rattle.tech_model.proofs.SetLaws.{bit_cases, or_bit_cases, set_bits, image_mark, mark_layer, xor_of_min}
 use Rattle.tech_model.specs.declared.limits.TheConstants.{PART_BITS}
 
 common : RawTech → ℕ → TypeId → ℕ
@@ -108,9 +108,6 @@ mark_of-contact raw layer w below many contact = same_from_bits (mark_of raw (im
 xor_of_own : (x y z : ℕ) → x < 2 → y ≡ min x z → z ≡ 0 → (x + y) % 2 ≡ x
 xor_of_own x y z below is clear = omega arith
 
-xor_of_both : (x y z : ℕ) → x < 2 → y ≡ min x z → z ≡ 1 → (x + y) % 2 ≡ 0
-xor_of_both x y z below is set = omega arith
-
 max_clear : (x y : ℕ) → y ≡ 0 → max x y ≡ x
 max_clear x y clear = omega arith
 
@@ -129,7 +126,7 @@ residue_set raw layer t contact many marked = same_from_bits (without (parts_of 
           ∙ max_clear (bit_at (parts_of raw marked.residue) k) (bit_at mark k) clear
       | inl same ↦
           let set_here : bit_at mark k ≡ 1 = ap (bit_at mark) same ∙ bit_at-pow_same contact.bit in
-          let gone = split ∙ xor_of_both (bit_at set k) (bit_at (bit_and set mark) k) (bit_at mark k) (bit_at-lt set k) (bit_at_and set mark k) set_here in
+          let gone = split ∙ xor_of_min (bit_at set k) (bit_at (bit_and set mark) k) (bit_at mark k) (bit_at-lt set k) (bit_at_and set mark k) set_here in
           elim (bit_cases (parts_of raw marked.residue) k) [
             | inl clear ↦ gone ∙ sym clear
             | inr bit ↦

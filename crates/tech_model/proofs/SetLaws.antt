@@ -57,7 +57,8 @@ pub bit_not_empty : (n k : ℕ) → bit_at n k ≡ 1 → n ≢ 0
 bit_not_empty n k bit empty =
     let apart : ◌≡◌ {A = ℕ} 1 0 = sym bit ∙ ap (λ (x : ℕ). bit_at x k) empty ∙ bit_at-zero k in omega arith
 
-xor_of_min : (x y z : ℕ) → x < 2 → y ≡ min x z → z ≡ 1 → (x + y) % 2 ≡ 0
+-- a bit that is in both goes
+pub xor_of_min : (x y z : ℕ) → x < 2 → y ≡ min x z → z ≡ 1 → (x + y) % 2 ≡ 0
 xor_of_min x y z below is one = omega arith
 
 max_one : (x y : ℕ) → x < 2 → y < 2 → max x y ≡ 1 → (x ≡ 1) ⊎ (y ≡ 1)

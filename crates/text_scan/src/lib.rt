@@ -15,6 +15,7 @@ ghost use Rattle.std.specs.Prelude.{◌≡◌, ◌≤◌, length};
 ghost use Rattle.text_scan.specs.Lines.{lines_of};
 ghost use Rattle.text_scan.specs.Words.{words_of};
 
+pub use behind::{append_number, append_word};
 pub use decimal_text::append_decimal;
 pub use laws::{reads_written_lines, reads_written_numbers, reads_written_words};
 pub use line::{Lines, split_line};
@@ -22,6 +23,7 @@ pub use numeral::{NumFault, number, wide};
 pub use plain_name::{LONGEST_NAME, is_plain_byte, is_plain_name};
 pub use word::{Words, split_word};
 
+mod behind;
 mod decimal_text;
 mod laws;
 mod line;

@@ -7,7 +7,7 @@ use Rattle.tile_arena.specs.declared.blocks.Block.TheInside.{Inside}
 use Rattle.tile_arena.specs.declared.limits.TheConstants.{BLOCK_SIZE}
 use Rattle.tile_arena.specs.declared.places.Places.{Places}
 use Rattle.tile_arena.specs.Places.{HasItem, items_in, begun_with}
-use Rattle.tile_arena.specs.PlaceLending.{with_held}
+use Rattle.tile_arena.specs.steps.PlaceLending.{with_held}
 use Rattle.tile_arena.specs.Blocks.{block_items, IsBlock}
 use Rattle.tile_arena.proofs.BegunLaws.{length-begun_with, get_or-begun_with, begun_with-push, begun_with-set, items_in-begun_with}
 

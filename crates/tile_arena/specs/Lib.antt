@@ -1,9 +1,8 @@
 pub mod Arenas
 pub mod ArenaLending
 pub mod BlockLists
-pub mod Lending
 pub mod Slots
 pub mod Places
 pub mod PlaceOwnership
-pub mod PlaceLending
 pub mod Blocks
+pub mod steps

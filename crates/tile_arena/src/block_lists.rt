@@ -1,7 +1,7 @@
 //! Lists whose items lie in blocks, so that none moves while the list grows.
 ghost use Rattle.std.specs.Prelude.{◌≡◌, ◌+◌, ◌*◌, ◌^◌, ◌<◌, ◌≤◌, [], ◌∷◌, ◌++◌, Some, length, replicate, slice_get, IfOk, OnOk, OnErr};
 ghost use Rattle.std.specs.Borrow.{sem};
-ghost use Rattle.tile_arena.specs.Lending.{lends_item};
+ghost use Rattle.tile_arena.specs.steps.Lending.{lends_item};
 
 use crate::blocks::Block;
 use crate::limits::{BLOCK_SIZE, MOST_VALUES};

@@ -104,7 +104,7 @@ pub(crate) fn deallocate<X, A: Allocator>(
 }
 
 impl<X> Places<X> {
-    ghost use Rattle.tile_arena.specs.PlaceLending.{lends_place};
+    ghost use Rattle.tile_arena.specs.steps.PlaceLending.{lends_place};
 
     /// Puts an item into an empty place.
     pub(crate) fn write(&mut self, start: Start<X>, index: usize, item: X)

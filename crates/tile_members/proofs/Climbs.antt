@@ -30,8 +30,8 @@ use Rattle.element_paths.specs.declared.steps.Step.{Step}
 use Rattle.element_paths.specs.ElementPaths.{AreStepsTo, LeadsDown, NamedElement}
 use Rattle.tile_members.specs.GroupLaws.{RecordsTellGroups}
 use Rattle.tile_members.specs.MergedMembers.{first_member}
-use Rattle.tile_members.specs.Finding.{HasMembers}
-use Rattle.tile_members.specs.MemberNames.{LeadsToMember, kept_in}
+use Rattle.tile_members.specs.steps.Finding.{HasMembers}
+use Rattle.tile_members.specs.steps.MemberNames.{LeadsToMember, kept_in}
 use Rattle.tile_members.proofs.ChildCells.{IsChildOf, clean_element, element_child, element_member}
 
 -- the element to which a step leads

@@ -9,9 +9,9 @@ use Rattle.cell_library.specs.Libraries.{LibraryParts, seen}
 use Rattle.library_trees.specs.NamedCells.{named_tree_at}
 use Rattle.tile_members.specs.declared.finding.MemberFinder.{MemberFinder}
 use Rattle.tile_members.specs.declared.opened_cells.OpenedCells.{OpenedCells}
-use Rattle.tile_members.specs.Finding.{HasMembers, IsFinderOf}
-use Rattle.tile_members.specs.KnownMembers.{AddsNameOrNone}
-use Rattle.tile_members.specs.OpenedCells.{AreOpened, KeepOpened}
+use Rattle.tile_members.specs.steps.Finding.{HasMembers, IsFinderOf}
+use Rattle.tile_members.specs.steps.KnownMembers.{AddsNameOrNone}
+use Rattle.tile_members.specs.steps.OpenedCells.{AreOpened, KeepOpened}
 use Rattle.tile_members.specs.TileMembers.{HasTile, IsPartTile}
 use Rattle.tile_members.proofs.FoundTiles.{AreFound, found_more, found_none}
 use Rattle.tile_members.proofs.KnownLaws.{known_kept}

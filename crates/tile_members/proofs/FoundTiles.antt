@@ -25,10 +25,10 @@ use Rattle.library_trees.proofs.LayoutLaws.{layouts_of_cell}
 use Rattle.tile_members.specs.TileLaws.{MembersHaveWholeTiles}
 use Rattle.tile_members.specs.declared.opened_cells.OpenedCell.{OpenedCell}
 use Rattle.tile_members.specs.declared.opened_cells.OpenedCells.{OpenedCells}
-use Rattle.tile_members.specs.Finding.{HasMembers}
-use Rattle.tile_members.specs.KnownMembers.{AddsNameOrNone, IsOfMember}
-use Rattle.tile_members.specs.MemberNames.{LeadsToMember}
-use Rattle.tile_members.specs.OpenedCells.{HasOpenNode, corner_place}
+use Rattle.tile_members.specs.steps.Finding.{HasMembers}
+use Rattle.tile_members.specs.steps.KnownMembers.{AddsNameOrNone, IsOfMember}
+use Rattle.tile_members.specs.steps.MemberNames.{LeadsToMember}
+use Rattle.tile_members.specs.steps.OpenedCells.{HasOpenNode, corner_place}
 use Rattle.tile_members.specs.TileMembers.{AreTileMembers, HasTile, IsPartTile}
 use Rattle.tile_members.proofs.KnownLaws.{name_kept}
 use Rattle.tile_members.proofs.TileCorners.{HasCorner}

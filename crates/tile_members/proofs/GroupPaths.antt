@@ -10,7 +10,7 @@ use Rattle.ext_model.specs.Paths.{path_text}
 use Rattle.ext_model.specs.Plain.{plain}
 use Rattle.ext_model.specs.Tables.{Table, ext_of}
 use Rattle.tile_members.specs.MergedMembers.{first_member}
-use Rattle.tile_members.specs.MemberNames.{AreMergesOf, kept_in}
+use Rattle.tile_members.specs.steps.MemberNames.{AreMergesOf, kept_in}
 
 -- the path of the first member, by merges that are kept, is that by the record that is kept
 pub path_above : (table : Table) (child : CellKey) (merges : List MergeRec) (id below given first : List ℕ) (made : Result (Vec ℕ Global) AllocError)

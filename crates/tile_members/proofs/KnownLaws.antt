@@ -7,8 +7,8 @@ use Rattle.finite_sets.proofs.Places.{slice_get-append_left}
 use Rattle.cell_library.specs.Views.{LibraryView}
 use Rattle.tile_members.specs.declared.known_members.KnownMembers.{KnownMembers}
 use Rattle.tile_members.specs.declared.opened_cells.OpenedCells.{OpenedCells}
-use Rattle.tile_members.specs.KnownMembers.{AddsName, AddsNameOrNone, AreKnown, IsOfMember, same_key}
-use Rattle.tile_members.specs.OpenedCells.{KeepOpened}
+use Rattle.tile_members.specs.steps.KnownMembers.{AddsName, AddsNameOrNone, AreKnown, IsOfMember, same_key}
+use Rattle.tile_members.specs.steps.OpenedCells.{KeepOpened}
 
 -- where names came or not, a name keeps its number
 pub name_kept : (old new : List (List ℕ)) (number : ℕ) → AddsNameOrNone old new number → (k : ℕ) (name : List ℕ) → slice_get old k ≡ Some name

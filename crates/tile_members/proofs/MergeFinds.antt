@@ -15,7 +15,7 @@ use Rattle.ext_model.specs.declared.arrays.MergeRow.{MergeRow}
 use Rattle.ext_model.specs.declared.records.MergeRec.{MergeRec}
 use Rattle.ext_model.specs.Plain.{plain_merge, plain_merges, raised}
 use Rattle.tile_members.specs.MergedMembers.{first_member}
-use Rattle.tile_members.specs.MergeTables.{has_second}
+use Rattle.tile_members.specs.steps.MergeTables.{has_second}
 
 -- ---- the first member, row by row
 

@@ -23,7 +23,7 @@ use Rattle.cell_library.specs.Views.{LibraryView, view_at}
 use Rattle.library_trees.proofs.OwnRecordLaws.PreferredNames.{preferred_is_first}
 use Rattle.tile_members.specs.declared.opened_cells.OpenedCell.{OpenedCell}
 use Rattle.tile_members.specs.declared.opened_cells.OpenedCells.{OpenedCells}
-use Rattle.tile_members.specs.OpenedCells.{AreOpened, HasNodeAt, HasOpenNode, HasOwnCorner, HasTileAt, IsNumberAt, IsOpened, corner_place}
+use Rattle.tile_members.specs.steps.OpenedCells.{AreOpened, HasNodeAt, HasOpenNode, HasOwnCorner, HasTileAt, IsNumberAt, IsOpened, corner_place}
 
 -- the number of a tile at a place with material is that of the node there
 pub node_found : (view : LibraryView) (cell : ℕ) (opened : OpenedCell) (place : Place) (number : ℕ) → IsOpened view cell opened

@@ -22,7 +22,7 @@ use Rattle.rect_trees.specs.Meetings.{AreMeeting}
 use Rattle.cell_library.specs.Views.{LibraryView}
 use Rattle.tile_members.specs.declared.opened_cells.OpenedCell.{OpenedCell}
 use Rattle.tile_members.specs.declared.opened_cells.OpenedCells.{OpenedCells}
-use Rattle.tile_members.specs.OpenedCells.{AreOpened, HasTileAt, IsNumberAt, IsOpened, IsSearchable, unit_at}
+use Rattle.tile_members.specs.steps.OpenedCells.{AreOpened, HasTileAt, IsNumberAt, IsOpened, IsSearchable, unit_at}
 
 -- ---- one square
 

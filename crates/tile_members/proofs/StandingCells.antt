@@ -16,7 +16,7 @@ use Rattle.cell_library.specs.LayoutTrees.{element_transform, elements_at, eleme
 use Rattle.cell_library.specs.Libraries.{LibraryParts, IsLawfulLibrary, seen}
 use Rattle.cell_library.specs.Spots.{HasRoomToMove}
 use Rattle.cell_library.specs.Views.{view_at}
-use Rattle.cell_library.specs.VisitedTiles.{placed_below, placed_cells}
+use Rattle.cell_library.specs.steps.VisitedTiles.{placed_below, placed_cells}
 use Rattle.cell_library.proofs.GridSpots.{element_moves, room_below, room_in_reach}
 use Rattle.cell_library.proofs.LayoutTreeLaws.{children_are_cells, uses_seen, state_is}
 use Rattle.cell_library.proofs.PlacedCells.{standings_placed}

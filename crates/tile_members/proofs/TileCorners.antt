@@ -20,7 +20,7 @@ use Rattle.cell_tree.specs.Hulls.{SpansInRange}
 use Rattle.cell_library.specs.declared.part_tiles.PartTile.{PartTile}
 use Rattle.cell_library.specs.LayoutTrees.{tree_at, tree_to}
 use Rattle.cell_library.specs.Libraries.{LibraryParts, IsLawfulLibrary, seen}
-use Rattle.cell_library.specs.VisitedTiles.{HasThere, IsCutOf, placed_cells}
+use Rattle.cell_library.specs.steps.VisitedTiles.{HasThere, IsCutOf, placed_cells}
 use Rattle.cell_library.specs.Views.{view_at}
 use Rattle.cell_library.proofs.HullsHoldMaterial.{hull_holds_material}
 use Rattle.cell_library.proofs.PlacedCells.{placed_has, standings_placed}
@@ -28,7 +28,7 @@ use Rattle.cell_library.proofs.PlacedRects.{identity_back}
 use Rattle.cell_library.proofs.ToldTiles.{cut_type}
 use Rattle.cell_library.proofs.VisitLaws.{hull_spans}
 use Rattle.tile_members.specs.TileLaws.{LiesInPartTile}
-use Rattle.tile_members.specs.OpenedCells.{HasOwnCorner, corner_place}
+use Rattle.tile_members.specs.steps.OpenedCells.{HasOwnCorner, corner_place}
 use Rattle.tile_members.specs.TileMembers.{IsPartTile}
 use Rattle.tile_members.proofs.StandingCells.{standing_cells}
 

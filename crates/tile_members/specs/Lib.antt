@@ -2,10 +2,6 @@
 pub use Rattle.group_meetings.specs as GroupMeetings
 pub mod TileLaws
 pub mod MergedMembers
-pub mod MergeTables
 pub mod GroupLaws
 pub mod TileMembers
-pub mod OpenedCells
-pub mod MemberNames
-pub mod KnownMembers
-pub mod Finding
+pub mod steps

@@ -4,9 +4,9 @@ ghost use Rattle.finite_sets.specs.Lists.{Distinct};
 ghost use Rattle.cell_library.specs.LayoutTrees.{tree_at};
 ghost use Rattle.cell_library.specs.Libraries.{seen};
 ghost use Rattle.library_trees.specs.NamedCells.{named_tree_at};
-ghost use Rattle.tile_members.specs.Finding.{HasMembers, IsFinderOf};
-ghost use Rattle.tile_members.specs.KnownMembers.{AddsNameOrNone, IsOfMember};
-ghost use Rattle.tile_members.specs.OpenedCells.{HasOpenNode};
+ghost use Rattle.tile_members.specs.steps.Finding.{HasMembers, IsFinderOf};
+ghost use Rattle.tile_members.specs.steps.KnownMembers.{AddsNameOrNone, IsOfMember};
+ghost use Rattle.tile_members.specs.steps.OpenedCells.{HasOpenNode};
 ghost use Rattle.tile_members.specs.TileMembers.{HasTile, IsPartTile};
 
 use crate::known_members::KnownMembers;

@@ -6,7 +6,7 @@ ghost use Rattle.ext_model.specs.Paths.{path_text};
 ghost use Rattle.ext_model.specs.Plain.{plain};
 ghost use Rattle.ext_model.specs.Tables.{ext_of};
 ghost use Rattle.tile_members.specs.MergedMembers.{first_member};
-ghost use Rattle.tile_members.specs.MemberNames.{kept_in, AreGroupsOf};
+ghost use Rattle.tile_members.specs.steps.MemberNames.{kept_in, AreGroupsOf};
 
 use crate::groups::RecordGroups;
 use element_paths::Step;

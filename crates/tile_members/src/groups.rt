@@ -5,7 +5,7 @@ ghost use Rattle.std.specs.Option.{option_copied, unwrap_or};
 ghost use Rattle.std.specs.Str.{bytes_eq};
 ghost use Rattle.ext_model.specs.Plain.{plain};
 ghost use Rattle.tile_members.specs.MergedMembers.{first_member};
-ghost use Rattle.tile_members.specs.MergeTables.{has_second};
+ghost use Rattle.tile_members.specs.steps.MergeTables.{has_second};
 
 use ext_model::{ArrayExt, MergeRow};
 use indexmap::IndexMap;
@@ -29,7 +29,7 @@ impl<'a> Model for RecordGroups<'a> {
     ghost use Rattle.std.specs.Str.{bytes_eq};
     ghost use Rattle.ext_model.specs.declared.records.MergeRec.{MergeRec};
     ghost use Rattle.ext_model.specs.Plain.{plain_merges};
-    ghost use Rattle.tile_members.specs.MergeTables.{FindFirst};
+    ghost use Rattle.tile_members.specs.steps.MergeTables.{FindFirst};
 
     ghost Value = { List MergeRec };
 

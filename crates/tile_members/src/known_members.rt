@@ -4,7 +4,7 @@ ghost use Rattle.std.specs.List.{list_any};
 ghost use Rattle.std.specs.Str.{bytes_eq};
 ghost use Rattle.std.specs.HashMap.{get as number_at};
 ghost use Rattle.finite_sets.specs.Lists.{Distinct};
-ghost use Rattle.tile_members.specs.KnownMembers.{same_key, AddsName};
+ghost use Rattle.tile_members.specs.steps.KnownMembers.{same_key, AddsName};
 
 use name_index::NameIndex;
 use names_lists::Name;

@@ -5,8 +5,8 @@ ghost use Rattle.ext_model.specs.Tables.{ext_of};
 ghost use Rattle.cell_library.specs.LayoutTrees.{tree_at};
 ghost use Rattle.cell_library.specs.Libraries.{seen};
 ghost use Rattle.element_paths.specs.ElementPaths.{AreStepsTo};
-ghost use Rattle.tile_members.specs.Finding.{HasMembers};
-ghost use Rattle.tile_members.specs.MemberNames.{kept_in, AreGroupsOf, LeadsToMember};
+ghost use Rattle.tile_members.specs.steps.Finding.{HasMembers};
+ghost use Rattle.tile_members.specs.steps.MemberNames.{kept_in, AreGroupsOf, LeadsToMember};
 
 use crate::group_tables::GroupTable;
 use crate::records_tell_groups;

@@ -6,7 +6,8 @@ ghost use Rattle.cell_library.specs.Libraries.{seen};
 ghost use Rattle.geo_core.specs.Areas.{corner_of};
 ghost use Rattle.geo_core.specs.Images.{image, inverted};
 ghost use Rattle.geo_core.specs.Reach.{LiesInReach, MovesInReach};
-ghost use Rattle.tile_members.specs.OpenedCells.{unit_at, AreOpened, HasOpenNode, HasOwnCorner, HasTileAt, IsNumberAt, IsOpened, IsSearchable, KeepOpened};
+ghost use Rattle.tile_members.specs.steps.OpenedCells.{unit_at, AreOpened, HasOpenNode, HasOwnCorner, HasTileAt, IsNumberAt, IsOpened, IsSearchable};
+ghost use Rattle.tile_members.specs.steps.OpenedCells.{KeepOpened};
 
 use cell_library::{Opened, PartTile, Reader};
 use cell_nodes::{CellRegions, cell_regions};

@@ -11,7 +11,7 @@ use Rattle.geo_core.specs.Strips.{IsRun}
 use Rattle.tile_plane.specs.Tiles.{Tiles, tile_at, Owns, IsPartition, value_at}
 use Rattle.tile_plane.specs.Walks.{square_at}
 use Rattle.tile_plane.specs.Tall.{IsTallAt, AreStrips, AreGrown}
-use Rattle.tile_plane.specs.Bands.{AreColumnsTall, IsBanded, IsAtColumn}
+use Rattle.tile_plane.specs.steps.Bands.{AreColumnsTall, IsBanded, IsAtColumn}
 use Rattle.tile_plane.proofs.TileLaws.{owner_taken}
 use Rattle.tile_plane.proofs.StripLaws.{HasIn, row_run, run_tile}
 use Rattle.tile_plane.proofs.ValueLaws.{value_of_owner}

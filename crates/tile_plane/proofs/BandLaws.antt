@@ -10,7 +10,7 @@ use Rattle.geo_core.specs.Planes.{plane_range, AreSet}
 use Rattle.tile_plane.specs.Tiles.{Tiles, tile_at, Owns, IsPartition, value_at}
 use Rattle.tile_plane.specs.Walks.{square_at}
 use Rattle.tile_plane.specs.Tall.{IsWideAt}
-use Rattle.tile_plane.specs.Bands.{band_of, IsBandLaid, IsBandFree, IsWideBeside, IsOpenFrom, AreKept}
+use Rattle.tile_plane.specs.steps.Bands.{band_of, IsBandLaid, IsBandFree, IsWideBeside, IsOpenFrom, AreKept}
 use Rattle.tile_plane.proofs.HandLaws.{covers_or_not}
 use Rattle.tile_plane.proofs.ValueLaws.{value_of_owner, value_off_range}
 use Rattle.tile_plane.proofs.LaidLaws.{area_owns}

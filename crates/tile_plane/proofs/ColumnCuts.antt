@@ -5,7 +5,7 @@ use Rattle.geo_core.specs.declared.squares.Rect.{Rect}
 use Rattle.tile_plane.specs.declared.tiles.Tile.{Tile}
 use Rattle.tile_plane.specs.Tiles.{Tiles, tile_at, IsTaken, Owns, IsPartition}
 use Rattle.tile_plane.specs.Walks.{square_at}
-use Rattle.tile_plane.specs.Cuts.{IsPartAfter}
+use Rattle.tile_plane.specs.steps.Cuts.{IsPartAfter}
 use Rattle.tile_plane.specs.Tall.{AreCutAlong, AreCutAlongAt, NothingElseIsCutAlong}
 use Rattle.tile_plane.proofs.RowCuts.{AreCutting, IsRowWalk, row_step}
 use Rattle.tile_plane.proofs.Transposed.{

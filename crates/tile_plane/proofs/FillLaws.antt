@@ -11,8 +11,8 @@ use Rattle.geo_core.proofs.SquareLaws.{rect_is}
 use Rattle.tile_plane.specs.declared.tiles.Tile.{Tile}
 use Rattle.tile_plane.specs.Tiles.{Tiles, tile_at, IsTaken, Owns, IsPartition, HasStitches}
 use Rattle.tile_plane.specs.Walks.{square_at}
-use Rattle.tile_plane.specs.Cuts.{AreAlike, IsJoinedRight}
-use Rattle.tile_plane.specs.Bands.{IsLaid, IsSide, IsLaidLeft, IsLaidRight, IsBandLaid, IsOfBand, IsBandFree, AreHigh}
+use Rattle.tile_plane.specs.steps.Cuts.{AreAlike, IsJoinedRight}
+use Rattle.tile_plane.specs.steps.Bands.{IsLaid, IsSide, IsLaidLeft, IsLaidRight, IsBandLaid, IsOfBand, IsBandFree, AreHigh}
 use Rattle.tile_plane.proofs.HandLaws.{covers_or_not}
 use Rattle.tile_plane.proofs.TileLaws.{owner_taken}
 use Rattle.tile_plane.proofs.SideLaws.{beside_right, beside_left}

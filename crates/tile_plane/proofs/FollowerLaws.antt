@@ -369,9 +369,8 @@ module _ (tiles : Tiles) (area : Rect) (partition : IsPartition tiles) (stitches
       omega (arith, ints))
 
 -- the walk down the right side of a tile, with what it adds to a list
-module _ (tiles : Tiles) (area : Rect) (partition : IsPartition tiles) (stitches : HasStitches tiles) (near : IsNear area) (id : ℕ)
-    (meets : Meets tiles area id)
-    (inside : (tile_at tiles id).area.xhi <ℤ area.xhi) (old : List ℕ) where
+module _ {tiles : Tiles} {area : Rect} (partition : IsPartition tiles) (stitches : HasStitches tiles) (near : IsNear area) {id : ℕ}
+    (meets : Meets tiles area id) (inside : (tile_at tiles id).area.xhi <ℤ area.xhi) {old : List ℕ} where
   pub adding_begins : (y : ℤ) (next : ℕ) → y ≡ int_min (tile_at tiles id).area.yhi area.yhi
       → Owns tiles next (square_at (tile_at tiles id).area.xhi (y -ℤ pos 1))
       → AddsFrom tiles area id y next old old
@@ -381,7 +380,7 @@ module _ (tiles : Tiles) (area : Rect) (partition : IsPartition tiles) (stitches
     joined = sym (append-nil old);
   }
 
-  module _ (y h : ℤ) (next below : ℕ) (found : List ℕ) (adds : AddsFrom tiles area id y next old found) (left : low_row tiles area id <ℤ y)
+  module _ {y h : ℤ} {next below : ℕ} {found : List ℕ} (adds : AddsFrom tiles area id y next old found) (left : low_row tiles area id <ℤ y)
       (at : h ≡ low_row tiles area next) (is : below ≡ (tile_at tiles next).below) where
     step : (more : List ℕ) → AreFollowersFrom tiles area id (low_row tiles area next) (tile_at tiles next).below more
         → AreFollowersFrom tiles area id h below more
@@ -409,9 +408,9 @@ module _ (tiles : Tiles) (area : Rect) (partition : IsPartition tiles) (stitches
         let less = falls tiles area partition stitches near id meets inside y next adds.more adds.from left in
         extent_falls_down (low_row tiles area id) h y (omega (arith, ints)) left
 
-  pub adding_ends : (y : ℤ) (next : ℕ) (found : List ℕ) → AddsFrom tiles area id y next old found → y ≤ℤ low_row tiles area id
+  pub adding_ends : {y : ℤ} {next : ℕ} {found : List ℕ} → AddsFrom tiles area id y next old found → y ≤ℤ low_row tiles area id
       → AddsAll (IsFollower tiles area id) old found
-  adding_ends y next found adds end = record {
+  adding_ends {y = y} {next = next} adds end = record {
     more = adds.more;
     lists = followers_end tiles area partition stitches near id meets y next adds.more adds.from end;
     joined = adds.joined;

@@ -9,8 +9,9 @@ use Rattle.geo_core.specs.Planes.{plane_range, AreSame}
 use Rattle.tile_plane.specs.declared.tiles.Tile.{Tile}
 use Rattle.tile_plane.specs.Tiles.{Tiles, tile_at, IsTaken, Owns, Leads, IsPartition, HasStitches, square_above, square_right, square_below, square_left, value_at}
 use Rattle.tile_plane.specs.Walks.{square_at}
-use Rattle.tile_plane.specs.Cuts.{IsHandedOver}
-use Rattle.tile_plane.specs.Mends.{Side, Above, Right, Below, Left, stitch_of, square_of, AreRedirected, IsUpperSide, IsRightSide, IsLowerSide, IsLeftSide}
+use Rattle.tile_plane.specs.steps.Cuts.{IsHandedOver}
+use Rattle.tile_plane.specs.steps.Mends.{Side, Above, Right, Below, Left, stitch_of, square_of, AreRedirected, IsUpperSide, IsRightSide, IsLowerSide}
+use Rattle.tile_plane.specs.steps.Mends.{IsLeftSide}
 use Rattle.tile_plane.proofs.TileLaws.{owner_taken}
 use Rattle.tile_plane.proofs.SideLaws.{beside_above, beside_right, beside_below, beside_left}
 use Rattle.tile_plane.proofs.HandLaws.{covers_or_not, hand_partition, areas_hand}

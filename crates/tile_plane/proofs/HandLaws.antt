@@ -8,7 +8,7 @@ use Rattle.geo_core.specs.Covering.{Covers, IsProper}
 use Rattle.geo_core.specs.Planes.{plane_range}
 use Rattle.tile_plane.specs.Tiles.{Tiles, tile_at, IsTaken, Owns, IsPartition}
 use Rattle.tile_plane.specs.Walks.{square_at}
-use Rattle.tile_plane.specs.Cuts.{IsHandedOver}
+use Rattle.tile_plane.specs.steps.Cuts.{IsHandedOver}
 
 -- an area has a square or not
 pub covers_or_not : (area : Rect) (square : Square) → Covers area square ⊎ (Covers area square → ⊥)

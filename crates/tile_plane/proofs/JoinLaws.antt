@@ -3,15 +3,17 @@ use Rattle.std.proofs.Common.{◌≡◌, ◌≢◌, inl, inr, ℕ, ℤ, pos, ◌
 use Rattle.std.proofs.lemmas.Bool.{cases_eq}
 use Rattle.std.proofs.lemmas.Int.{ints, by_lt_z}
 use Rattle.geo_core.specs.declared.squares.Square.{Square}
+use Rattle.geo_core.specs.declared.squares.Rect.{Rect}
 use Rattle.geo_core.specs.Areas.{LiesWithin}
 use Rattle.geo_core.specs.Covering.{Covers, IsProper}
 use Rattle.geo_core.specs.Planes.{AreSame}
 use Rattle.tile_plane.specs.declared.tiles.Tile.{Tile}
-use Rattle.tile_plane.specs.Tiles.{Tiles, tile_at, IsTaken, Owns, Leads, IsPartition, HasStitches, IsPut, value_at}
+use Rattle.tile_plane.specs.Tiles.{Tiles, tile_at, IsTaken, Owns, IsPartition, HasStitches, IsPut, value_at}
 use Rattle.tile_plane.specs.Walks.{square_at}
-use Rattle.tile_plane.specs.Cuts.{AreAlike, IsHandedOver, IsJoinedUp, IsJoinedRight}
-use Rattle.tile_plane.specs.Mends.{Above, Right, Below, Left, AreRedirected, IsUpperEnd, IsRightEnd}
+use Rattle.tile_plane.specs.steps.Cuts.{AreAlike, IsHandedOver, IsJoinedUp, IsJoinedRight}
+use Rattle.tile_plane.specs.steps.Mends.{Above, Right, Below, Left, AreRedirected, IsUpperSide, IsRightSide, IsUpperEnd, IsRightEnd}
 use Rattle.tile_plane.proofs.TileLaws.{owner_taken}
+use Rattle.tile_plane.proofs.RowCuts.{IsSamePlane}
 use Rattle.tile_plane.proofs.GivenLaws.{LeadsElsewhere, own_stitches, IsGiven, given_partition, upper_side, right_side, lower_side, left_side, up_into, right_into, last_partition, last_stitches, last_values}
 
 -- the first tile is the whole of both now
@@ -103,203 +105,199 @@ module _ {old new : Tiles} {id other : ℕ} {whole : Tile} (partition : IsPartit
     join_others k p q = let is = join.others k p q in let alike = redirected.alike k in
         record { area = alike.area ∙ ap (λ (t : Tile). t.area) is; value = alike.value ∙ ap (λ (t : Tile). t.value) is }
 
--- the whole of two tiles, of which the second stands upon the first
-abbrev pub up_whole : Tile → Tile → Tile
-up_whole tile part = record tile { area = record tile.area { yhi = part.area.yhi }; above = part.above; right = part.right }
+-- the area from where the first begins to where the second ends
+abbrev pub rounded : Rect → Rect → Rect
+rounded first second = record first { xhi = second.xhi; yhi = second.yhi }
+
+-- it is both of them and nothing else
+pub record IsRound (first second : Rect) : Type 0 where
+  pub first_in : (s : Square) → Covers first s → Covers (rounded first second) s
+  pub second_in : (s : Square) → Covers second s → Covers (rounded first second) s
+  pub only : (s : Square) → Covers (rounded first second) s → (Covers second s → ⊥) → Covers first s
+
+-- the whole of two tiles
+abbrev pub whole_of : Tile → Tile → Tile
+whole_of tile part = record tile { area = rounded tile.area part.area; above = part.above; right = part.right }
 
 -- Both are read, the whole is put, and the second is taken away.
-pub record IsJoiningUp (old mid new : Tiles) (id other : ℕ) (tile part whole : Tile) : Type 0 where
+pub record IsJoining (old mid new : Tiles) (id other : ℕ) (tile part whole : Tile) : Type 0 where
   pub partition : IsPartition old
   pub stitches : HasStitches old
+  pub taken : IsTaken old id
+  pub other_taken : IsTaken old other
+  pub two : id ≢ other
+  pub round : IsRound (tile_at old id).area (tile_at old other).area
+  pub value : (tile_at old other).value ≡ (tile_at old id).value
+  pub is : tile ≡ tile_at old id
+  pub is_part : part ≡ tile_at old other
+  pub is_whole : whole ≡ whole_of tile part
+  pub put : IsPut id whole old mid
+  pub gone : IsTaken new other → ⊥
+  pub removed : (k : ℕ) → k ≢ other → tile_at new k ≡ tile_at mid k
+
+module _ {old mid new : Tiles} {id other : ℕ} {tile part whole : Tile} (joining : IsJoining old mid new id other tile part whole) where
+  whole_join : IsJoin old new id other (whole_of (tile_at old id) (tile_at old other))
+  whole_join = record {
+    taken = joining.taken;
+    other_taken = joining.other_taken;
+    gone = joining.gone;
+    here = joining.removed id joining.two ∙ joining.put.here ∙ joining.is_whole ∙ ap (λ (t : Tile). whole_of t part) joining.is
+        ∙ ap (whole_of (tile_at old id)) joining.is_part;
+    others = λ k p q. joining.removed k q ∙ joining.put.others k p;
+    id_in = joining.round.first_in;
+    other_in = joining.round.second_in;
+    only = joining.round.only;
+  }
+
+  whole_given : IsGiven (tile_at old other).area id old new
+  whole_given = join_given joining.partition whole_join joining.stitches leads where
+    leads : LeadsElsewhere (tile_at old other).area old (whole_of (tile_at old id) (tile_at old other))
+    leads Above off = joining.stitches.above other joining.other_taken
+    leads Right off = joining.stitches.right other joining.other_taken
+    leads Below off = joining.stitches.below id joining.taken
+    leads Left off = joining.stitches.left id joining.taken
+
+  pub whole_partition : IsPartition new
+  whole_partition = given_partition joining.partition whole_given
+
+  whole_above : IsUpperSide new (tile_at old other).area (tile_at old other).above id
+  whole_above = upper_side joining.partition whole_given _ (ap (λ (t : Tile). t.area.yhi) whole_join.here) (joining.stitches.above other joining.other_taken)
+
+  whole_right : IsRightSide new (tile_at old other).area (tile_at old other).right id
+  whole_right = right_side joining.partition whole_given _ (ap (λ (t : Tile). t.area.xhi) whole_join.here) (joining.stitches.right other joining.other_taken)
+
+  -- a tile with a square of the whole ends where the second does at the latest
+  whole_ends : (k : ℕ) (s : Square) → Owns new k s → Covers (rounded (tile_at old id).area (tile_at old other).area) s
+      → (tile_at new k).area ≡ rounded (tile_at old id).area (tile_at old other).area
+  whole_ends k s owns covers = ap (λ (v : ℕ). (tile_at new v).area) (whole_partition.one k id s owns (whole_owns joining.partition whole_join s covers))
+      ∙ ap (λ (t : Tile). t.area) whole_join.here
+
+  -- once all stitches into the second are redirected
+  module _ {last : Tiles} (all : AreRedirected part.area id new last) where
+    whole_redirected : AreRedirected (tile_at old other).area id new last
+    whole_redirected = subst (λ (t : Tile). AreRedirected t.area id new last) joining.is_part all
+
+    pub whole_same : IsSamePlane old last
+    whole_same = record {
+      partition = last_partition joining.partition whole_given whole_redirected;
+      stitches = last_stitches joining.partition whole_given whole_redirected;
+      same = join_values joining.partition whole_join whole_given whole_redirected refl joining.value;
+    }
+
+    whole_gone : IsTaken last other → ⊥
+    whole_gone = join_gone joining.partition whole_join whole_given whole_redirected
+
+    whole_alike : AreAlike (whole_of (tile_at old id) (tile_at old other)) (tile_at last id)
+    whole_alike = record {
+      area = (whole_redirected.alike id).area ∙ ap (λ (t : Tile). t.area) whole_join.here;
+      value = (whole_redirected.alike id).value ∙ ap (λ (t : Tile). t.value) whole_join.here;
+    }
+
+    whole_others : (k : ℕ) → k ≢ id → k ≢ other → AreAlike (tile_at old k) (tile_at last k)
+    whole_others = join_others joining.partition whole_join whole_given whole_redirected
+
+-- the second tile stands upon the first, in the same columns
+pub record StandsUpon (old : Tiles) (id other : ℕ) : Type 0 where
   pub taken : IsTaken old id
   pub other_taken : IsTaken old other
   pub meet : (tile_at old other).area.ylo ≡ (tile_at old id).area.yhi
   pub low : (tile_at old other).area.xlo ≡ (tile_at old id).area.xlo
   pub high : (tile_at old other).area.xhi ≡ (tile_at old id).area.xhi
-  pub value : (tile_at old other).value ≡ (tile_at old id).value
-  pub is : tile ≡ tile_at old id
-  pub is_part : part ≡ tile_at old other
-  pub is_whole : whole ≡ up_whole tile part
-  pub put : IsPut id whole old mid
-  pub gone : IsTaken new other → ⊥
-  pub removed : (k : ℕ) → k ≢ other → tile_at new k ≡ tile_at mid k
 
-module _ {old mid new : Tiles} {id other : ℕ} {tile part whole : Tile} (joining : IsJoiningUp old mid new id other tile part whole) where
-  up_whole_is : whole ≡ up_whole (tile_at old id) (tile_at old other)
-  up_whole_is = joining.is_whole ∙ ap (λ (t : Tile). up_whole t part) joining.is ∙ ap (up_whole (tile_at old id)) joining.is_part
+module _ {old : Tiles} {id other : ℕ} (stands : StandsUpon old id other) where
+  pub up_two : id ≢ other
+  up_two e = let same = ap (λ (v : ℕ). (tile_at old v).area.ylo) e in let meet = stands.meet in let proper = stands.taken.proper in omega (arith, ints)
 
-  up_join : IsJoin old new id other (up_whole (tile_at old id) (tile_at old other))
-  up_join =
-      let meet = joining.meet in
-      let low = joining.low in
-      let high = joining.high in
-      let proper = joining.taken.proper in
-      let more = joining.other_taken.proper in
+  pub up_round : IsRound (tile_at old id).area (tile_at old other).area
+  up_round =
+      let meet = stands.meet in
+      let low = stands.low in
+      let high = stands.high in
+      let proper = stands.taken.proper in
+      let more = stands.other_taken.proper in
       record {
-        taken = joining.taken;
-        other_taken = joining.other_taken;
-        gone = joining.gone;
-        here = joining.removed id (λ e. let same = ap (λ (v : ℕ). (tile_at old v).area.ylo) e in absurd (omega (arith, ints))) ∙ joining.put.here ∙ up_whole_is;
-        others = λ k p q. joining.removed k q ∙ joining.put.others k p;
-        id_in = λ s covers. omega (arith, ints);
-        other_in = λ s covers. omega (arith, ints);
+        first_in = λ s covers. omega (arith, ints);
+        second_in = λ s covers. omega (arith, ints);
         only = λ s covers off. by_lt_z s.y (tile_at old id).area.yhi (λ under. omega (arith, ints)) (λ over. absurd (off (omega (arith, ints))));
       }
 
-  up_given : IsGiven (tile_at old other).area id old new
-  up_given = join_given joining.partition up_join joining.stitches leads where
-    leads : LeadsElsewhere (tile_at old other).area old (up_whole (tile_at old id) (tile_at old other))
-    leads Above off = subst (λ (z : ℤ). Leads old (tile_at old other).above (square_at (z -ℤ pos 1) (tile_at old other).area.yhi)) joining.high
-        (joining.stitches.above other joining.other_taken)
-    leads Right off = subst (λ (z : ℤ). Leads old (tile_at old other).right (square_at z ((tile_at old other).area.yhi -ℤ pos 1))) joining.high
-        (joining.stitches.right other joining.other_taken)
-    leads Below off = joining.stitches.below id joining.taken
-    leads Left off = joining.stitches.left id joining.taken
+  -- it is the end of the whole
+  module _ {mid new : Tiles} {tile part whole : Tile} (joining : IsJoining old mid new id other tile part whole) where
+    pub up_end : IsUpperEnd new part id
+    up_end = subst (λ (t : Tile). IsUpperEnd new t id) (sym joining.is_part) (record {
+      above = whole_above joining;
+      right = whole_right joining;
+      left = left_side joining.partition (whole_given joining) _ (ap (λ (t : Tile). t.area.xlo) (whole_join joining).here ∙ sym stands.low)
+          (joining.stitches.left other joining.other_taken);
+      below = λ k its covers. up_into joining.partition (whole_given joining) k (ap (λ (t : Tile). t.area.yhi) (whole_join joining).here) its covers
+          (λ w from to owns. absurd (
+          let meet = stands.meet in
+          let low = stands.low in
+          let high = stands.high in
+          let proper = stands.taken.proper in
+          let more = stands.other_taken.proper in
+          let top = ap (λ (r : Rect). r.yhi) (whole_ends joining k (square_at w ((tile_at old other).area.ylo -ℤ pos 1)) owns (omega (arith, ints))) in
+          let proper_end = its.proper in
+          omega (arith, ints)));
+    })
 
-  pub up_new_partition : IsPartition new
-  up_new_partition = given_partition joining.partition up_given
-
-  -- the second tile is the end of the whole
-  pub up_end : IsUpperEnd new part id
-  up_end =
-      let meet = joining.meet in
-      let proper = joining.taken.proper in
-      subst (λ (t : Tile). IsUpperEnd new t id) (sym joining.is_part) (record {
-        above = upper_side joining.partition up_given _ (ap (λ (t : Tile). t.area.yhi) up_join.here) (joining.stitches.above other joining.other_taken);
-        left = left_side joining.partition up_given _ (ap (λ (t : Tile). t.area.xlo) up_join.here ∙ sym joining.low)
-            (joining.stitches.left other joining.other_taken);
-        right = right_side joining.partition up_given _ (ap (λ (t : Tile). t.area.xhi) up_join.here ∙ sym joining.high)
-            (joining.stitches.right other joining.other_taken);
-        below = λ k its covers. up_into joining.partition up_given k (ap (λ (t : Tile). t.area.yhi) up_join.here) its covers (λ w from to owns. absurd (
-            let low = joining.low in
-            let high = joining.high in
-            let more = joining.other_taken.proper in
-            let mine : Owns new id (square_at w ((tile_at old other).area.ylo -ℤ pos 1)) = whole_owns joining.partition up_join _ (omega (arith, ints)) in
-            let same = up_new_partition.one k id _ owns mine in
-            let top = ap (λ (v : ℕ). (tile_at new v).area.yhi) same ∙ ap (λ (t : Tile). t.area.yhi) up_join.here in
-            let proper_end = its.proper in
-            omega (arith, ints)));
-      })
-
-  -- once all stitches into it are redirected
-  module _ {last : Tiles} (all : AreRedirected part.area id new last) where
-    up_redirected : AreRedirected (tile_at old other).area id new last
-    up_redirected = subst (λ (t : Tile). AreRedirected t.area id new last) joining.is_part all
-
-    pub up_partition : IsPartition last
-    up_partition = last_partition joining.partition up_given up_redirected
-
-    pub up_stitches : HasStitches last
-    up_stitches = last_stitches joining.partition up_given up_redirected
-
-    pub up_same : AreSame (value_at old) (value_at last)
-    up_same = join_values joining.partition up_join up_given up_redirected refl joining.value
-
-    pub up_joined : IsJoinedUp id other old last
-    up_joined = record {
-      gone = join_gone joining.partition up_join up_given up_redirected;
-      whole = (up_redirected.alike id).area ∙ ap (λ (t : Tile). t.area) up_join.here;
-      value = (up_redirected.alike id).value ∙ ap (λ (t : Tile). t.value) up_join.here;
-      others = join_others joining.partition up_join up_given up_redirected;
+    pub up_joined : {last : Tiles} → AreRedirected part.area id new last → IsJoinedUp id other old last
+    up_joined all = record {
+      gone = whole_gone joining all;
+      whole = (whole_alike joining all).area ∙ ap (λ (z : ℤ). record (rounded (tile_at old id).area (tile_at old other).area) { xhi = z }) stands.high;
+      value = (whole_alike joining all).value;
+      others = whole_others joining all;
     }
 
--- the whole of two tiles, of which the second stands to the right of the first
-abbrev pub right_whole : Tile → Tile → Tile
-right_whole tile part = record tile { area = record tile.area { xhi = part.area.xhi }; right = part.right; above = part.above }
-
--- Both are read, the whole is put, and the second is taken away.
-pub record IsJoiningRight (old mid new : Tiles) (id other : ℕ) (tile part whole : Tile) : Type 0 where
-  pub partition : IsPartition old
-  pub stitches : HasStitches old
+-- the second tile stands right of the first, in the same rows
+pub record StandsRight (old : Tiles) (id other : ℕ) : Type 0 where
   pub taken : IsTaken old id
   pub other_taken : IsTaken old other
   pub meet : (tile_at old other).area.xlo ≡ (tile_at old id).area.xhi
   pub low : (tile_at old other).area.ylo ≡ (tile_at old id).area.ylo
   pub high : (tile_at old other).area.yhi ≡ (tile_at old id).area.yhi
-  pub value : (tile_at old other).value ≡ (tile_at old id).value
-  pub is : tile ≡ tile_at old id
-  pub is_part : part ≡ tile_at old other
-  pub is_whole : whole ≡ right_whole tile part
-  pub put : IsPut id whole old mid
-  pub gone : IsTaken new other → ⊥
-  pub removed : (k : ℕ) → k ≢ other → tile_at new k ≡ tile_at mid k
 
-module _ {old mid new : Tiles} {id other : ℕ} {tile part whole : Tile} (joining : IsJoiningRight old mid new id other tile part whole) where
-  right_whole_is : whole ≡ right_whole (tile_at old id) (tile_at old other)
-  right_whole_is = joining.is_whole ∙ ap (λ (t : Tile). right_whole t part) joining.is ∙ ap (right_whole (tile_at old id)) joining.is_part
+module _ {old : Tiles} {id other : ℕ} (stands : StandsRight old id other) where
+  pub right_two : id ≢ other
+  right_two e = let same = ap (λ (v : ℕ). (tile_at old v).area.xlo) e in let meet = stands.meet in let proper = stands.taken.proper in omega (arith, ints)
 
-  right_join : IsJoin old new id other (right_whole (tile_at old id) (tile_at old other))
-  right_join =
-      let meet = joining.meet in
-      let low = joining.low in
-      let high = joining.high in
-      let proper = joining.taken.proper in
-      let more = joining.other_taken.proper in
+  pub right_round : IsRound (tile_at old id).area (tile_at old other).area
+  right_round =
+      let meet = stands.meet in
+      let low = stands.low in
+      let high = stands.high in
+      let proper = stands.taken.proper in
+      let more = stands.other_taken.proper in
       record {
-        taken = joining.taken;
-        other_taken = joining.other_taken;
-        gone = joining.gone;
-        here = joining.removed id (λ e. let same = ap (λ (v : ℕ). (tile_at old v).area.xlo) e in absurd (omega (arith, ints))) ∙ joining.put.here
-            ∙ right_whole_is;
-        others = λ k p q. joining.removed k q ∙ joining.put.others k p;
-        id_in = λ s covers. omega (arith, ints);
-        other_in = λ s covers. omega (arith, ints);
+        first_in = λ s covers. omega (arith, ints);
+        second_in = λ s covers. omega (arith, ints);
         only = λ s covers off. by_lt_z s.x (tile_at old id).area.xhi (λ under. omega (arith, ints)) (λ over. absurd (off (omega (arith, ints))));
       }
 
-  right_given : IsGiven (tile_at old other).area id old new
-  right_given = join_given joining.partition right_join joining.stitches leads where
-    leads : LeadsElsewhere (tile_at old other).area old (right_whole (tile_at old id) (tile_at old other))
-    leads Above off = subst (λ (z : ℤ). Leads old (tile_at old other).above (square_at ((tile_at old other).area.xhi -ℤ pos 1) z)) joining.high
-        (joining.stitches.above other joining.other_taken)
-    leads Right off = subst (λ (z : ℤ). Leads old (tile_at old other).right (square_at (tile_at old other).area.xhi (z -ℤ pos 1))) joining.high
-        (joining.stitches.right other joining.other_taken)
-    leads Below off = joining.stitches.below id joining.taken
-    leads Left off = joining.stitches.left id joining.taken
+  -- it is the end of the whole
+  module _ {mid new : Tiles} {tile part whole : Tile} (joining : IsJoining old mid new id other tile part whole) where
+    pub right_end : IsRightEnd new part id
+    right_end = subst (λ (t : Tile). IsRightEnd new t id) (sym joining.is_part) (record {
+      above = whole_above joining;
+      right = whole_right joining;
+      below = lower_side joining.partition (whole_given joining) _ (ap (λ (t : Tile). t.area.ylo) (whole_join joining).here ∙ sym stands.low)
+          (joining.stitches.below other joining.other_taken);
+      left = λ k its covers. right_into joining.partition (whole_given joining) k (ap (λ (t : Tile). t.area.xhi) (whole_join joining).here) its covers
+          (λ w from to owns. absurd (
+          let meet = stands.meet in
+          let low = stands.low in
+          let high = stands.high in
+          let proper = stands.taken.proper in
+          let more = stands.other_taken.proper in
+          let top = ap (λ (r : Rect). r.xhi) (whole_ends joining k (square_at ((tile_at old other).area.xlo -ℤ pos 1) w) owns (omega (arith, ints))) in
+          let proper_end = its.proper in
+          omega (arith, ints)));
+    })
 
-  pub right_new_partition : IsPartition new
-  right_new_partition = given_partition joining.partition right_given
-
-  -- the second tile is the end of the whole
-  pub right_end : IsRightEnd new part id
-  right_end =
-      let meet = joining.meet in
-      let proper = joining.taken.proper in
-      subst (λ (t : Tile). IsRightEnd new t id) (sym joining.is_part) (record {
-        right = right_side joining.partition right_given _ (ap (λ (t : Tile). t.area.xhi) right_join.here) (joining.stitches.right other joining.other_taken);
-        below = lower_side joining.partition right_given _ (ap (λ (t : Tile). t.area.ylo) right_join.here ∙ sym joining.low)
-            (joining.stitches.below other joining.other_taken);
-        above = upper_side joining.partition right_given _ (ap (λ (t : Tile). t.area.yhi) right_join.here ∙ sym joining.high)
-            (joining.stitches.above other joining.other_taken);
-        left = λ k its covers. right_into joining.partition right_given k (ap (λ (t : Tile). t.area.xhi) right_join.here) its covers (λ w from to owns. absurd (
-            let low = joining.low in
-            let high = joining.high in
-            let more = joining.other_taken.proper in
-            let mine : Owns new id (square_at ((tile_at old other).area.xlo -ℤ pos 1) w) = whole_owns joining.partition right_join _ (omega (arith, ints)) in
-            let same = right_new_partition.one k id _ owns mine in
-            let top = ap (λ (v : ℕ). (tile_at new v).area.xhi) same ∙ ap (λ (t : Tile). t.area.xhi) right_join.here in
-            let proper_end = its.proper in
-            omega (arith, ints)));
-      })
-
-  -- once all stitches into it are redirected
-  module _ {last : Tiles} (all : AreRedirected part.area id new last) where
-    right_redirected : AreRedirected (tile_at old other).area id new last
-    right_redirected = subst (λ (t : Tile). AreRedirected t.area id new last) joining.is_part all
-
-    pub right_partition : IsPartition last
-    right_partition = last_partition joining.partition right_given right_redirected
-
-    pub right_stitches : HasStitches last
-    right_stitches = last_stitches joining.partition right_given right_redirected
-
-    pub right_same : AreSame (value_at old) (value_at last)
-    right_same = join_values joining.partition right_join right_given right_redirected refl joining.value
-
-    pub right_joined : IsJoinedRight id other old last
-    right_joined = record {
-      gone = join_gone joining.partition right_join right_given right_redirected;
-      whole = (right_redirected.alike id).area ∙ ap (λ (t : Tile). t.area) right_join.here;
-      value = (right_redirected.alike id).value ∙ ap (λ (t : Tile). t.value) right_join.here;
-      others = join_others joining.partition right_join right_given right_redirected;
+    pub right_joined : {last : Tiles} → AreRedirected part.area id new last → IsJoinedRight id other old last
+    right_joined all = record {
+      gone = whole_gone joining all;
+      whole = (whole_alike joining all).area ∙ ap (λ (z : ℤ). record (rounded (tile_at old id).area (tile_at old other).area) { yhi = z }) stands.high;
+      value = (whole_alike joining all).value;
+      others = whole_others joining all;
     }

@@ -7,7 +7,7 @@ use Rattle.geo_core.specs.Covering.{Covers}
 use Rattle.geo_core.specs.Planes.{plane_range}
 use Rattle.tile_plane.specs.Tiles.{Tiles, tile_at, IsTaken, Owns, IsPartition, HasStitches, square_above, square_below}
 use Rattle.tile_plane.specs.Walks.{square_at}
-use Rattle.tile_plane.specs.Cuts.{IsJoinedUp}
+use Rattle.tile_plane.specs.steps.Cuts.{IsJoinedUp}
 use Rattle.tile_plane.specs.Tall.{IsWideAt, IsTallAt, AreGrown}
 use Rattle.tile_plane.proofs.TileLaws.{owner_taken}
 use Rattle.tile_plane.proofs.SideLaws.{beside_above, beside_below}

@@ -6,7 +6,7 @@ use Rattle.geo_core.specs.Covering.{IsProper}
 use Rattle.tile_plane.specs.Tiles.{Tiles, tile_at, Owns, IsPartition}
 use Rattle.tile_plane.specs.Walks.{square_at}
 use Rattle.tile_plane.specs.Tall.{IsWideAt}
-use Rattle.tile_plane.specs.Bands.{AreAsWide, IsWideBeside, AreKept}
+use Rattle.tile_plane.specs.steps.Bands.{AreAsWide, IsWideBeside, AreKept}
 
 pub kept_self : (area : Rect) (tiles : Tiles) → AreKept area tiles tiles
 kept_self area tiles = record { far = λ j taken off. refl; rows = λ j x y off p q. (j, p, q) }

@@ -10,8 +10,8 @@ use Rattle.geo_core.specs.Planes.{plane_range}
 use Rattle.tile_plane.specs.declared.tiles.Tile.{Tile}
 use Rattle.tile_plane.specs.Tiles.{Tiles, tile_at, IsTaken, Owns, Leads, IsPartition, HasStitches, IsPut, square_above, square_right, square_below, square_left}
 use Rattle.tile_plane.specs.Walks.{square_at}
-use Rattle.tile_plane.specs.Cuts.{AreAlike, IsCutAcross, IsPartFrom, IsJoinedRight}
-use Rattle.tile_plane.specs.Bands.{AreAsWide, IsTileCut, IsLaid}
+use Rattle.tile_plane.specs.steps.Cuts.{AreAlike, IsCutAcross, IsPartFrom, IsJoinedRight}
+use Rattle.tile_plane.specs.steps.Bands.{AreAsWide, IsTileCut, IsLaid}
 use Rattle.tile_plane.proofs.HandLaws.{partition_moves}
 use Rattle.tile_plane.proofs.TileLaws.{owner_taken}
 

@@ -7,6 +7,7 @@ mod BesideLaws
 mod HandLaws
 mod ValueLaws
 mod KeepLaws
+mod StackLaws
 mod RowCuts
 mod QueueLaws
 mod FollowerLaws
@@ -26,6 +27,7 @@ mod FillLaws
 mod PieceLaws
 mod TopLaws
 mod Transposed
+mod TransposedSides
 mod ColumnCuts
 mod GivenLaws
 mod SplitLaws

@@ -7,12 +7,15 @@ use Rattle.geo_core.specs.declared.squares.Rect.{Rect}
 use Rattle.geo_core.specs.Covering.{Covers, IsProper}
 use Rattle.geo_core.specs.Planes.{plane_range}
 use Rattle.tile_plane.specs.declared.tiles.Tile.{Tile}
-use Rattle.tile_plane.specs.Tiles.{Tiles, tile_at, IsTaken, Owns, IsPartition, IsPut, square_above, square_right, square_below, square_left}
+use Rattle.tile_plane.specs.Tiles.{Tiles, tile_at, IsTaken, Owns, IsPartition, IsPut, square_above, square_below}
 use Rattle.tile_plane.specs.Walks.{square_at}
-use Rattle.tile_plane.specs.Mends.{Side, Above, Right, Below, Left, stitch_of, square_of, with_stitch, LeadTo, IsUpperSide, IsRightSide, IsLowerSide, IsLeftSide}
+use Rattle.tile_plane.specs.steps.Mends.{Side, Above, Right, Below, Left, stitch_of, square_of, with_stitch, LeadTo, IsUpperSide, IsRightSide, IsLowerSide}
+use Rattle.tile_plane.specs.steps.Mends.{IsLeftSide}
 use Rattle.tile_plane.proofs.TileLaws.{owner_taken}
-use Rattle.tile_plane.proofs.SideLaws.{strangers, beside_above, beside_right, beside_below, beside_left}
+use Rattle.tile_plane.proofs.SideLaws.{strangers, beside_above, beside_below}
 use Rattle.tile_plane.proofs.WalkLaws.{extent_falls, extent_falls_down}
+use Rattle.tile_plane.proofs.Transposed.{swap_rect, transposed, tile_at-transposed, taken_back, partition_over}
+use Rattle.tile_plane.proofs.TransposedSides.{lead_back, put_over, read_over, right_over, left_over}
 
 stitch_of-with_stitch : (side : Side) (tile : Tile) (id : ℕ) → stitch_of side (with_stitch side tile id) ≡ id
 stitch_of-with_stitch Above tile id = refl
@@ -107,7 +110,7 @@ pub record IsMendingUpper (old new : Tiles) (area : Rect) (id next : ℕ) (c : �
   pub bound : c ≤ℤ area.xhi
   pub at : area.xlo <ℤ c → Owns old next (square_at (c -ℤ pos 1) area.yhi)
 
-module _ (old : Tiles) (area : Rect) (first id : ℕ) (partition : IsPartition old) (side : IsUpperSide old area first id) where
+module _ {old : Tiles} {area : Rect} {first id : ℕ} (partition : IsPartition old) (side : IsUpperSide old area first id) where
   upper_taken : IsTaken old id
   upper_taken = let proper = side.proper in let within = side.within in omega (arith, ints)
 
@@ -153,15 +156,19 @@ module _ (old : Tiles) (area : Rect) (first id : ℕ) (partition : IsPartition o
       let proper = taken.proper in
       omega (arith, ints))
 
-  pub upper_next_taken : (new : Tiles) (next : ℕ) (c : ℤ) → IsMendingUpper old new area id next c → area.xlo <ℤ c → IsTaken new next
-  upper_next_taken new next c walk more = record {
-    proper =
-        subst (λ (t : Tile). IsProper t.area) (sym (walk.mended.rest next)) (owner_taken old next _ (walk.at more)).proper;
-  }
+  -- the walk is at a tile
+  module _ {new : Tiles} {next : ℕ} {c : ℤ} (walk : IsMendingUpper old new area id next c) where
+    pub upper_ends : c ≤ℤ area.xlo → LeadTo Below area id old new
+    upper_ends over = mending_ends Below area id old new c walk.mended (λ k taken covers. let proper = taken.proper in omega (arith, ints))
 
-  -- the tile at which the walk is, as it was before it was read
-  module _ (new : Tiles) (next : ℕ) (c : ℤ) (tile : Tile) (walk : IsMendingUpper old new area id next c) (more : area.xlo <ℤ c) (is : tile ≡ tile_at new next)
-    where
+    pub upper_next_taken : area.xlo <ℤ c → IsTaken new next
+    upper_next_taken more = record {
+      proper =
+          subst (λ (t : Tile). IsProper t.area) (sym (walk.mended.rest next)) (owner_taken old next _ (walk.at more)).proper;
+    }
+
+    -- the tile as it was before it was read
+    module _ {tile : Tile} (more : area.xlo <ℤ c) (is : tile ≡ tile_at new next) where
       upper_end : tile.area.xlo ≡ (tile_at old next).area.xlo
       upper_end = ap (λ (t : Tile). t.area.xlo) (is ∙ walk.mended.rest next)
 
@@ -206,116 +213,36 @@ module _ (old : Tiles) (area : Rect) (first id : ℕ) (partition : IsPartition o
                 (let there = leads (omega (arith, ints)) in let covers = there.covers in omega (arith, ints));
           }
 
-  pub upper_ends : (new : Tiles) (next : ℕ) (c : ℤ) → IsMendingUpper old new area id next c → c ≤ℤ area.xlo → LeadTo Below area id old new
-  upper_ends new next c walk over = mending_ends Below area id old new c walk.mended (λ k taken covers. let proper = taken.proper in omega (arith, ints))
+-- the walk along the right side goes down: with x and y exchanged it is the one along the upper side
+abbrev pub IsMendingRight : Tiles → Tiles → Rect → ℕ → ℕ → ℤ → Type 0
+IsMendingRight old new area id next c = IsMendingUpper (transposed old) (transposed new) (swap_rect area) id next c
 
--- the walk along the right side goes down
-pub record IsMendingRight (old new : Tiles) (area : Rect) (id next : ℕ) (c : ℤ) : Type 0 where
-  pub mended : AreMended Left area id c old new
-  pub bound : c ≤ℤ area.yhi
-  pub at : area.ylo <ℤ c → Owns old next (square_at area.xhi (c -ℤ pos 1))
-
-module _ (old : Tiles) (area : Rect) (first id : ℕ) (partition : IsPartition old) (side : IsRightSide old area first id) where
-  right_taken : IsTaken old id
-  right_taken = let proper = side.proper in let within = side.within in omega (arith, ints)
-
-  -- a tile with a stitch into the area from this side touches it
-  right_touches : (k : ℕ) → IsTaken old k → Covers area (square_left (tile_at old k)) → (tile_at old k).area.xlo ≡ area.xhi
-  right_touches k taken covers =
-      let proper = taken.proper in
-      let within = side.within in
-      by_lt_z (tile_at old k).area.xlo area.xhi
-      (λ over.
-      let both = strangers old id k (square_at (tile_at old k).area.xlo (tile_at old k).area.ylo) (square_left (tile_at old k)) partition
-      (omega (arith, ints)) (omega (arith, ints)) (omega (arith, ints)) in
-      absurd (omega (arith, ints)))
-      (λ touches. omega (arith, ints))
-
-  -- and it is the tile at which the walk is, where it is passed in this step
-  right_passed : (next k : ℕ) (c : ℤ) → c ≤ℤ area.yhi → area.ylo <ℤ c → Owns old next (square_at area.xhi (c -ℤ pos 1)) → IsTaken old k
-      → Covers area (square_left (tile_at old k))
-      → IsPassed Left (tile_at old next).area.ylo (tile_at old k).area → IsPassed Left c (tile_at old k).area ⊎ (k ≡ next)
-  right_passed next k c bound more owns taken covers passed =
-      let proper = taken.proper in
-      let at = owns.covers in
-      let touches = right_touches k taken covers in
-      by_lt_z (tile_at old k).area.ylo c
-      (λ between. inr (partition.one k next (square_at area.xhi (tile_at old k).area.ylo) (omega (arith, ints)) (omega (arith, ints))))
-      (λ before. inl before)
-
+module _ {old : Tiles} {area : Rect} {first id : ℕ} (partition : IsPartition old) (side : IsRightSide old area first id) where
   pub right_begins : area.xhi <ℤ plane_range.xhi → IsMendingRight old old area id first area.yhi
-  right_begins inside =
-      let within = side.within in
-      let proper = side.proper in
-      let around = partition.within id right_taken in
-      record {
-        mended = mending_begins Left area id old area.yhi (λ k taken covers passed. let sound = taken.proper in omega (arith, ints));
-        bound = omega (arith, ints);
-        at = λ more. side.leads (omega (arith, ints));
-      }
+  right_begins inside = upper_begins (partition_over old partition) (right_over side) inside
 
   pub right_none : plane_range.xhi ≤ℤ area.xhi → LeadTo Left area id old old
-  right_none edge = mending_none Left area id old (λ k taken covers.
-      let touches = right_touches k taken covers in
-      let its = partition.within k taken in
-      let proper = taken.proper in
-      omega (arith, ints))
+  right_none edge = lead_back Left area id old old (upper_none (partition_over old partition) (right_over side) edge)
 
-  pub right_next_taken : (new : Tiles) (next : ℕ) (c : ℤ) → IsMendingRight old new area id next c → area.ylo <ℤ c → IsTaken new next
-  right_next_taken new next c walk more = record {
-    proper =
-        subst (λ (t : Tile). IsProper t.area) (sym (walk.mended.rest next)) (owner_taken old next _ (walk.at more)).proper;
-  }
+  -- the walk is at a tile
+  module _ (new : Tiles) {next : ℕ} {c : ℤ} (walk : IsMendingRight old new area id next c) where
+    pub right_ends : c ≤ℤ area.ylo → LeadTo Left area id old new
+    right_ends over = lead_back Left area id old new (upper_ends (partition_over old partition) (right_over side) walk over)
 
-  -- the tile at which the walk is, as it was before it was read
-  module _ (new : Tiles) (next : ℕ) (c : ℤ) (tile : Tile) (walk : IsMendingRight old new area id next c) (more : area.ylo <ℤ c) (is : tile ≡ tile_at new next)
-    where
-      right_end : tile.area.ylo ≡ (tile_at old next).area.ylo
-      right_end = ap (λ (t : Tile). t.area.ylo) (is ∙ walk.mended.rest next)
+    pub right_next_taken : area.ylo <ℤ c → IsTaken new next
+    right_next_taken more = taken_back new next (upper_next_taken (partition_over old partition) (right_over side) walk more)
 
+    module _ {tile : Tile} (more : area.ylo <ℤ c) (is : tile ≡ tile_at new next) where
       pub right_falls : extent area.ylo tile.area.ylo < extent area.ylo c
-      right_falls = let at = (walk.at more).covers in let end = right_end in extent_falls_down area.ylo tile.area.ylo c (omega (arith, ints)) more
+      right_falls = upper_falls (partition_over old partition) (right_over side) walk more (read_over next tile new is)
 
-      -- the last tile reaches past the area
       pub right_last : tile.area.ylo <ℤ area.ylo → LeadTo Left area id old new
-      right_last past = mending_ends Left area id old new c walk.mended (λ k taken covers.
-          let end = right_end in
-          let at = (walk.at more).covers in
-          elim (right_passed next k c walk.bound more (walk.at more) taken covers (omega (arith, ints))) [
-            | inl passed ↦ passed
-            | inr same ↦ (let e = ap (λ (v : ℕ). (tile_at old v).area.ylo) same in absurd (omega (arith, ints)))
-          ])
+      right_last past = lead_back Left area id old new (upper_last (partition_over old partition) (right_over side) walk more (read_over next tile new is) past)
 
       pub right_goes_on : (put : Tiles) → area.ylo ≤ℤ tile.area.ylo → IsPut next (record (tile_at new next) { left = id }) new put
           → IsMendingRight old put area id tile.below tile.area.ylo
-      right_goes_on put on is_put =
-          let end = right_end in
-          let stitch = ap (λ (t : Tile). t.below) (is ∙ walk.mended.rest next) in
-          let owns = walk.at more in
-          let at = owns.covers in
-          let bound = walk.bound in
-          let within = side.within in
-          let holder = right_taken in
-          let proper = (owner_taken old next _ owns).proper in
-          let sound = side.proper in
-          let edge = side.edge in
-          let reaches : (tile_at old next).area.xlo ≡ area.xhi = (
-          let e = beside_right old id next (c -ℤ pos 1) partition holder (omega (arith, ints)) (omega (arith, ints)) (omega (arith, ints)) in
-          omega (arith, ints)) in
-          let around = partition.within id holder in
-          let beside = partition.within next (owner_taken old next _ owns) in
-          let leads = side.along next (c -ℤ pos 1) (omega (arith, ints)) (omega (arith, ints)) owns in
-          record {
-            mended = mending_goes_on Left area id old new put next c tile.area.ylo walk.mended is_put (omega (arith, ints)) (omega (arith, ints))
-                (λ k passed. omega (arith, ints))
-                (λ k taken covers passed. right_passed next k c bound more owns taken covers (omega (arith, ints)));
-            bound = omega (arith, ints);
-            at = λ again. subst (λ (v : ℕ). Owns old v (square_at area.xhi (tile.area.ylo -ℤ pos 1))) (sym stitch)
-                (let there = leads (omega (arith, ints)) in let covers = there.covers in omega (arith, ints));
-          }
-
-  pub right_ends : (new : Tiles) (next : ℕ) (c : ℤ) → IsMendingRight old new area id next c → c ≤ℤ area.ylo → LeadTo Left area id old new
-  right_ends new next c walk over = mending_ends Left area id old new c walk.mended (λ k taken covers. let proper = taken.proper in omega (arith, ints))
+      right_goes_on put on is_put = upper_goes_on (partition_over old partition) (right_over side) walk more (read_over next tile new is) (transposed put) on
+          (subst (λ (t : Tile). IsPut next (record t { below = id }) (transposed new) (transposed put)) (sym (tile_at-transposed new next)) (put_over is_put))
 
 -- the walk along the lower side goes right
 pub record IsMendingLower (old new : Tiles) (area : Rect) (id next : ℕ) (c : ℤ) : Type 0 where
@@ -323,7 +250,7 @@ pub record IsMendingLower (old new : Tiles) (area : Rect) (id next : ℕ) (c : �
   pub bound : area.xlo ≤ℤ c
   pub at : c <ℤ area.xhi → Owns old next (square_at c (area.ylo -ℤ pos 1))
 
-module _ (old : Tiles) (area : Rect) (first id : ℕ) (partition : IsPartition old) (side : IsLowerSide old area first id) where
+module _ {old : Tiles} {area : Rect} {first id : ℕ} (partition : IsPartition old) (side : IsLowerSide old area first id) where
   lower_taken : IsTaken old id
   lower_taken = let proper = side.proper in let within = side.within in omega (arith, ints)
 
@@ -369,15 +296,19 @@ module _ (old : Tiles) (area : Rect) (first id : ℕ) (partition : IsPartition o
       let proper = taken.proper in
       omega (arith, ints))
 
-  pub lower_next_taken : (new : Tiles) (next : ℕ) (c : ℤ) → IsMendingLower old new area id next c → c <ℤ area.xhi → IsTaken new next
-  lower_next_taken new next c walk more = record {
-    proper =
-        subst (λ (t : Tile). IsProper t.area) (sym (walk.mended.rest next)) (owner_taken old next _ (walk.at more)).proper;
-  }
+  -- the walk is at a tile
+  module _ {new : Tiles} {next : ℕ} {c : ℤ} (walk : IsMendingLower old new area id next c) where
+    pub lower_ends : area.xhi ≤ℤ c → LeadTo Above area id old new
+    lower_ends over = mending_ends Above area id old new c walk.mended (λ k taken covers. let proper = taken.proper in omega (arith, ints))
 
-  -- the tile at which the walk is, as it was before it was read
-  module _ (new : Tiles) (next : ℕ) (c : ℤ) (tile : Tile) (walk : IsMendingLower old new area id next c) (more : c <ℤ area.xhi) (is : tile ≡ tile_at new next)
-    where
+    pub lower_next_taken : c <ℤ area.xhi → IsTaken new next
+    lower_next_taken more = record {
+      proper =
+          subst (λ (t : Tile). IsProper t.area) (sym (walk.mended.rest next)) (owner_taken old next _ (walk.at more)).proper;
+    }
+
+    -- the tile as it was before it was read
+    module _ {tile : Tile} (more : c <ℤ area.xhi) (is : tile ≡ tile_at new next) where
       lower_end : tile.area.xhi ≡ (tile_at old next).area.xhi
       lower_end = ap (λ (t : Tile). t.area.xhi) (is ∙ walk.mended.rest next)
 
@@ -422,113 +353,33 @@ module _ (old : Tiles) (area : Rect) (first id : ℕ) (partition : IsPartition o
                 (let there = leads (omega (arith, ints)) in let covers = there.covers in omega (arith, ints));
           }
 
-  pub lower_ends : (new : Tiles) (next : ℕ) (c : ℤ) → IsMendingLower old new area id next c → area.xhi ≤ℤ c → LeadTo Above area id old new
-  lower_ends new next c walk over = mending_ends Above area id old new c walk.mended (λ k taken covers. let proper = taken.proper in omega (arith, ints))
+-- the walk along the left side goes up: with x and y exchanged it is the one along the lower side
+abbrev pub IsMendingLeft : Tiles → Tiles → Rect → ℕ → ℕ → ℤ → Type 0
+IsMendingLeft old new area id next c = IsMendingLower (transposed old) (transposed new) (swap_rect area) id next c
 
--- the walk along the left side goes up
-pub record IsMendingLeft (old new : Tiles) (area : Rect) (id next : ℕ) (c : ℤ) : Type 0 where
-  pub mended : AreMended Right area id c old new
-  pub bound : area.ylo ≤ℤ c
-  pub at : c <ℤ area.yhi → Owns old next (square_at (area.xlo -ℤ pos 1) c)
-
-module _ (old : Tiles) (area : Rect) (first id : ℕ) (partition : IsPartition old) (side : IsLeftSide old area first id) where
-  left_taken : IsTaken old id
-  left_taken = let proper = side.proper in let within = side.within in omega (arith, ints)
-
-  -- a tile with a stitch into the area from this side touches it
-  left_touches : (k : ℕ) → IsTaken old k → Covers area (square_right (tile_at old k)) → (tile_at old k).area.xhi ≡ area.xlo
-  left_touches k taken covers =
-      let proper = taken.proper in
-      let within = side.within in
-      by_lt_z area.xlo (tile_at old k).area.xhi
-      (λ over.
-      let both = strangers old id k (square_at ((tile_at old k).area.xhi -ℤ pos 1) ((tile_at old k).area.yhi -ℤ pos 1)) (square_right (tile_at old k))
-      partition (omega (arith, ints)) (omega (arith, ints)) (omega (arith, ints)) in
-      absurd (omega (arith, ints)))
-      (λ touches. omega (arith, ints))
-
-  -- and it is the tile at which the walk is, where it is passed in this step
-  left_passed : (next k : ℕ) (c : ℤ) → area.ylo ≤ℤ c → c <ℤ area.yhi → Owns old next (square_at (area.xlo -ℤ pos 1) c) → IsTaken old k
-      → Covers area (square_right (tile_at old k))
-      → IsPassed Right (tile_at old next).area.yhi (tile_at old k).area → IsPassed Right c (tile_at old k).area ⊎ (k ≡ next)
-  left_passed next k c bound more owns taken covers passed =
-      let proper = taken.proper in
-      let at = owns.covers in
-      let touches = left_touches k taken covers in
-      by_lt_z c (tile_at old k).area.yhi
-      (λ between. inr (partition.one k next (square_at (area.xlo -ℤ pos 1) ((tile_at old k).area.yhi -ℤ pos 1)) (omega (arith, ints)) (omega (arith, ints))))
-      (λ before. inl before)
-
+module _ {old : Tiles} {area : Rect} {first id : ℕ} (partition : IsPartition old) (side : IsLeftSide old area first id) where
   pub left_begins : plane_range.xlo <ℤ area.xlo → IsMendingLeft old old area id first area.ylo
-  left_begins inside =
-      let within = side.within in
-      let proper = side.proper in
-      let around = partition.within id left_taken in
-      record {
-        mended = mending_begins Right area id old area.ylo (λ k taken covers passed. let sound = taken.proper in omega (arith, ints));
-        bound = omega (arith, ints);
-        at = λ more. side.leads (omega (arith, ints));
-      }
+  left_begins inside = lower_begins (partition_over old partition) (left_over side) inside
 
   pub left_none : area.xlo ≤ℤ plane_range.xlo → LeadTo Right area id old old
-  left_none edge = mending_none Right area id old (λ k taken covers.
-      let touches = left_touches k taken covers in
-      let its = partition.within k taken in
-      let proper = taken.proper in
-      omega (arith, ints))
+  left_none edge = lead_back Right area id old old (lower_none (partition_over old partition) (left_over side) edge)
 
-  pub left_next_taken : (new : Tiles) (next : ℕ) (c : ℤ) → IsMendingLeft old new area id next c → c <ℤ area.yhi → IsTaken new next
-  left_next_taken new next c walk more = record {
-    proper =
-        subst (λ (t : Tile). IsProper t.area) (sym (walk.mended.rest next)) (owner_taken old next _ (walk.at more)).proper;
-  }
+  -- the walk is at a tile
+  module _ (new : Tiles) {next : ℕ} {c : ℤ} (walk : IsMendingLeft old new area id next c) where
+    pub left_ends : area.yhi ≤ℤ c → LeadTo Right area id old new
+    left_ends over = lead_back Right area id old new (lower_ends (partition_over old partition) (left_over side) walk over)
 
-  -- the tile at which the walk is, as it was before it was read
-  module _ (new : Tiles) (next : ℕ) (c : ℤ) (tile : Tile) (walk : IsMendingLeft old new area id next c) (more : c <ℤ area.yhi) (is : tile ≡ tile_at new next)
-    where
-      left_end : tile.area.yhi ≡ (tile_at old next).area.yhi
-      left_end = ap (λ (t : Tile). t.area.yhi) (is ∙ walk.mended.rest next)
+    pub left_next_taken : c <ℤ area.yhi → IsTaken new next
+    left_next_taken more = taken_back new next (lower_next_taken (partition_over old partition) (left_over side) walk more)
 
+    module _ {tile : Tile} (more : c <ℤ area.yhi) (is : tile ≡ tile_at new next) where
       pub left_falls : extent tile.area.yhi area.yhi < extent c area.yhi
-      left_falls = let at = (walk.at more).covers in let end = left_end in extent_falls c tile.area.yhi area.yhi (omega (arith, ints)) more
+      left_falls = lower_falls (partition_over old partition) (left_over side) walk more (read_over next tile new is)
 
-      -- the last tile reaches past the area
       pub left_last : area.yhi <ℤ tile.area.yhi → LeadTo Right area id old new
-      left_last past = mending_ends Right area id old new c walk.mended (λ k taken covers.
-          let end = left_end in
-          let at = (walk.at more).covers in
-          elim (left_passed next k c walk.bound more (walk.at more) taken covers (omega (arith, ints))) [
-            | inl passed ↦ passed
-            | inr same ↦ (let e = ap (λ (v : ℕ). (tile_at old v).area.yhi) same in absurd (omega (arith, ints)))
-          ])
+      left_last past = lead_back Right area id old new (lower_last (partition_over old partition) (left_over side) walk more (read_over next tile new is) past)
 
       pub left_goes_on : (put : Tiles) → tile.area.yhi ≤ℤ area.yhi → IsPut next (record (tile_at new next) { right = id }) new put
           → IsMendingLeft old put area id tile.above tile.area.yhi
-      left_goes_on put on is_put =
-          let end = left_end in
-          let stitch = ap (λ (t : Tile). t.above) (is ∙ walk.mended.rest next) in
-          let owns = walk.at more in
-          let at = owns.covers in
-          let bound = walk.bound in
-          let within = side.within in
-          let holder = left_taken in
-          let proper = (owner_taken old next _ owns).proper in
-          let sound = side.proper in
-          let edge = side.edge in
-          let reaches : (tile_at old next).area.xhi ≡ area.xlo = (
-          let e = beside_left old id next c partition holder (omega (arith, ints)) (omega (arith, ints)) (omega (arith, ints)) in
-          omega (arith, ints)) in
-          let around = partition.within id holder in
-          let beside = partition.within next (owner_taken old next _ owns) in
-          let leads = side.along next c (omega (arith, ints)) (omega (arith, ints)) owns in
-          record {
-            mended = mending_goes_on Right area id old new put next c tile.area.yhi walk.mended is_put (omega (arith, ints)) (omega (arith, ints))
-                (λ k passed. omega (arith, ints))
-                (λ k taken covers passed. left_passed next k c bound more owns taken covers (omega (arith, ints)));
-            bound = omega (arith, ints);
-            at = λ again. subst (λ (v : ℕ). Owns old v (square_at (area.xlo -ℤ pos 1) tile.area.yhi)) (sym stitch)
-                (let there = leads (omega (arith, ints)) in let covers = there.covers in omega (arith, ints));
-          }
-
-  pub left_ends : (new : Tiles) (next : ℕ) (c : ℤ) → IsMendingLeft old new area id next c → area.yhi ≤ℤ c → LeadTo Right area id old new
-  left_ends new next c walk over = mending_ends Right area id old new c walk.mended (λ k taken covers. let proper = taken.proper in omega (arith, ints))
+      left_goes_on put on is_put = lower_goes_on (partition_over old partition) (left_over side) walk more (read_over next tile new is) (transposed put) on
+          (subst (λ (t : Tile). IsPut next (record t { above = id }) (transposed new) (transposed put)) (sym (tile_at-transposed new next)) (put_over is_put))

@@ -1,5 +1,5 @@
 -- Mending three sides of an area one after the other redirects all stitches into it.
-use Rattle.std.proofs.Common.{◌≡◌, ℕ, ℤ, pos, ◌-ℤ◌, ◌≤ℤ◌, ◌<ℤ◌, refl, sym, ◌∙◌, ap, subst, arith}
+use Rattle.std.proofs.Common.{◌≡◌, ◌⊎◌, inl, inr, ℕ, ℤ, pos, ◌-ℤ◌, ◌≤ℤ◌, ◌<ℤ◌, refl, sym, ◌∙◌, ap, subst, arith}
 use Rattle.std.proofs.lemmas.Int.{ints}
 use Rattle.geo_core.specs.declared.squares.Square.{Square}
 use Rattle.geo_core.specs.declared.squares.Rect.{Rect}
@@ -8,7 +8,8 @@ use Rattle.geo_core.specs.Covering.{Covers, IsProper}
 use Rattle.tile_plane.specs.declared.tiles.Tile.{Tile}
 use Rattle.tile_plane.specs.Tiles.{Tiles, tile_at, IsTaken, Owns, Leads, IsPartition, square_above, square_right, square_below, square_left}
 use Rattle.tile_plane.specs.Walks.{square_at}
-use Rattle.tile_plane.specs.Mends.{Side, Above, Right, Below, Left, stitch_of, square_of, with_stitch, LeadTo, AreRedirected, IsUpperSide, IsRightSide, IsLowerSide, IsLeftSide}
+use Rattle.tile_plane.specs.steps.Cuts.{AreAlike}
+use Rattle.tile_plane.specs.steps.Mends.{Side, Above, Right, Below, Left, stitch_of, square_of, with_stitch, LeadTo, AreRedirected, IsUpperSide, IsRightSide, IsLowerSide, IsLeftSide}
 use Rattle.tile_plane.proofs.HandLaws.{partition_moves}
 use Rattle.tile_plane.proofs.SideLaws.{strangers}
 
@@ -173,6 +174,96 @@ pub right_once_left : (area : Rect) (first id : ℕ) (one two : Tiles) → LeadT
 right_once_left area first id one two right side =
     right_moves one two (same_areas Right area id one two right) area first id side (λ k c low high owns. ap (λ (t : Tile). t.below) (right.rest k))
 
+-- a stitch at a side is not that at another
+other_stitch : (side other : Side) (tile : Tile) (n : ℕ) → (side ≡ other) ⊎ (stitch_of other (with_stitch side tile n) ≡ stitch_of other tile)
+other_stitch Above Above tile n = inl refl
+other_stitch Above Right tile n = inr refl
+other_stitch Above Below tile n = inr refl
+other_stitch Above Left tile n = inr refl
+other_stitch Right Above tile n = inr refl
+other_stitch Right Right tile n = inl refl
+other_stitch Right Below tile n = inr refl
+other_stitch Right Left tile n = inr refl
+other_stitch Below Above tile n = inr refl
+other_stitch Below Right tile n = inr refl
+other_stitch Below Below tile n = inl refl
+other_stitch Below Left tile n = inr refl
+other_stitch Left Above tile n = inr refl
+other_stitch Left Right tile n = inr refl
+other_stitch Left Below tile n = inr refl
+other_stitch Left Left tile n = inl refl
+
+-- the stitches at this side that led into the area lead to the number now
+abbrev pub AreLed : Side → Rect → ℕ → Tiles → Tiles → Type 0
+AreLed side area id one now = (k : ℕ) → IsTaken one k → Covers area (square_of side (tile_at one k)) → stitch_of side (tile_at now k) ≡ id
+
+-- nothing has changed but stitches into the area
+record AreRedirecting (area : Rect) (one now : Tiles) : Type 0 where
+  pub alike : (k : ℕ) → AreAlike (tile_at one k) (tile_at now k)
+  pub outside : (side : Side) (k : ℕ) → (Covers area (square_of side (tile_at one k)) → ⊥) → stitch_of side (tile_at now k) ≡ stitch_of side (tile_at one k)
+
+redirecting_begins : (area : Rect) (one : Tiles) → AreRedirecting area one one
+redirecting_begins area one = record { alike = λ k. record { area = refl; value = refl }; outside = λ side k off. refl }
+
+-- one more side is mended
+module _ {area : Rect} {id : ℕ} {one mid new : Tiles} (so_far : AreRedirecting area one mid) {side : Side} (led : LeadTo side area id mid new) where
+  areas_so_far : HaveSameAreas one mid
+  areas_so_far k = (so_far.alike k).area
+
+  redirecting_goes_on : AreRedirecting area one new
+  redirecting_goes_on = record {
+    alike = λ k. record {
+      area = same_areas side area id mid new led k ∙ (so_far.alike k).area;
+      value = same_values side area id mid new led k ∙ (so_far.alike k).value;
+    };
+    outside = λ other k off. elim (other_stitch side other (tile_at mid k) (stitch_of side (tile_at new k))) [
+      | inl e ↦ subst (λ (v : Side). stitch_of v (tile_at new k) ≡ stitch_of v (tile_at mid k)) e
+          (led.outside k (λ covers. off (covers_back one mid areas_so_far other area k
+          (subst (λ (v : Side). Covers area (square_of v (tile_at mid k))) e covers))))
+          ∙ so_far.outside other k off
+      | inr same ↦ ap (stitch_of other) (led.rest k) ∙ same ∙ so_far.outside other k off
+    ];
+  }
+
+  led_now : AreLed side area id one new
+  led_now k taken covers = led.inside k (taken_moves one mid areas_so_far k taken) (covers_moves one mid areas_so_far side area k covers)
+
+  led_still : (other : Side) → AreLed other area id one mid → AreLed other area id one new
+  led_still other was k taken covers = elim (other_stitch side other (tile_at mid k) (stitch_of side (tile_at new k))) [
+    | inl e ↦ subst (λ (v : Side). stitch_of v (tile_at new k) ≡ id) e
+        (led_now k taken (subst (λ (v : Side). Covers area (square_of v (tile_at one k))) (sym e) covers))
+    | inr same ↦ ap (stitch_of other) (led.rest k) ∙ same ∙ was k taken covers
+  ]
+
+-- the side is one of three, or its stitches into the area lead to the number already
+abbrev pub IsOneOf : Side → Side → Side → Rect → ℕ → Tiles → Side → Type 0
+IsOneOf a b d area id one side = (side ≡ a) ⊎ ((side ≡ b) ⊎ ((side ≡ d) ⊎ AreLed side area id one one))
+
+-- three sides are mended one after the other
+module _ {area : Rect} {id : ℕ} {one two three four : Tiles} {a b d : Side} (first : LeadTo a area id one two) (second : LeadTo b area id two three)
+    (third : LeadTo d area id three four) where
+  after_none : AreRedirecting area one one
+  after_none = redirecting_begins area one
+
+  after_one : AreRedirecting area one two
+  after_one = redirecting_goes_on after_none first
+
+  after_two : AreRedirecting area one three
+  after_two = redirecting_goes_on after_one second
+
+  after_three : AreRedirecting area one four
+  after_three = redirecting_goes_on after_two third
+
+  all_led : (side : Side) → IsOneOf a b d area id one side → AreLed side area id one four
+  all_led side (inl e) = subst (λ (v : Side). AreLed v area id one four) (sym e)
+      (led_still after_two third a (led_still after_one second a (led_now after_none first)))
+  all_led side (inr (inl e)) = subst (λ (v : Side). AreLed v area id one four) (sym e) (led_still after_two third b (led_now after_one second))
+  all_led side (inr (inr (inl e))) = subst (λ (v : Side). AreLed v area id one four) (sym e) (led_now after_two third)
+  all_led side (inr (inr (inr was))) = led_still after_two third side (led_still after_one second side (led_still after_none first side was))
+
+  all_redirected : ((side : Side) → IsOneOf a b d area id one side) → AreRedirected area id one four
+  all_redirected each = record { alike = after_three.alike; inside = λ side. all_led side (each side); outside = after_three.outside }
+
 -- the upper end of a tile: first the stitches from above are mended, then those from the left, then those from the right
 module _ (area : Rect) (id : ℕ) (one two three : Tiles) (down : LeadTo Below area id one two) (right : LeadTo Right area id two three) where
   areas_three : HaveSameAreas one three
@@ -185,34 +276,12 @@ module _ (area : Rect) (id : ℕ) (one two three : Tiles) (down : LeadTo Below a
   pub redirected_up : (four : Tiles) → LeadTo Left area id three four
       → ((k : ℕ) → IsTaken one k → Covers area (square_above (tile_at one k)) → (tile_at one k).above ≡ id)
       → AreRedirected area id one four
-  redirected_up four left up = record {
-    alike = λ k. record {
-      area = same_areas Left area id three four left k ∙ areas_three k;
-      value = same_values Left area id three four left k ∙ same_values Right area id two three right k ∙ same_values Below area id one two down k;
-    };
-    inside = inside;
-    outside = outside;
-  } where
-    mid : HaveSameAreas one two
-    mid = same_areas Below area id one two down
-
-    inside : (side : Side) (k : ℕ) → IsTaken one k → Covers area (square_of side (tile_at one k)) → stitch_of side (tile_at four k) ≡ id
-    inside Above k taken covers = ap (λ (t : Tile). t.above) (left.rest k) ∙ ap (λ (t : Tile). t.above) (right.rest k)
-        ∙ ap (λ (t : Tile). t.above) (down.rest k) ∙ up k taken covers
-    inside Right k taken covers =
-        ap (λ (t : Tile). t.right) (left.rest k) ∙ right.inside k (taken_moves one two mid k taken) (covers_moves one two mid Right area k covers)
-    inside Below k taken covers = ap (λ (t : Tile). t.below) (left.rest k) ∙ ap (λ (t : Tile). t.below) (right.rest k) ∙ down.inside k taken covers
-    inside Left k taken covers = left.inside k (taken_moves one three areas_three k taken) (covers_moves one three areas_three Left area k covers)
-
-    outside : (side : Side) (k : ℕ) → (Covers area (square_of side (tile_at one k)) → ⊥) → stitch_of side (tile_at four k) ≡ stitch_of side (tile_at one k)
-    outside Above k off = ap (λ (t : Tile). t.above) (left.rest k) ∙ ap (λ (t : Tile). t.above) (right.rest k) ∙ ap (λ (t : Tile). t.above) (down.rest k)
-    outside Right k off =
-        ap (λ (t : Tile). t.right) (left.rest k) ∙ right.outside k (λ covers. off (covers_back one two mid Right area k covers))
-        ∙ ap (λ (t : Tile). t.right) (down.rest k)
-    outside Below k off = ap (λ (t : Tile). t.below) (left.rest k) ∙ ap (λ (t : Tile). t.below) (right.rest k) ∙ down.outside k off
-    outside Left k off =
-        left.outside k (λ covers. off (covers_back one three areas_three Left area k covers)) ∙ ap (λ (t : Tile). t.left) (right.rest k)
-        ∙ ap (λ (t : Tile). t.left) (down.rest k)
+  redirected_up four left up = all_redirected down right left each where
+    each : (side : Side) → IsOneOf Below Right Left area id one side
+    each Above = inr (inr (inr up))
+    each Right = inr (inl refl)
+    each Below = inl refl
+    each Left = inr (inr (inl refl))
 
 -- the right end: first the stitches from the right, then those from below, then those from above
 module _ (area : Rect) (id : ℕ) (one two three : Tiles) (left : LeadTo Left area id one two) (up : LeadTo Above area id two three) where
@@ -226,34 +295,12 @@ module _ (area : Rect) (id : ℕ) (one two three : Tiles) (left : LeadTo Left ar
   pub redirected_right : (four : Tiles) → LeadTo Below area id three four
       → ((k : ℕ) → IsTaken one k → Covers area (square_right (tile_at one k)) → (tile_at one k).right ≡ id)
       → AreRedirected area id one four
-  redirected_right four down right = record {
-    alike = λ k. record {
-      area = same_areas Below area id three four down k ∙ areas_two k;
-      value = same_values Below area id three four down k ∙ same_values Above area id two three up k ∙ same_values Left area id one two left k;
-    };
-    inside = inside;
-    outside = outside;
-  } where
-    mid : HaveSameAreas one two
-    mid = same_areas Left area id one two left
-
-    inside : (side : Side) (k : ℕ) → IsTaken one k → Covers area (square_of side (tile_at one k)) → stitch_of side (tile_at four k) ≡ id
-    inside Above k taken covers =
-        ap (λ (t : Tile). t.above) (down.rest k) ∙ up.inside k (taken_moves one two mid k taken) (covers_moves one two mid Above area k covers)
-    inside Right k taken covers = ap (λ (t : Tile). t.right) (down.rest k) ∙ ap (λ (t : Tile). t.right) (up.rest k) ∙ ap (λ (t : Tile). t.right) (left.rest k)
-        ∙ right k taken covers
-    inside Below k taken covers = down.inside k (taken_moves one three areas_two k taken) (covers_moves one three areas_two Below area k covers)
-    inside Left k taken covers = ap (λ (t : Tile). t.left) (down.rest k) ∙ ap (λ (t : Tile). t.left) (up.rest k) ∙ left.inside k taken covers
-
-    outside : (side : Side) (k : ℕ) → (Covers area (square_of side (tile_at one k)) → ⊥) → stitch_of side (tile_at four k) ≡ stitch_of side (tile_at one k)
-    outside Above k off =
-        ap (λ (t : Tile). t.above) (down.rest k) ∙ up.outside k (λ covers. off (covers_back one two mid Above area k covers))
-        ∙ ap (λ (t : Tile). t.above) (left.rest k)
-    outside Right k off = ap (λ (t : Tile). t.right) (down.rest k) ∙ ap (λ (t : Tile). t.right) (up.rest k) ∙ ap (λ (t : Tile). t.right) (left.rest k)
-    outside Below k off =
-        down.outside k (λ covers. off (covers_back one three areas_two Below area k covers)) ∙ ap (λ (t : Tile). t.below) (up.rest k)
-        ∙ ap (λ (t : Tile). t.below) (left.rest k)
-    outside Left k off = ap (λ (t : Tile). t.left) (down.rest k) ∙ ap (λ (t : Tile). t.left) (up.rest k) ∙ left.outside k off
+  redirected_right four down right = all_redirected left up down each where
+    each : (side : Side) → IsOneOf Left Above Below area id one side
+    each Above = inr (inl refl)
+    each Right = inr (inr (inr right))
+    each Below = inr (inr (inl refl))
+    each Left = inl refl
 
 -- the left end: first the stitches from the left, then those from above, then those from below
 module _ (area : Rect) (id : ℕ) (one two three : Tiles) (right : LeadTo Right area id one two) (down : LeadTo Below area id two three) where
@@ -267,34 +314,12 @@ module _ (area : Rect) (id : ℕ) (one two three : Tiles) (right : LeadTo Right 
   pub redirected_left : (four : Tiles) → LeadTo Above area id three four
       → ((k : ℕ) → IsTaken one k → Covers area (square_left (tile_at one k)) → (tile_at one k).left ≡ id)
       → AreRedirected area id one four
-  redirected_left four up left = record {
-    alike = λ k. record {
-      area = same_areas Above area id three four up k ∙ areas_left k;
-      value = same_values Above area id three four up k ∙ same_values Below area id two three down k ∙ same_values Right area id one two right k;
-    };
-    inside = inside;
-    outside = outside;
-  } where
-    mid : HaveSameAreas one two
-    mid = same_areas Right area id one two right
-
-    inside : (side : Side) (k : ℕ) → IsTaken one k → Covers area (square_of side (tile_at one k)) → stitch_of side (tile_at four k) ≡ id
-    inside Above k taken covers = up.inside k (taken_moves one three areas_left k taken) (covers_moves one three areas_left Above area k covers)
-    inside Right k taken covers = ap (λ (t : Tile). t.right) (up.rest k) ∙ ap (λ (t : Tile). t.right) (down.rest k) ∙ right.inside k taken covers
-    inside Below k taken covers =
-        ap (λ (t : Tile). t.below) (up.rest k) ∙ down.inside k (taken_moves one two mid k taken) (covers_moves one two mid Below area k covers)
-    inside Left k taken covers = ap (λ (t : Tile). t.left) (up.rest k) ∙ ap (λ (t : Tile). t.left) (down.rest k) ∙ ap (λ (t : Tile). t.left) (right.rest k)
-        ∙ left k taken covers
-
-    outside : (side : Side) (k : ℕ) → (Covers area (square_of side (tile_at one k)) → ⊥) → stitch_of side (tile_at four k) ≡ stitch_of side (tile_at one k)
-    outside Above k off =
-        up.outside k (λ covers. off (covers_back one three areas_left Above area k covers)) ∙ ap (λ (t : Tile). t.above) (down.rest k)
-        ∙ ap (λ (t : Tile). t.above) (right.rest k)
-    outside Right k off = ap (λ (t : Tile). t.right) (up.rest k) ∙ ap (λ (t : Tile). t.right) (down.rest k) ∙ right.outside k off
-    outside Below k off =
-        ap (λ (t : Tile). t.below) (up.rest k) ∙ down.outside k (λ covers. off (covers_back one two mid Below area k covers))
-        ∙ ap (λ (t : Tile). t.below) (right.rest k)
-    outside Left k off = ap (λ (t : Tile). t.left) (up.rest k) ∙ ap (λ (t : Tile). t.left) (down.rest k) ∙ ap (λ (t : Tile). t.left) (right.rest k)
+  redirected_left four up left = all_redirected right down up each where
+    each : (side : Side) → IsOneOf Right Below Above area id one side
+    each Above = inr (inr (inl refl))
+    each Right = inl refl
+    each Below = inr (inl refl)
+    each Left = inr (inr (inr left))
 
 -- the lower end: first the stitches from the left, then those from the right, then those from below
 module _ (area : Rect) (id : ℕ) (one two three : Tiles) (right : LeadTo Right area id one two) (left : LeadTo Left area id two three) where
@@ -308,31 +333,9 @@ module _ (area : Rect) (id : ℕ) (one two three : Tiles) (right : LeadTo Right 
   pub redirected_down : (four : Tiles) → LeadTo Above area id three four
       → ((k : ℕ) → IsTaken one k → Covers area (square_below (tile_at one k)) → (tile_at one k).below ≡ id)
       → AreRedirected area id one four
-  redirected_down four up below = record {
-    alike = λ k. record {
-      area = same_areas Above area id three four up k ∙ areas_lower k;
-      value = same_values Above area id three four up k ∙ same_values Left area id two three left k ∙ same_values Right area id one two right k;
-    };
-    inside = inside;
-    outside = outside;
-  } where
-    mid : HaveSameAreas one two
-    mid = same_areas Right area id one two right
-
-    inside : (side : Side) (k : ℕ) → IsTaken one k → Covers area (square_of side (tile_at one k)) → stitch_of side (tile_at four k) ≡ id
-    inside Above k taken covers = up.inside k (taken_moves one three areas_lower k taken) (covers_moves one three areas_lower Above area k covers)
-    inside Right k taken covers = ap (λ (t : Tile). t.right) (up.rest k) ∙ ap (λ (t : Tile). t.right) (left.rest k) ∙ right.inside k taken covers
-    inside Below k taken covers = ap (λ (t : Tile). t.below) (up.rest k) ∙ ap (λ (t : Tile). t.below) (left.rest k)
-        ∙ ap (λ (t : Tile). t.below) (right.rest k) ∙ below k taken covers
-    inside Left k taken covers =
-        ap (λ (t : Tile). t.left) (up.rest k) ∙ left.inside k (taken_moves one two mid k taken) (covers_moves one two mid Left area k covers)
-
-    outside : (side : Side) (k : ℕ) → (Covers area (square_of side (tile_at one k)) → ⊥) → stitch_of side (tile_at four k) ≡ stitch_of side (tile_at one k)
-    outside Above k off =
-        up.outside k (λ covers. off (covers_back one three areas_lower Above area k covers)) ∙ ap (λ (t : Tile). t.above) (left.rest k)
-        ∙ ap (λ (t : Tile). t.above) (right.rest k)
-    outside Right k off = ap (λ (t : Tile). t.right) (up.rest k) ∙ ap (λ (t : Tile). t.right) (left.rest k) ∙ right.outside k off
-    outside Below k off = ap (λ (t : Tile). t.below) (up.rest k) ∙ ap (λ (t : Tile). t.below) (left.rest k) ∙ ap (λ (t : Tile). t.below) (right.rest k)
-    outside Left k off =
-        ap (λ (t : Tile). t.left) (up.rest k) ∙ left.outside k (λ covers. off (covers_back one two mid Left area k covers))
-        ∙ ap (λ (t : Tile). t.left) (right.rest k)
+  redirected_down four up below = all_redirected right left up each where
+    each : (side : Side) → IsOneOf Right Left Above area id one side
+    each Above = inr (inr (inl refl))
+    each Right = inl refl
+    each Below = inr (inr (inr below))
+    each Left = inr (inl refl)

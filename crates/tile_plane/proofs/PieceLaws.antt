@@ -11,7 +11,7 @@ use Rattle.tile_plane.specs.declared.tiles.Tile.{Tile}
 use Rattle.tile_plane.specs.Tiles.{Tiles, tile_at, IsTaken, Owns, IsPartition, HasStitches, value_at}
 use Rattle.tile_plane.specs.Walks.{square_at}
 use Rattle.tile_plane.specs.Tall.{IsWideAt, IsTallAt, AreGrown, AreCut, AreCutAt, NothingElseIsCut, AreCutAlong, AreCutAlongAt, NothingElseIsCutAlong, CrossesColumn}
-use Rattle.tile_plane.specs.Bands.{band_of, IsBandLaid, AreHigh, IsBandFree, IsWideBeside, IsOpenFrom, AreKept, IsBanded, AreColumnsTall}
+use Rattle.tile_plane.specs.steps.Bands.{band_of, IsBandLaid, AreHigh, IsBandFree, IsWideBeside, IsOpenFrom, AreKept, IsBanded, AreColumnsTall}
 use Rattle.tile_plane.proofs.TileLaws.{owner_taken}
 use Rattle.tile_plane.proofs.KeepLaws.{tall_kept}
 use Rattle.tile_plane.proofs.LaidLaws.{alike_owns}
@@ -144,7 +144,7 @@ pub record IsAtBand (band : Piece) (tile : Tile) : Type 0 where
   pub low : tile.area.ylo ≡ band.area.ylo
   pub top : tile.area.yhi ≡ band.area.yhi
 
-module _ (piece rest : Piece) (id : ℕ) (old now : Tiles) (proper : IsProper piece.area) (near : IsNear piece.area) (walk : IsBandWalk piece rest id old now)
+module _ {piece rest : Piece} {id : ℕ} {old now : Tiles} (walk : IsBandWalk piece rest id old now) (proper : IsProper piece.area) (near : IsNear piece.area)
   where
     rest_high : rest.area.yhi ≡ piece.area.yhi
     rest_high = ap (λ (v : Piece). v.area.yhi) walk.rest_is
@@ -164,7 +164,7 @@ module _ (piece rest : Piece) (id : ℕ) (old now : Tiles) (proper : IsProper pi
       walk_begins = let e = rest_high in walk.banding.state.left.begin id rest.area.ylo (omega (arith, ints)) (omega (arith, ints))
           (walk.owns (omega (arith, ints))) ∙ sym rest_low
 
-      module _ (band : Piece) (is : band ≡ band_of rest rest.area.ylo band.area.yhi) (above : rest.area.ylo <ℤ band.area.yhi)
+      module _ {band : Piece} (is : band ≡ band_of rest rest.area.ylo band.area.yhi) (above : rest.area.ylo <ℤ band.area.yhi)
           (within : band.area.yhi ≤ℤ rest.area.yhi) (reach : AreHigh rest.area rest.area.ylo band.area.yhi now) where
         abbrev top : ℤ
         top = band.area.yhi
@@ -189,7 +189,7 @@ module _ (piece rest : Piece) (id : ℕ) (old now : Tiles) (proper : IsProper pi
         walk_band_free = subst (λ (v : Piece). IsBandFree v.area now) (sym band_is)
             (band_free piece rest.area.ylo old now proper near walk.banding top above under high_here)
 
-        module _ (whole : ℕ) (new : Tiles) (partition : IsPartition new) (laid : IsBandLaid band whole now new) where
+        module _ {whole : ℕ} {new : Tiles} (partition : IsPartition new) (laid : IsBandLaid band whole now new) where
           laid_here : IsBandLaid (band_of piece rest.area.ylo top) whole now new
           laid_here = subst (λ (v : Piece). IsBandLaid v whole now new) band_is laid
 

@@ -8,7 +8,7 @@ use Rattle.geo_core.specs.Covering.{Covers, IsProper}
 use Rattle.geo_core.specs.Planes.{AreSame}
 use Rattle.tile_plane.specs.Tiles.{Tiles, tile_at, IsTaken, Owns, IsPartition, HasStitches, value_at}
 use Rattle.tile_plane.specs.Walks.{square_at}
-use Rattle.tile_plane.specs.Cuts.{AreAlike, IsCutAcross, IsPartFrom}
+use Rattle.tile_plane.specs.steps.Cuts.{AreAlike, IsCutAcross, IsPartFrom}
 use Rattle.tile_plane.specs.Tall.{AreCut, AreCutAt, CrossesHeight, NothingElseIsCut}
 use Rattle.tile_plane.proofs.TileLaws.{owner_taken}
 

@@ -6,7 +6,7 @@ use Rattle.geo_core.specs.declared.squares.Rect.{Rect}
 use Rattle.geo_core.specs.Covering.{IsProper}
 use Rattle.tile_plane.specs.Tiles.{Tiles, tile_at, IsTaken, Owns, IsPartition}
 use Rattle.tile_plane.specs.Walks.{square_at}
-use Rattle.tile_plane.specs.Bands.{AreHigh}
+use Rattle.tile_plane.specs.steps.Bands.{AreHigh}
 use Rattle.tile_plane.proofs.TileLaws.{owner_taken}
 use Rattle.tile_plane.proofs.WalkLaws.{extent_falls}
 use Rattle.tile_plane.proofs.KeptLaws.{owns_beside}

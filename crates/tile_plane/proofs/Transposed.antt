@@ -13,7 +13,7 @@ use Rattle.tile_plane.specs.declared.slots.Slot.{Slot}
 use Rattle.tile_plane.specs.declared.tiles.Tile.{Tile}
 use Rattle.tile_plane.specs.Tiles.{Tiles, tile_if, tile_at, IsTaken, Owns, IsPartition}
 use Rattle.tile_plane.specs.Walks.{square_at}
-use Rattle.tile_plane.specs.Cuts.{IsPartFrom, IsPartAfter}
+use Rattle.tile_plane.specs.steps.Cuts.{IsPartFrom, IsPartAfter}
 use Rattle.tile_plane.specs.Tall.{AreCut, AreCutAt, CrossesHeight, NothingElseIsCut, AreCutAlong, AreCutAlongAt, NothingElseIsCutAlong}
 
 abbrev pub swap_square : Square → Square
@@ -74,7 +74,7 @@ tile_at-transposed tiles k =
     ∙ tile_if-swap_found (fin_map.get tiles k)
 
 module _ (tiles : Tiles) (k : ℕ) where
-  area_is : (tile_at (transposed tiles) k).area ≡ swap_rect (tile_at tiles k).area
+  pub area_is : (tile_at (transposed tiles) k).area ≡ swap_rect (tile_at tiles k).area
   area_is = ap (λ (t : Tile). t.area) (tile_at-transposed tiles k)
 
   pub taken_over : IsTaken tiles k → IsTaken (transposed tiles) k

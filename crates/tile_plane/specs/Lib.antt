@@ -1,10 +1,8 @@
 pub mod Slots
 pub mod Tiles
 pub mod Walks
-pub mod Mends
-pub mod Cuts
 pub mod Tall
 pub mod Contents
 pub mod Listings
 pub mod Sheets
-pub mod Bands
+pub mod steps

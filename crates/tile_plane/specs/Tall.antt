@@ -7,7 +7,7 @@ use Rattle.geo_core.specs.declared.squares.Square.{Square}
 use Rattle.tile_plane.specs.declared.tiles.Tile.{Tile}
 use Rattle.tile_plane.specs.Tiles.{Tiles, tile_at, IsTaken, Owns, IsPartition, HasStitches, value_at}
 use Rattle.tile_plane.specs.Walks.{square_at}
-use Rattle.tile_plane.specs.Cuts.{AreAlike}
+use Rattle.tile_plane.specs.steps.Cuts.{AreAlike}
 
 -- In this row tiles side by side have other values.
 pub record IsWideAt (tiles : Tiles) (y : ℤ) : Type 0 where

@@ -3,7 +3,7 @@
 ghost use Rattle.std.specs.Prelude.{◌≡◌, ℤ, ◌≤ℤ◌, ◌<ℤ◌, OnOk, OnErr, IfOk};
 ghost use Rattle.geo_core.specs.Planes.{AreSame, plane_range};
 ghost use Rattle.tile_plane.specs.Tiles.{tile_at, IsTaken, IsPartition, HasStitches, value_at};
-ghost use Rattle.tile_plane.specs.Cuts.{IsCutAcross, IsCutAlong, IsPartFrom, IsPartAfter};
+ghost use Rattle.tile_plane.specs.steps.Cuts.{IsCutAcross, IsCutAlong, IsPartFrom, IsPartAfter};
 ghost use Rattle.tile_plane.specs.Tall.{AreCut, AreCutAt, NothingElseIsCut, AreCutAlong, AreCutAlongAt, NothingElseIsCutAlong};
 
 use crate::mends::{mend_left_end, mend_lower_end, mend_right_end, mend_upper_end};

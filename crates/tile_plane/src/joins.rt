@@ -5,7 +5,7 @@ ghost use Rattle.geo_core.specs.declared.squares.Square.{Square as OneSquare};
 ghost use Rattle.geo_core.specs.Planes.{AreSame, plane_range};
 ghost use Rattle.tile_plane.specs.Tiles.{tile_at, IsTaken, Owns, IsPartition, HasStitches, value_at};
 ghost use Rattle.tile_plane.specs.Walks.{square_at};
-ghost use Rattle.tile_plane.specs.Cuts.{IsJoinedUp, IsJoinedRight};
+ghost use Rattle.tile_plane.specs.steps.Cuts.{IsJoinedUp, IsJoinedRight};
 ghost use Rattle.tile_plane.specs.Tall.{IsTallAt, AreGrown, AreJoining};
 
 use crate::mends::{mend_right_end, mend_upper_end};
@@ -31,25 +31,10 @@ pub fn join_up(store: &mut Store, lower: u32, upper: u32)
 {
     let tile = store.get(lower);
     let part = store.get(upper);
-    let whole = up_whole(&tile, &part);
+    let whole = whole_of(&tile, &part);
     store.put(lower, whole);
     store.remove(upper);
     mend_upper_end(store, &part, lower);
-}
-
-/// The tile that goes round both.
-fn up_whole(tile: &Tile, part: &Tile) -> Tile
-    ensures { result ≡ record tile.now { area = record tile.now.area { yhi = part.now.area.yhi }; above = part.now.above; right = part.now.right } }
-{
-    Tile {
-        area: Rect {
-            yhi: part.area.yhi,
-            ..tile.area
-        },
-        above: part.above,
-        right: part.right,
-        ..*tile
-    }
 }
 
 /// Joins a tile with the one to its right, of the same rows. It keeps the number of the left one.
@@ -69,19 +54,24 @@ pub fn join_right(store: &mut Store, left: u32, right: u32)
 {
     let tile = store.get(left);
     let part = store.get(right);
-    let whole = right_whole(&tile, &part);
+    let whole = whole_of(&tile, &part);
     store.put(left, whole);
     store.remove(right);
     mend_right_end(store, &part, left);
 }
 
-/// The tile that goes round both.
-fn right_whole(tile: &Tile, part: &Tile) -> Tile
-    ensures { result ≡ record tile.now { area = record tile.now.area { xhi = part.now.area.xhi }; right = part.now.right; above = part.now.above } }
+/// The tile that goes round both, of which the second is the upper or the right one.
+fn whole_of(tile: &Tile, part: &Tile) -> Tile
+    ensures { result ≡ record tile.now {
+      area = record tile.now.area { xhi = part.now.area.xhi; yhi = part.now.area.yhi };
+      above = part.now.above;
+      right = part.now.right;
+    } }
 {
     Tile {
         area: Rect {
             xhi: part.area.xhi,
+            yhi: part.area.yhi,
             ..tile.area
         },
         above: part.above,

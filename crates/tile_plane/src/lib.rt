@@ -5,7 +5,8 @@
 //! Tiles are looked at by number, and a number without a tile has no square, so nothing has to say which numbers are live. A cut or a join
 //! hands the squares of an area over from one tile to another (`HandLaws`); the tiles along its sides get their stitches mended (`MendLaws`),
 //! and the partition and all stitches stand again. What goes along a row (`RowCuts`) goes along a column with x and y exchanged
-//! (`Transposed`, `ColumnCuts`). Walks follow stitches, and get nearer with each step (`WalkLaws`).
+//! (`Transposed`, `ColumnCuts`), and the right and the left side are mended as the upper and the lower one (`TransposedSides`). Walks follow
+//! stitches, and get nearer with each step (`WalkLaws`).
 //!
 //! A piece is cut free at its sides and set band by band: in the rows of a band all tiles of it and beside it go on. A band laid is one
 //! relation, which composes: its squares are one tile, and all others keep the columns and values of their tiles (`LaidLaws`, `BandLaws`).

@@ -1,6 +1,7 @@
 //! Stitches that lead to squares of an area, from the tiles around it.
 ghost use Rattle.tile_plane.specs.Tiles.{IsPartition};
-ghost use Rattle.tile_plane.specs.Mends.{Above, Right, Below, Left, LeadTo, AreRedirected, IsUpperSide, IsRightSide, IsLowerSide, IsLeftSide, IsUpperEnd, IsLowerEnd, IsRightEnd, IsLeftEnd};
+ghost use Rattle.tile_plane.specs.steps.Mends.{Above, Right, Below, Left, LeadTo, AreRedirected, IsUpperSide, IsRightSide, IsLowerSide, IsLeftSide, IsUpperEnd};
+ghost use Rattle.tile_plane.specs.steps.Mends.{IsLowerEnd, IsRightEnd, IsLeftEnd};
 
 use crate::stores::Store;
 use crate::tiles::Tile;

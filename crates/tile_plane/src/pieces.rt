@@ -7,7 +7,8 @@ ghost use Rattle.geo_core.specs.Planes.{AreSame, AreSet, plane_range};
 ghost use Rattle.tile_plane.specs.Tiles.{tile_at, IsTaken, Owns, IsPartition, HasStitches, value_at};
 ghost use Rattle.tile_plane.specs.Walks.{square_at};
 ghost use Rattle.tile_plane.specs.Tall.{AreStrips, AreGrown, IsWideAt};
-ghost use Rattle.tile_plane.specs.Bands.{IsTileCut, IsLaid, IsOfBand, IsLaidLeft, IsLaidRight, IsBandFree, IsBandLaid, AreHigh, band_of, IsOpenFrom, IsBanded, AreKept, AreColumnsTall};
+ghost use Rattle.tile_plane.specs.steps.Bands.{IsTileCut, IsLaid, IsOfBand, IsLaidLeft, IsLaidRight, IsBandFree, IsBandLaid, AreHigh, band_of, IsOpenFrom};
+ghost use Rattle.tile_plane.specs.steps.Bands.{IsBanded, AreKept, AreColumnsTall};
 
 use crate::cuts::{cut_across, cut_along, cut_in_two, part_from};
 use crate::joins::{join_column, join_right};

@@ -21,6 +21,7 @@ use Rattle.meeting_sums.specs.TreeRecords.Merges.{AreGroupMerges}
 use Rattle.group_meetings.specs.TreeNames.CleanTrees.{IsCleanTree}
 use Rattle.meeting_sums.specs.LowerMeetingLaws.PartLayouts.{HoldsAllMeetings, Passes}
 use Rattle.hierarchy_model.specs.Restrictions.{IsRestriction}
+use Rattle.offences.specs.declared.plane_stacks.PlaneStack.{PlaneStack}
 use Rattle.group_meetings.specs.Laws.{RecordedPartsHaveMembers}
 use Rattle.group_meetings.specs.Members.{PartsHaveMembers}
 use Rattle.cell_tree.specs.Trees.{cell_at}
@@ -42,10 +43,9 @@ use Rattle.piece_groups.specs.MemberMarks.{AreMemberMarks}
 use Rattle.piece_groups.specs.Laws.{HasRecordsBelow, MarkedGroupsAreRecorded}
 use Rattle.tile_members.specs.declared.members.TileMembers.{TileMembers}
 use Rattle.tile_members.specs.TileMembers.{AreTileMembers}
-use Rattle.tree_merges.specs.declared.marking.CellPieces.{CellPieces}
-use Rattle.tree_merges.specs.MarkedMerges.{AreMarkedMerges}
-use Rattle.tree_merges.specs.MemberPairs.{member_pairs}
-use Rattle.tree_merges.specs.Pieces.{ArePieceRegions, ArePieces}
+use Rattle.tree_merges.specs.steps.MarkedMerges.{AreMarkedMerges}
+use Rattle.tree_merges.specs.steps.MemberPairs.{member_pairs}
+use Rattle.tree_merges.specs.steps.Pieces.{ArePieceRegions, ArePieces}
 use Rattle.tree_merges.proofs.FlatTypes.{pieces_are_typed}
 use Rattle.tree_merges.proofs.PairLaws.{members_in_pieces}
 use Rattle.tree_merges.proofs.PieceTiles.{piece_is_tile}
@@ -102,29 +102,29 @@ records_below library lawful kept cell below law have nodes are =
 -- ---- pieces
 
 -- the pieces of a clean cell are pieces of few parts, with types
-pub meeting_pieces : (raw : RawTech) (cells : CellTree) (cell_tiles : List PartTile) (piece_list : CellPieces) → IsClean raw cells
-    → length (parts_in raw cells) < MOST_PARTS → AreMeetingPieces raw cells cell_tiles piece_list.starts.items piece_list.stacks.items
-    → ArePieces raw piece_list.stacks.items
+pub meeting_pieces : (raw : RawTech) (cells : CellTree) (cell_tiles : List PartTile) (piece_list : List PlaneStack) → IsClean raw cells
+    → length (parts_in raw cells) < MOST_PARTS → AreMeetingPieces raw cells cell_tiles piece_list
+    → ArePieces raw piece_list
 meeting_pieces raw cells cell_tiles piece_list clean few pieces = record {
   parts = pieces.others;
   are = pieces.pieces;
   few = let count = pieces.restricted.count in omega (arith, few, count);
-  typed = pieces_are_typed raw cells cell_tiles piece_list.starts.items piece_list.stacks.items clean pieces;
+  typed = pieces_are_typed raw cells cell_tiles piece_list clean pieces;
   by_plane = pieces.by_plane;
   planes = pieces.planes;
 }
 
 module _ (raw : RawTech) (tree : NamedTree) (cells : CellTree) (same : layouts_of tree ≡ cells) (cell_tiles : List PartTile)
-    (piece_list : CellPieces) (members : TileMembers)
-    (regions : Regions) (pieces : AreMeetingPieces raw cells cell_tiles piece_list.starts.items piece_list.stacks.items)
+    (piece_list : List PlaneStack) (members : TileMembers)
+    (regions : Regions) (pieces : AreMeetingPieces raw cells cell_tiles piece_list)
     (are_members : AreTileMembers raw tree cell_tiles members.names.items members.numbers.items)
-    (are_regions : ArePieceRegions raw piece_list.stacks.items regions) (clean : IsCleanTree raw tree) where
+    (are_regions : ArePieceRegions raw piece_list regions) (clean : IsCleanTree raw tree) where
   -- the pieces of the cell are marked
   marked_pieces : PartsHaveMembers raw tree → (marks : List ℕ)
       → AreMemberMarks (length members.names.items) regions.tiles regions.count
-      (member_pairs members.numbers.items piece_list.starts.items piece_list.stacks.items) marks
-      → AreMarkedPieces raw pieces.within tree pieces.others piece_list.stacks.items members.names.items
-      (member_pairs members.numbers.items piece_list.starts.items piece_list.stacks.items) regions.tiles regions.count marks
+      (member_pairs members.numbers.items piece_list) marks
+      → AreMarkedPieces raw pieces.within tree pieces.others piece_list members.names.items
+      (member_pairs members.numbers.items piece_list) regions.tiles regions.count marks
   marked_pieces have marks are_marks = record {
     clean = clean;
     members = have;
@@ -135,9 +135,9 @@ module _ (raw : RawTech) (tree : NamedTree) (cells : CellTree) (same : layouts_o
       restricted = subst (λ (c : CellTree). IsRestriction (Passes pieces.within) (parts_in raw c) pieces.others) (sym same) pieces.restricted;
     };
     stacks = pieces.pieces;
-    names = members_in_pieces raw tree cells cell_tiles piece_list.starts.items piece_list.stacks.items members.names.items members.numbers.items
+    names = members_in_pieces raw tree cells cell_tiles piece_list members.names.items members.numbers.items
         pieces are_members;
-    one_each = piece_is_tile piece_list.stacks.items are_regions.labels regions.tiles are_regions.same;
+    one_each = piece_is_tile piece_list are_regions.labels regions.tiles are_regions.same;
     regions = are_regions.are pieces.others pieces.pieces;
     marks = are_marks;
   }
@@ -147,8 +147,8 @@ module _ (raw : RawTech) (tree : NamedTree) (cells : CellTree) (same : layouts_o
       → (merges : List MergeRec) → AreMarkedMerges raw piece_list members regions merges → AreGroupMerges raw tree merges
   merges_of_cell formed rules recorded law records merges are =
       let have = recorded formed records.exts tree records.nodes clean.clean records.own records.elements in
-      law formed rules pieces.within tree pieces.others piece_list.stacks.items members.names.items
-      (member_pairs members.numbers.items piece_list.starts.items piece_list.stacks.items) regions.tiles regions.count
+      law formed rules pieces.within tree pieces.others piece_list members.names.items
+      (member_pairs members.numbers.items piece_list) regions.tiles regions.count
       are.found.marks.items are.found.sums.items
       are.are_merges.groups merges records (marked_pieces have are.found.marks.items are.are.are_marks) (are.are.are_sums pieces.others pieces.pieces)
       are.are_merges.marked are.are_merges.are

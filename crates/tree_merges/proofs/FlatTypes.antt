@@ -99,8 +99,8 @@ module _ (raw : RawTech) (Within : Square → Type 0) (parts others : List SetLa
         | inr typed ↦ typed
       ]
 
-  module _ (tiles : List PartTile) (starts : List ℕ) (piece : PlaneStack) (is : IsTypedStack raw others piece.plane piece.stack)
-      (covering : HasCoveringTiles tiles starts piece) where
+  module _ (tiles : List PartTile) (piece : PlaneStack) (is : IsTypedStack raw others piece.plane piece.stack)
+      (covering : HasCoveringTiles tiles piece) where
     abbrev corner : Square
     corner = corner_of piece.stack.area
 
@@ -145,10 +145,10 @@ module _ (raw : RawTech) (Within : Square → Type 0) (parts others : List SetLa
         kind_told (Some type) kind told = cc
 
 -- the pieces of a clean cell have types
-pub pieces_are_typed : (raw : RawTech) (tree : CellTree) (tiles : List PartTile) (starts : List ℕ) (stacks : List PlaneStack) → IsClean raw tree
-    → AreMeetingPieces raw tree tiles starts stacks → AreTyped raw (tiles_of stacks)
-pieces_are_typed raw tree tiles starts stacks clean pieces =
+pub pieces_are_typed : (raw : RawTech) (tree : CellTree) (tiles : List PartTile) (stacks : List PlaneStack) → IsClean raw tree
+    → AreMeetingPieces raw tree tiles stacks → AreTyped raw (tiles_of stacks)
+pieces_are_typed raw tree tiles stacks clean pieces =
     all_tiles (λ tile. IsTrue (is_type raw tile.kind.0) × (plane_of raw tile.kind.0 ≡ tile.plane)) stacks
     (λ piece among.
-    typed_piece raw (Passes pieces.within) (parts_in raw tree) pieces.others pieces.restricted (places_of_clean raw tree clean) tiles starts piece
-    (pieces.pieces.each piece among) (All-In (HasCoveringTiles tiles starts) stacks piece pieces.covered among))
+    typed_piece raw (Passes pieces.within) (parts_in raw tree) pieces.others pieces.restricted (places_of_clean raw tree clean) tiles piece
+    (pieces.pieces.each piece among) (All-In (HasCoveringTiles tiles) stacks piece pieces.covered among))

@@ -8,7 +8,7 @@ use Rattle.partition.specs.Divides.{AddsPair, Divides, IsPair}
 use Rattle.layout_model.specs.declared.region_tiles.RegionTile.{RegionTile}
 use Rattle.offences.specs.declared.plane_stacks.PlaneStack.{PlaneStack}
 use Rattle.piece_groups.specs.MemberMarks.{region_position}
-use Rattle.tree_merges.specs.MemberPairs.{AddsPairs, pairs_from, piece_pairs}
+use Rattle.tree_merges.specs.steps.MemberPairs.{AddsPairs, pairs_from, piece_pairs}
 
 abbrev pub Pair : Type 0
 Pair = ℕ × ℕ
@@ -33,16 +33,16 @@ adds_next {X} f xs k d old middle new below before adds =
     (adds_both old middle new (map f (take k xs)) (f (get_or xs k d) ∷ []) before adds)
 
 -- the pairs of pieces, and those of one more
-pub pairs_more : (numbers starts : List ℕ) (from : ℕ) (stacks : List PlaneStack) (piece : PlaneStack)
-    → pairs_from numbers starts from (stacks ++ piece ∷ []) ≡ pairs_from numbers starts from stacks ++ piece_pairs numbers starts (from + length stacks) piece
-pairs_more numbers starts from [] piece =
-    append-nil (piece_pairs numbers starts from piece) ∙ ap (λ (at : ℕ). piece_pairs numbers starts at piece) (omega arith)
-pairs_more numbers starts from (first ∷ rest) piece =
-    ap (λ (more : List Pair). piece_pairs numbers starts from first ++ more)
-    (pairs_more numbers starts (suc from) rest piece
-    ∙ ap (λ (at : ℕ). pairs_from numbers starts (suc from) rest ++ piece_pairs numbers starts at piece) (omega arith))
-    ∙ sym (append_assoc (piece_pairs numbers starts from first) (pairs_from numbers starts (suc from) rest)
-    (piece_pairs numbers starts (from + length (first ∷ rest)) piece))
+pub pairs_more : (numbers : List ℕ) (from : ℕ) (stacks : List PlaneStack) (piece : PlaneStack)
+    → pairs_from numbers from (stacks ++ piece ∷ []) ≡ pairs_from numbers from stacks ++ piece_pairs numbers (from + length stacks) piece
+pairs_more numbers from [] piece =
+    append-nil (piece_pairs numbers from piece) ∙ ap (λ (at : ℕ). piece_pairs numbers at piece) (omega arith)
+pairs_more numbers from (first ∷ rest) piece =
+    ap (λ (more : List Pair). piece_pairs numbers from first ++ more)
+    (pairs_more numbers (suc from) rest piece
+    ∙ ap (λ (at : ℕ). pairs_from numbers (suc from) rest ++ piece_pairs numbers at piece) (omega arith))
+    ∙ sym (append_assoc (piece_pairs numbers from first) (pairs_from numbers (suc from) rest)
+    (piece_pairs numbers (from + length (first ∷ rest)) piece))
 
 -- ---- pieces one after another
 
@@ -51,34 +51,31 @@ abbrev pub joined_pairs : ℕ → List RegionTile → List Pair → List Pair
 joined_pairs members tiles pairs = map {B = Pair} (λ pair. (pair.0, region_position members tiles pair.1)) pairs
 
 -- of a piece
-piece_joins : (numbers starts : List ℕ) (members : ℕ) (tiles : List RegionTile) (index : ℕ) (piece : PlaneStack) (start region : ℕ)
-    → start ≡ slice_index starts piece.plane → region ≡ region_position members tiles index
-    → joined_pairs members tiles (piece_pairs numbers starts index piece)
-    ≡ map {B = Pair} (λ tile. (slice_index numbers (start + tile), region)) piece.stack.members
-piece_joins numbers starts members tiles index piece start region is_start is_region =
-    map-map (λ (pair : Pair). (pair.0, region_position members tiles pair.1))
-    (λ (tile : ℕ). (slice_index numbers (slice_index starts piece.plane + tile), index)) piece.stack.members
-    ∙ ap (λ (first : ℕ). map {B = Pair} (λ tile. (slice_index numbers (first + tile), region_position members tiles index)) piece.stack.members) (sym is_start)
-    ∙ ap (λ (there : ℕ). map {B = Pair} (λ tile. (slice_index numbers (start + tile), there)) piece.stack.members) (sym is_region)
+piece_joins : (numbers : List ℕ) (members : ℕ) (tiles : List RegionTile) (index : ℕ) (piece : PlaneStack) (region : ℕ)
+    → region ≡ region_position members tiles index → joined_pairs members tiles (piece_pairs numbers index piece)
+    ≡ map {B = Pair} (λ tile. (slice_index numbers tile, region)) piece.stack.members
+piece_joins numbers members tiles index piece region is_region =
+    map-map (λ (pair : Pair). (pair.0, region_position members tiles pair.1)) (λ (tile : ℕ). (slice_index numbers tile, index)) piece.stack.members
+    ∙ ap (λ (there : ℕ). map {B = Pair} (λ tile. (slice_index numbers tile, there)) piece.stack.members) (sym is_region)
 
 -- where the pieces before one are joined, and then that one, all up to it are
-pub joins_next : (numbers starts : List ℕ) (members : ℕ) (tiles : List RegionTile) (stacks : List PlaneStack) (k : ℕ) (piece : PlaneStack)
-    (start region : ℕ) (old new : List ℕ) → k < length stacks → piece ≡ get_or stacks k piece
-    → start ≡ slice_index starts piece.plane → region ≡ region_position members tiles k
-    → Divides old (IsPair (joined_pairs members tiles (pairs_from numbers starts 0 (take k stacks))))
-    → AddsPairs old new (map (λ tile. (slice_index numbers (start + tile), region)) piece.stack.members)
-    → Divides new (IsPair (joined_pairs members tiles (pairs_from numbers starts 0 (take (k + 1) stacks))))
-joins_next numbers starts members tiles stacks k piece start region old new below is is_start is_region before adds =
-    let up_to : pairs_from numbers starts 0 (take (k + 1) stacks) ≡ pairs_from numbers starts 0 (take k stacks) ++ piece_pairs numbers starts k piece =
-    ap (pairs_from numbers starts 0) (take_more stacks k piece below)
-    ∙ ap (λ (p : PlaneStack). pairs_from numbers starts 0 (take k stacks ++ p ∷ [])) (sym is)
-    ∙ pairs_more numbers starts 0 (take k stacks) piece
-    ∙ ap (λ (at : ℕ). pairs_from numbers starts 0 (take k stacks) ++ piece_pairs numbers starts at piece)
+pub joins_next : (numbers : List ℕ) (members : ℕ) (tiles : List RegionTile) (stacks : List PlaneStack) (k : ℕ) (piece : PlaneStack)
+    (region : ℕ) (old new : List ℕ) → k < length stacks → piece ≡ get_or stacks k piece
+    → region ≡ region_position members tiles k
+    → Divides old (IsPair (joined_pairs members tiles (pairs_from numbers 0 (take k stacks))))
+    → AddsPairs old new (map (λ tile. (slice_index numbers tile, region)) piece.stack.members)
+    → Divides new (IsPair (joined_pairs members tiles (pairs_from numbers 0 (take (k + 1) stacks))))
+joins_next numbers members tiles stacks k piece region old new below is is_region before adds =
+    let up_to : pairs_from numbers 0 (take (k + 1) stacks) ≡ pairs_from numbers 0 (take k stacks) ++ piece_pairs numbers k piece =
+    ap (pairs_from numbers 0) (take_more stacks k piece below)
+    ∙ ap (λ (p : PlaneStack). pairs_from numbers 0 (take k stacks ++ p ∷ [])) (sym is)
+    ∙ pairs_more numbers 0 (take k stacks) piece
+    ∙ ap (λ (at : ℕ). pairs_from numbers 0 (take k stacks) ++ piece_pairs numbers at piece)
     (omega (arith, length-take-le k stacks (omega (arith, below)))) in
     subst (λ (pairs : List Pair). Divides new (IsPair pairs))
     (sym (ap (joined_pairs members tiles) up_to
-    ∙ map-append (λ (pair : Pair). (pair.0, region_position members tiles pair.1)) (pairs_from numbers starts 0 (take k stacks))
-    (piece_pairs numbers starts k piece)
-    ∙ ap (λ (more : List Pair). joined_pairs members tiles (pairs_from numbers starts 0 (take k stacks)) ++ more)
-    (piece_joins numbers starts members tiles k piece start region is_start is_region)))
-    (adds (joined_pairs members tiles (pairs_from numbers starts 0 (take k stacks))) before)
+    ∙ map-append (λ (pair : Pair). (pair.0, region_position members tiles pair.1)) (pairs_from numbers 0 (take k stacks))
+    (piece_pairs numbers k piece)
+    ∙ ap (λ (more : List Pair). joined_pairs members tiles (pairs_from numbers 0 (take k stacks)) ++ more)
+    (piece_joins numbers members tiles k piece region is_region)))
+    (adds (joined_pairs members tiles (pairs_from numbers 0 (take k stacks))) before)

@@ -24,11 +24,10 @@ use Rattle.piece_groups.specs.MemberMarks.{AreMemberMarks, mark_at}
 use Rattle.piece_groups.specs.Laws.{piece_marks}
 use Rattle.tile_members.specs.declared.members.TileMembers.{TileMembers}
 use Rattle.tile_members.specs.TileMembers.{AreTileMembers}
-use Rattle.tree_merges.specs.declared.marking.CellPieces.{CellPieces}
 use Rattle.tree_merges.specs.declared.merging.MarkedSums.{MarkedSums}
-use Rattle.tree_merges.specs.MarkedMerges.{AreMarkedSums}
-use Rattle.tree_merges.specs.MemberPairs.{member_pairs}
-use Rattle.tree_merges.specs.Pieces.{AreNumbered, ArePieceRegions, ArePieces}
+use Rattle.tree_merges.specs.steps.MarkedMerges.{AreMarkedSums}
+use Rattle.tree_merges.specs.steps.MemberPairs.{member_pairs}
+use Rattle.tree_merges.specs.steps.Pieces.{AreNumbered, ArePieceRegions, ArePieces}
 use Rattle.tree_merges.proofs.PieceTiles.{as_many}
 use Rattle.tree_merges.proofs.RegionCounts.{marks_are_few}
 
@@ -56,24 +55,17 @@ regions_are_few raw stacks regions pieces are =
     omega (arith, few, length-map regions.tiles (λ (tile : RegionTile). tile.region), as_many stacks are.labels regions.tiles are.same)
 
 -- the tiles of a meeting have members, and its pieces have regions
-pub members_are_numbered : (raw : RawTech) (tree : NamedTree) (cells : CellTree) (cell_tiles : List PartTile) (piece_list : CellPieces)
-    (members : TileMembers) (regions : Regions) → AreMeetingPieces raw cells cell_tiles piece_list.starts.items piece_list.stacks.items
-    → ArePieces raw piece_list.stacks.items
-    → AreTileMembers raw tree cell_tiles members.names.items members.numbers.items → ArePieceRegions raw piece_list.stacks.items regions
+pub members_are_numbered : (raw : RawTech) (tree : NamedTree) (cells : CellTree) (cell_tiles : List PartTile) (piece_list : List PlaneStack)
+    (members : TileMembers) (regions : Regions) → AreMeetingPieces raw cells cell_tiles piece_list
+    → ArePieces raw piece_list
+    → AreTileMembers raw tree cell_tiles members.names.items members.numbers.items → ArePieceRegions raw piece_list regions
     → AreNumbered piece_list members regions
 members_are_numbered raw tree cells cell_tiles piece_list members regions pieces few has are = record {
-  starts =
-      All-from_In (λ (piece : PlaneStack). piece.plane < length piece_list.starts.items) piece_list.stacks.items (λ piece among.
-      let below = All-In (λ (p : PlaneStack). p.plane < length raw.planes) piece_list.stacks.items piece pieces.planes among in
-      let long = pieces.one_each in
-      omega (arith, below, long));
   tiles =
-      All-from_In (λ (piece : PlaneStack). All (λ tile. slice_index piece_list.starts.items piece.plane + tile < length members.numbers.items)
-      piece.stack.members) piece_list.stacks.items (λ piece among.
-      All-from_In (λ tile. slice_index piece_list.starts.items piece.plane + tile < length members.numbers.items) piece.stack.members (λ tile listed.
-      let covers =
-      (All-In (HasCoveringTiles cell_tiles piece_list.starts.items) piece_list.stacks.items piece pieces.covered among).each tile listed in
-      let within = slice_get_within cell_tiles (slice_index piece_list.starts.items piece.plane + tile) covers.tile covers.there in
+      All-from_In (λ (piece : PlaneStack). All (λ tile. tile < length members.numbers.items) piece.stack.members) piece_list (λ piece among.
+      All-from_In (λ tile. tile < length members.numbers.items) piece.stack.members (λ tile listed.
+      let covers = (All-In (HasCoveringTiles cell_tiles) piece_list piece pieces.covered among).each tile listed in
+      let within = slice_get_within cell_tiles tile covers.tile covers.there in
       let long = has.one_each in
       omega (arith, within, long)));
   named =
@@ -85,8 +77,8 @@ members_are_numbered raw tree cells cell_tiles piece_list members regions pieces
       let named = has.each place.0 tile.0 tile.1 in
       subst (λ (n : ℕ). n < length members.names.items) (place.1.1 0)
       (slice_get_within members.names.items (slice_index members.numbers.items place.0) named.name named.there));
-  one_each = as_many piece_list.stacks.items are.labels regions.tiles are.same;
-  few = regions_are_few raw piece_list.stacks.items regions few are;
+  one_each = as_many piece_list are.labels regions.tiles are.same;
+  few = regions_are_few raw piece_list regions few are;
 }
   where
     tile_there : (tiles : List PartTile) (k : ℕ) → k < length tiles → (tile : PartTile) × (slice_get tiles k ≡ Some tile)
@@ -94,23 +86,23 @@ members_are_numbered raw tree cells cell_tiles piece_list members regions pieces
     tile_there (first ∷ rest) k below = (get_or (first ∷ rest) k first, slice_get-get_or (first ∷ rest) k first below)
 
 -- the sums of pieces by their marks
-pub marked_sums_are : (raw : RawTech) (piece_list : CellPieces) (members : TileMembers) (regions : Regions) (found : MarkedSums) (count : ℕ) (groups : List ℕ)
-    → ArePieces raw piece_list.stacks.items → length regions.tiles ≡ length piece_list.stacks.items
+pub marked_sums_are : (raw : RawTech) (piece_list : List PlaneStack) (members : TileMembers) (regions : Regions) (found : MarkedSums) (count : ℕ) (groups : List ℕ)
+    → ArePieces raw piece_list → length regions.tiles ≡ length piece_list
     → AreMemberMarks (length members.names.items) regions.tiles regions.count
-    (member_pairs members.numbers.items piece_list.starts.items piece_list.stacks.items) found.marks.items
+    (member_pairs members.numbers.items piece_list) found.marks.items
     → All (λ mark. mark < count) found.marks.items
     → groups ≡ map (mark_at (length members.names.items) regions.tiles found.marks.items) (range_with_len 0 (length regions.tiles))
-    → ((parts : List SetLayout) → ArePlaneStacks raw parts piece_list.stacks.items
-    → AreMeetingSums raw parts piece_list.stacks.items groups count found.sums.items)
+    → ((parts : List SetLayout) → ArePlaneStacks raw parts piece_list
+    → AreMeetingSums raw parts piece_list groups count found.sums.items)
     → AreMarkedSums raw piece_list members regions found
 marked_sums_are raw piece_list members regions found count groups pieces long are_marks below are_groups are_sums =
     let many : length found.sums.items ≡ count = (are_sums pieces.parts pieces.are).one_each in record {
       are_marks = are_marks;
       below = subst (λ (most : ℕ). All (λ mark. mark < most) found.marks.items) (sym many) below;
       are_sums = λ parts are.
-          subst (λ (so_many : ℕ). AreMeetingSums raw parts piece_list.stacks.items
-          (piece_marks (length members.names.items) piece_list.stacks.items regions.tiles found.marks.items) so_many found.sums.items) (sym many)
-          (subst (λ (all : List ℕ). AreMeetingSums raw parts piece_list.stacks.items all count found.sums.items)
+          subst (λ (so_many : ℕ). AreMeetingSums raw parts piece_list
+          (piece_marks (length members.names.items) piece_list regions.tiles found.marks.items) so_many found.sums.items) (sym many)
+          (subst (λ (all : List ℕ). AreMeetingSums raw parts piece_list all count found.sums.items)
           (are_groups ∙ ap (λ (so_many : ℕ). map (mark_at (length members.names.items) regions.tiles found.marks.items) (range_with_len 0 so_many)) long)
           (are_sums parts are));
     }

@@ -1,7 +1,5 @@
 -- what crates above name of those below
 pub use Rattle.hier_merge.specs as HierMerge
 pub use Rattle.meeting_sums.specs.TreeRecords as TreeRecords
-pub mod MarkedMerges
-pub mod MemberPairs
-pub mod Pieces
 pub mod Relations
+pub mod steps

@@ -3,8 +3,8 @@ ghost use Rattle.std.specs.Prelude.{◌≡◌, ◌+◌, ◌<◌, All, map, lengt
 ghost use Rattle.std.specs.List.{range_with_len};
 ghost use Rattle.partition.specs.Marks.{IsNumbered};
 ghost use Rattle.piece_groups.specs.MemberMarks.{AreMemberMarks, mark_at};
-ghost use Rattle.tree_merges.specs.MemberPairs.{AddsPairs, member_pairs};
-ghost use Rattle.tree_merges.specs.Pieces.{AreNumbered};
+ghost use Rattle.tree_merges.specs.steps.MemberPairs.{AddsPairs, member_pairs};
+ghost use Rattle.tree_merges.specs.steps.Pieces.{AreNumbered};
 
 use flood_nodes::Regions;
 use offences::PlaneStack;
@@ -12,31 +12,16 @@ use partition::{Labelling, Partition};
 use std::alloc::{AllocError, Global};
 use tile_members::TileMembers;
 
-/// The pieces at which the parts of a cell meet, by plane.
-#[derive(Drop)]
-pub struct CellPieces {
-    /// For each plane the number of its first tile.
-    pub starts: Vec<usize>,
-    /// The members of a piece are numbers of tiles of its plane, counted from the first of these.
-    pub stacks: Vec<PlaneStack>,
-}
-
-// Joins the members that have these tiles, which are counted from the first one of their plane, with a region.
-fn join_members(
-    classes: &mut Partition,
-    numbers: &[usize],
-    start: usize,
-    tiles: &[usize],
-    region: usize,
-)
+// Joins the members that have these tiles with a region.
+fn join_members(classes: &mut Partition, numbers: &[usize], tiles: &[usize], region: usize)
     requires region { region < length classes.old }
-    requires tiles { All (λ tile. start + tile < length numbers.now) tiles.now }
+    requires tiles { All (λ tile. tile < length numbers.now) tiles.now }
     requires numbers { All (λ number. number < length classes.old) numbers.now }
     ensures len { length classes.new ≡ length classes.old }
-    ensures joined { AddsPairs classes.old classes.new (map (λ tile. (slice_index numbers.now (start + tile), region)) tiles.now) }
+    ensures joined { AddsPairs classes.old classes.new (map (λ tile. (slice_index numbers.now tile, region)) tiles.now) }
 {
     for tile in tiles {
-        classes.join(numbers[start + *tile], region);
+        classes.join(numbers[*tile], region);
     }
 }
 
@@ -46,25 +31,23 @@ fn join_members(
 /// member's number, and then those of regions. Want of memory alone refuses. It takes a step for each tile of each piece.
 pub fn marks_of(
     alloc: Global,
-    pieces: &CellPieces,
+    pieces: &[PlaneStack],
     members: &TileMembers,
     regions: &Regions,
 ) -> Result<Labelling, AllocError>
     requires { AreNumbered pieces.now members.now regions.now }
     ensures marks { IfOk result (λ made. AreMemberMarks (length members.now.names.items) regions.now.tiles regions.now.count
-        (member_pairs members.now.numbers.items pieces.now.starts.items pieces.now.stacks.items) made.labels.items) }
+        (member_pairs members.now.numbers.items pieces.now) made.labels.items) }
     ensures numbered { IfOk result (λ made. IsNumbered made.labels.items made.count) }
 {
     let tiles = regions.tiles.items();
     let names = members.names.len();
     let mut classes = Partition::new(alloc, names + regions.count)?;
-    for (index, piece) in pieces.stacks.iter().enumerate() {
-        let start = pieces.starts[usize::from(piece.plane)];
+    for (index, piece) in pieces.iter().enumerate() {
         let region = names + tiles[index].region;
         join_members(
             &mut classes,
             members.numbers.as_slice(),
-            start,
             piece.stack.members.items(),
             region,
         );

@@ -11,11 +11,11 @@ ghost use Rattle.library_trees.specs.KeptRecords.{HaveKeptRecordsBelow};
 ghost use Rattle.meeting_sums.specs.TreeRecords.Merges.{AreGroupMerges};
 ghost use Rattle.hier_merge.specs.MeetingPieces.{AreMeetingPieces};
 ghost use Rattle.tile_members.specs.TileMembers.{AreTileMembers, IsPartTile};
-ghost use Rattle.tree_merges.specs.MarkedMerges.{AreMarkedMerges, AreMarkedSums};
-ghost use Rattle.tree_merges.specs.Pieces.{AreNumbered, ArePieceRegions, ArePieces};
+ghost use Rattle.tree_merges.specs.steps.MarkedMerges.{AreMarkedMerges, AreMarkedSums};
+ghost use Rattle.tree_merges.specs.steps.Pieces.{AreNumbered, ArePieceRegions, ArePieces};
 ghost use Rattle.tree_merges.specs.Relations.{HasOwnNodes, records_in};
 
-use crate::marking::{CellPieces, marks_of, marks_of_pieces};
+use crate::marking::{marks_of, marks_of_pieces};
 use crate::piece_tiles::regions_of_pieces;
 use cell_library::{Opened, PartTile, Reader};
 use ext_model::{CellKey, ExtTable, MergeRow};
@@ -25,6 +25,7 @@ use library_trees::{
     clean_cell_has_clean_tree, kept_records_are_of_the_tree, named_trees_have_the_layouts,
 };
 use meeting_sums::{MeetingSum, meeting_sums};
+use offences::PlaneStack;
 use piece_groups::{marked_groups_are_recorded, merges_of_marks};
 use std::alloc::{AllocError, Global};
 use std::sync::ledger::Ledger;
@@ -42,16 +43,16 @@ pub struct MarkedSums {
 fn marked_sums(
     alloc: Global,
     tech: &Tech,
-    pieces: CellPieces,
+    pieces: Vec<PlaneStack>,
     members: &TileMembers,
     regions: Regions,
 ) -> Result<MarkedSums, AllocError>
-    requires pieces { ArePieces tech.now pieces.stacks.items }
-    requires regions { ArePieceRegions tech.now pieces.stacks.items regions }
-    requires numbered { AreNumbered pieces members.now regions }
-    ensures { IfOk result (AreMarkedSums tech.now pieces members.now regions) }
+    requires pieces { ArePieces tech.now pieces.items }
+    requires regions { ArePieceRegions tech.now pieces.items regions }
+    requires numbered { AreNumbered pieces.items members.now regions }
+    ensures { IfOk result (AreMarkedSums tech.now pieces.items members.now regions) }
 {
-    let marks = marks_of(alloc, &pieces, members, &regions)?;
+    let marks = marks_of(alloc, pieces.as_slice(), members, &regions)?;
     let groups = marks_of_pieces(
         alloc,
         &regions,
@@ -61,7 +62,7 @@ fn marked_sums(
     let sums = meeting_sums(
         alloc,
         tech,
-        pieces.stacks.as_slice(),
+        pieces.as_slice(),
         regions.contacts(),
         groups.as_slice(),
         marks.count,
@@ -77,16 +78,16 @@ fn marked_sums(
 fn merges_of_members(
     alloc: Global,
     tech: &Tech,
-    pieces: CellPieces,
+    pieces: Vec<PlaneStack>,
     members: &TileMembers,
     regions: Regions,
 ) -> Result<Vec<MergeRow>, AllocError>
-    requires pieces { ArePieces tech.now pieces.stacks.items }
-    requires regions { ArePieceRegions tech.now pieces.stacks.items regions }
+    requires pieces { ArePieces tech.now pieces.items }
+    requires regions { ArePieceRegions tech.now pieces.items regions }
     requires distinct { Distinct members.now.names.items }
-    requires numbered { AreNumbered pieces members.now regions }
+    requires numbered { AreNumbered pieces.items members.now regions }
     ensures { IfOk result (λ rows. (merges : List MergeRec)
-        × AreMarkedMerges tech.now pieces members.now regions merges × AreRowsOf merges rows.items) }
+        × AreMarkedMerges tech.now pieces.items members.now regions merges × AreRowsOf merges rows.items) }
 {
     let found = marked_sums(alloc, tech, pieces, members, regions)?;
     let merges = merges_of_marks(
@@ -129,14 +130,14 @@ pub fn merges_of<L: Ledger>(
     records: &ExtTable,
     cell: CellKey,
     tiles: Vec<PartTile>,
-    pieces: CellPieces,
+    pieces: Vec<PlaneStack>,
     steps: &mut Opened<L>,
 ) -> Result<Vec<MergeRow>, AllocError>
     requires cell { cell.0 < length library.now.contents }
     requires clean { IsClean library.now.tech (tree_at (seen library.now) cell.0) }
     requires records { HaveKeptRecordsBelow (seen library.now) (records_in records.now) cell.0 }
     requires nodes { HasOwnNodes (seen library.now) cell.0 }
-    requires pieces { AreMeetingPieces library.now.tech (tree_at (seen library.now) cell.0) tiles.items pieces.starts.items pieces.stacks.items }
+    requires pieces { AreMeetingPieces library.now.tech (tree_at (seen library.now) cell.0) tiles.items pieces.items }
     ensures merges { IfOk result (λ rows. (merges : List MergeRec)
         × AreGroupMerges library.now.tech (named_tree_at (seen library.now) cell.0) merges × AreRowsOf merges rows.items) }
     ensures steps { steps.new ≤ steps.old + length tiles.items }
@@ -149,7 +150,7 @@ pub fn merges_of<L: Ledger>(
     recorded_parts_have_members(tech);
     marked_groups_are_recorded(tech);
     let members = members_of(alloc, library, records, cell, tiles, steps)?;
-    let regions = regions_of_pieces(alloc, tech, pieces.stacks.as_slice())?;
+    let regions = regions_of_pieces(alloc, tech, pieces.as_slice())?;
     let merges = merges_of_members(alloc, tech, pieces, &members, regions)?;
     Ok(merges)
 }

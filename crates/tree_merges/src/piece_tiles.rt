@@ -1,7 +1,7 @@
 //! The pieces at which the parts of a cell meet, as tiles, and their regions.
 ghost use Rattle.std.specs.Prelude.{◌≡◌, IfOk};
 ghost use Rattle.meeting_sums.specs.StackTiles.{tile_of, tiles_of};
-ghost use Rattle.tree_merges.specs.Pieces.{ArePieceRegions, ArePieces};
+ghost use Rattle.tree_merges.specs.steps.Pieces.{ArePieceRegions, ArePieces};
 
 use flood_nodes::{Regions, regions_of_tiles};
 use layout_model::RegionTile;

@@ -13,7 +13,6 @@ ghost use Rattle.hier_merge.specs.Interactions.{IsWork};
 ghost use Rattle.tree_merges.specs.Relations.{HasOwnNodes, records_in};
 ghost use Rattle.hier_merge.specs.UncleanCells.{AreOffendingOf, IsCleanCell};
 
-use crate::marking::CellPieces;
 use crate::merging::merges_of;
 use cell_library::{Opened, Reader};
 use ext_model::{CellKey, ExtTable, MergeRow};
@@ -69,12 +68,10 @@ pub fn relate<L: Ledger>(
     }
     let Meeting {
         tiles,
-        starts,
         stacks,
         offending,
     } = meeting;
-    let pieces = CellPieces { starts, stacks };
-    let merges = merges_of(alloc, library, records, cell, tiles, pieces, steps)?;
+    let merges = merges_of(alloc, library, records, cell, tiles, stacks, steps)?;
     Ok(Related {
         merges: List::of(merges),
         offending: List::of(offending),

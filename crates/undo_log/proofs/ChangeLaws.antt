@@ -22,7 +22,7 @@ use Rattle.cell_library.proofs.UndoneEdits.{cell_back}
 use Rattle.undo_log.specs.declared.changes.Change.{Change}
 use Rattle.undo_log.specs.declared.changes.Change.TheVariants.{Repaint, InsertUse, DeleteUse, MoveUse, SetGrid, AddLabel, DropLabel, SetLabels}
 use Rattle.undo_log.specs.Inverses.{SpeaksOf, TakesBack, changed}
-use Rattle.undo_log.specs.Makings.{AddsLast, BringsAgain, GivesGrid, PutsBack}
+use Rattle.undo_log.specs.steps.Makings.{AddsLast, BringsAgain, GivesGrid, PutsBack}
 use Rattle.undo_log.proofs.BodyLaws.{Uses, added_goes, added_some, changed_has, deleted_comes, deleted_place, inserted_goes, inserted_has, moved_back}
 use Rattle.undo_log.proofs.BodyLaws.{regridded_back}
 use Rattle.undo_log.proofs.CellLaws.{cell_here, count_kept}

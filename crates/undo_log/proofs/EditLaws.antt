@@ -38,7 +38,7 @@ use Rattle.edit_script.specs.Refusals.{LibraryRefuses, with_word}
 use Rattle.undo_log.specs.declared.changes.Change.{Change}
 use Rattle.undo_log.specs.declared.changes.Change.TheVariants.{DeleteUse, DropLabel, MoveUse, SetLabels}
 use Rattle.undo_log.specs.Inverses.{TakesBack}
-use Rattle.undo_log.specs.Makings.{Accepts, BringsAgain, GivesGrid, PutsBack}
+use Rattle.undo_log.specs.steps.Makings.{Accepts, BringsAgain, GivesGrid, PutsBack}
 use Rattle.undo_log.proofs.BodyLaws.{Uses}
 use Rattle.cell_library.proofs.OwnRestorations.{columns_outside}
 use Rattle.cell_library.proofs.ViewLaws.{changed_at-same}

@@ -1,4 +1,4 @@
 pub mod Inverses
 pub mod Laws
-pub mod Makings
 pub mod Versions
+pub mod steps

@@ -10,7 +10,7 @@ ghost use Rattle.script_lines.specs.Forms.{IsFormed};
 ghost use Rattle.edit_script.specs.Editing.{editing_of};
 ghost use Rattle.edit_script.specs.Edits.{applied};
 ghost use Rattle.undo_log.specs.Inverses.{CanBeMade, TakesBack, changed};
-ghost use Rattle.undo_log.specs.Makings.{Accepts, AddsLast, BringsAgain, GivesGrid, OfUse, PutsBack};
+ghost use Rattle.undo_log.specs.steps.Makings.{Accepts, AddsLast, BringsAgain, GivesGrid, OfUse, PutsBack};
 ghost use Rattle.undo_log.specs.Versions.{is_edit};
 
 use crate::changes::Change;

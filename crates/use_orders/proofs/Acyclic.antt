@@ -12,7 +12,7 @@ use Rattle.finite_sets.proofs.Places.{In-take}
 use Rattle.use_orders.specs.NewCells.{IsOwnDescendant, IsChildrenFirst}
 use Rattle.use_orders.specs.Uses.{UsesCell, UsesNewCell, IsDescendant, IsAcyclicBelow, AreBehindChildren}
 use Rattle.use_orders.specs.LibraryOrder.{Visits, IsLibraryOrder}
-use Rattle.use_orders.specs.Walks.{HasCycle, listed_by}
+use Rattle.use_orders.specs.steps.Walks.{HasCycle, listed_by}
 use Rattle.use_orders.proofs.Rings.{own_is_new}
 
 -- a walk below such a root meets no open cell

@@ -8,8 +8,8 @@ use Rattle.use_orders.specs.declared.walk.OpenCell.{OpenCell}
 use Rattle.use_orders.specs.Uses.{used_by}
 use Rattle.use_orders.specs.LibraryOrder.{Visits}
 use Rattle.use_orders.specs.LibraryOrder.Visits.{none, again, anew}
-use Rattle.use_orders.specs.Walks.{WalkState, walk_mark, listed_by, with_open, one_further, after_meeting, after_listing, after_following}
-use Rattle.use_orders.specs.Walks.{IsWalking, Continues, Advances}
+use Rattle.use_orders.specs.steps.Walks.{WalkState, walk_mark, listed_by, with_open, one_further, after_meeting, after_listing, after_following}
+use Rattle.use_orders.specs.steps.Walks.{IsWalking, Continues, Advances}
 use Rattle.use_orders.proofs.Listed.{listed_by-push}
 use Rattle.use_orders.proofs.Visiting.{Visits-append}
 use Rattle.use_orders.proofs.UnderWay.{not_both, under_way_further}

@@ -7,7 +7,7 @@ use Rattle.finite_sets.specs.Lists.{In, Distinct}
 use Rattle.finite_sets.proofs.Distincts.{Distinct-from_places}
 use Rattle.finite_sets.proofs.Members.{In-get_or, In-index, In-append_left, In-append_right, In-append_cases}
 use Rattle.use_orders.specs.declared.walk.Mark.{Mark}
-use Rattle.use_orders.specs.Walks.{listed_by, walk_mark}
+use Rattle.use_orders.specs.steps.Walks.{listed_by, walk_mark}
 
 -- the numbers below n
 pub In-numbers : (n c : ℕ) → c < n → In c (range_with_len 0 n)

@@ -8,8 +8,8 @@ use Rattle.finite_sets.specs.Lists.{In}
 use Rattle.finite_sets.proofs.Members.{In-append_left, In-append_cases, In-get_or}
 use Rattle.use_orders.specs.Uses.{UsesNewCell, AreBehindChildren}
 use Rattle.use_orders.specs.NewCells.{IsOwnDescendant, IsChildrenFirst}
-use Rattle.use_orders.specs.Searches.{HasWalked, IsWalkOrder}
-use Rattle.use_orders.specs.Walks.{WalkState, listed_by, cells_of, IsAtRest, IsThorough, HasVisited}
+use Rattle.use_orders.specs.steps.Searches.{HasWalked, IsWalkOrder}
+use Rattle.use_orders.specs.steps.Walks.{WalkState, listed_by, cells_of, IsAtRest, IsThorough, HasVisited}
 use Rattle.use_orders.specs.declared.walk.OpenCell.{OpenCell}
 use Rattle.use_orders.proofs.Listed.{In-listed_cases, In-numbers_below}
 use Rattle.use_orders.proofs.Rings.{listed_new, listed_once}

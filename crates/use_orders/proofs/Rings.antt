@@ -15,8 +15,8 @@ use Rattle.use_orders.specs.declared.walk.Mark.TheVariants.{Unmet, Listed}
 use Rattle.use_orders.specs.declared.walk.OpenCell.{OpenCell}
 use Rattle.use_orders.specs.Uses.{UsesCell, UsesNewCell, IsDescendant}
 use Rattle.use_orders.specs.NewCells.{IsNew, IsOwnDescendant}
-use Rattle.use_orders.specs.Searches.{IsWalkOrder, AreUsers, IsSearched, IsRing, LowersLeast}
-use Rattle.use_orders.specs.Walks.{WalkState, cells_of, AreMutual, IsAtRest, IsThorough, HasVisited}
+use Rattle.use_orders.specs.steps.Searches.{IsWalkOrder, AreUsers, IsSearched, IsRing, LowersLeast}
+use Rattle.use_orders.specs.steps.Walks.{WalkState, cells_of, AreMutual, IsAtRest, IsThorough, HasVisited}
 use Rattle.use_orders.proofs.Listed.{In-order, In-listed_cases, In-numbers}
 use Rattle.use_orders.proofs.Thorough.{met_cases}
 

@@ -6,7 +6,7 @@ use Rattle.std.proofs.lemmas.List.{append-nil, get_or-map, get_or_past, length-m
 use Rattle.std.proofs.lemmas.List.FromFn.{length-range_with_len, get_or-range_with_len}
 use Rattle.use_orders.specs.declared.walk.Mark.{Mark}
 use Rattle.use_orders.specs.declared.walk.Mark.TheVariants.{Unmet, Open, Listed}
-use Rattle.use_orders.specs.Walks.{walk_mark, mark_before, IsWalking, IsThorough}
+use Rattle.use_orders.specs.steps.Walks.{walk_mark, mark_before, IsWalking, IsThorough}
 use Rattle.use_orders.proofs.Listed.{In-old, In-listed_cases, Distinct-numbers}
 
 mark_before_old : (first c : ℕ) → c < first → mark_before first c ≡ Listed

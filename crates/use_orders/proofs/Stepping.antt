@@ -12,8 +12,8 @@ use Rattle.use_orders.specs.declared.walk.Mark.TheVariants.{Unmet, Open, Listed}
 use Rattle.use_orders.specs.declared.walk.OpenCell.{OpenCell}
 use Rattle.use_orders.specs.Uses.{used_by, UsesNewCell, AreCells}
 use Rattle.use_orders.specs.LibraryOrder.{Visits}
-use Rattle.use_orders.specs.Walks.{WalkState, walk_mark, listed_by, cells_of, with_open, one_further, after_meeting, after_listing, after_following}
-use Rattle.use_orders.specs.Walks.{IsWalking, IsAtRest, IsLater, Continues, LeadsToOpen, HasCycle, HasVisited, work_left}
+use Rattle.use_orders.specs.steps.Walks.{WalkState, walk_mark, listed_by, cells_of, with_open, one_further, after_meeting, after_listing, after_following}
+use Rattle.use_orders.specs.steps.Walks.{IsWalking, IsAtRest, IsLater, Continues, LeadsToOpen, HasCycle, HasVisited, work_left}
 use Rattle.use_orders.proofs.UnderWay.{under_way_listed, under_way_further, under_way_followed, reached_listed}
 use Rattle.use_orders.proofs.UnderWay.{reached_met, reached_followed, next_is_used, cycle_followed, noted}
 use Rattle.use_orders.proofs.Advancing.{advances_then, advances_listed, advances_followed, visits_met}

@@ -13,8 +13,8 @@ use Rattle.use_orders.specs.declared.walk.Mark.{Mark}
 use Rattle.use_orders.specs.declared.walk.Mark.TheVariants.{Unmet, Open, Listed}
 use Rattle.use_orders.specs.declared.walk.OpenCell.{OpenCell}
 use Rattle.use_orders.specs.Uses.{used_by, UsesCell, UsesNewCell, AreCells}
-use Rattle.use_orders.specs.Walks.{WalkState, walk_mark, listed_by, cells_of, with_open, one_further, after_meeting, after_listing, after_following}
-use Rattle.use_orders.specs.Walks.{IsWalking, IsOpenCell, AllLeadTo, LeadsToOpen, HasCycle}
+use Rattle.use_orders.specs.steps.Walks.{WalkState, walk_mark, listed_by, cells_of, with_open, one_further, after_meeting, after_listing, after_following}
+use Rattle.use_orders.specs.steps.Walks.{IsWalking, IsOpenCell, AllLeadTo, LeadsToOpen, HasCycle}
 use Rattle.use_orders.proofs.Listed.{In-old, In-order, listed_by-push, walk_mark-set_same, walk_mark-set_other}
 
 -- no cell has two marks

@@ -9,7 +9,7 @@ use Rattle.std.proofs.lemmas.List.{length-set, length-map, map-set, get_or-map}
 use Rattle.finite_sets.specs.Lists.{In}
 use Rattle.finite_sets.proofs.Members.{In-append_left, In-push, In-push_cases, In-get_or, In-index}
 use Rattle.use_orders.specs.Uses.{used_by, UsesNewCell, AreCells}
-use Rattle.use_orders.specs.Searches.{lists_of}
+use Rattle.use_orders.specs.steps.Searches.{lists_of}
 
 -- The first so many uses of a cell were added to the users of their children.
 pub record AreAdded (children : List (List ℕ)) (first parent place : ℕ) (old now : List (List ℕ)) : Type 0 where

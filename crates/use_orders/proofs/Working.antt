@@ -7,8 +7,8 @@ use Rattle.use_orders.specs.declared.walk.Mark.{Mark}
 use Rattle.use_orders.specs.declared.walk.Mark.TheVariants.{Unmet, Open, Listed}
 use Rattle.use_orders.specs.declared.walk.OpenCell.{OpenCell}
 use Rattle.use_orders.specs.Uses.{used_by, AreCells}
-use Rattle.use_orders.specs.Walks.{WalkState, walk_mark, is_unmet, with_open, one_further, just_opened, after_meeting, after_listing, after_following}
-use Rattle.use_orders.specs.Walks.{IsWalking, left_at, work_left}
+use Rattle.use_orders.specs.steps.Walks.{WalkState, walk_mark, is_unmet, with_open, one_further, just_opened, after_meeting, after_listing, after_following}
+use Rattle.use_orders.specs.steps.Walks.{IsWalking, left_at, work_left}
 use Rattle.use_orders.proofs.UnderWay.{next_is_used}
 
 -- a mark of an unmet cell counts

@@ -1,5 +1,4 @@
 pub mod Uses
 pub mod LibraryOrder
-pub mod Walks
 pub mod NewCells
-pub mod Searches
+pub mod steps

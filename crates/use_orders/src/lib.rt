@@ -5,7 +5,7 @@
 //! # How the proof goes
 //!
 //! One walk serves both orders. It keeps the way of open cells from the root down to the present one, and a mark for each
-//! cell; what one step does is an equation of states (`specs/Walks.antt`), and the proofs are about these states alone. The
+//! cell; what one step does is an equation of states (`specs/steps/Walks.antt`), and the proofs are about these states alone. The
 //! marks tell which cells are listed and which are open (`UnderWay`). What is left to do at the open cells always completes
 //! what was listed to what the definition says, unless an open cell was met (`Advancing`); then the present cell is its own
 //! descendant. The walk ends since each step follows a use or lists a cell, and an unmet cell counts for more than all

@@ -2,9 +2,9 @@
 
 ghost use Rattle.std.specs.Prelude.{◌≤◌, IfOk, length};
 ghost use Rattle.use_orders.specs.NewCells.{IsOrderOf};
-ghost use Rattle.use_orders.specs.Searches.{HasWalked};
+ghost use Rattle.use_orders.specs.steps.Searches.{HasWalked};
 ghost use Rattle.use_orders.specs.Uses.{AreCells};
-ghost use Rattle.use_orders.specs.Walks.{walk_state};
+ghost use Rattle.use_orders.specs.steps.Walks.{walk_state};
 
 use crate::graph::UseGraph;
 use crate::own_descendants::least_own_descendant;

@@ -8,9 +8,9 @@ ghost use Rattle.std.specs.Prelude.{IsTrue, length, slice_set, drop, MatchOption
 ghost use Rattle.finite_sets.specs.Least.{IsLeast};
 ghost use Rattle.finite_sets.specs.Lists.{In};
 ghost use Rattle.use_orders.specs.NewCells.{IsOwnDescendant};
-ghost use Rattle.use_orders.specs.Searches.{lists_of, AreUsers, IsWalkOrder, IsRing, LowersLeast};
+ghost use Rattle.use_orders.specs.steps.Searches.{lists_of, AreUsers, IsWalkOrder, IsRing, LowersLeast};
 ghost use Rattle.use_orders.specs.Uses.{used_by, AreCells, UsesNewCell};
-ghost use Rattle.use_orders.specs.Walks.{walk_state, IsAtRest, HasVisited};
+ghost use Rattle.use_orders.specs.steps.Walks.{walk_state, IsAtRest, HasVisited};
 
 use crate::graph::{UseGraph, UseLists};
 use crate::walk::Walk;

@@ -3,9 +3,9 @@
 ghost use Rattle.std.specs.Prelude.{◌≡◌, ◌+◌, ◌^◌, ◌<◌, ◌≤◌, [], ℕ, List, IfOk, OnOk, length, map, false};
 ghost use Rattle.std.specs.List.{range_with_len};
 ghost use Rattle.use_orders.specs.Uses.{AreCells, used_by};
-ghost use Rattle.use_orders.specs.Walks.{WalkState, walk_state, walk_mark, mark_before, with_open};
-ghost use Rattle.use_orders.specs.Walks.{after_meeting, after_following, after_listing};
-ghost use Rattle.use_orders.specs.Walks.{IsWalking, IsAtRest, IsThorough, IsLater, HasVisited, work_left};
+ghost use Rattle.use_orders.specs.steps.Walks.{WalkState, walk_state, walk_mark, mark_before, with_open};
+ghost use Rattle.use_orders.specs.steps.Walks.{after_meeting, after_following, after_listing};
+ghost use Rattle.use_orders.specs.steps.Walks.{IsWalking, IsAtRest, IsThorough, IsLater, HasVisited, work_left};
 
 use crate::graph::UseGraph;
 use std::alloc::{AllocError, Global};

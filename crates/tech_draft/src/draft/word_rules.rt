@@ -3,7 +3,7 @@ ghost use Rattle.std.specs.Prelude.{◌≡◌, ◌≢◌, ◌++◌, ◌∷◌, f
 ghost use Rattle.std.specs.Option.{option_map};
 ghost use Rattle.text_scan.specs.Words.{words_of};
 ghost use Rattle.tech_model.specs.declared.faults.TechFault.TheVariants.{Memory};
-ghost use Rattle.tech_draft.specs.Parts.{parts_in};
+ghost use Rattle.tech_draft.specs.steps.Parts.{parts_in};
 ghost use Rattle.tech_draft.specs.WordRules.{breaks, word_fault, refuse, check_entries, check_layers};
 
 use super::Draft;

@@ -1,6 +1,6 @@
 use Rattle.std.proofs.Common.{ℕ, List, ap, subst, ◌∙◌}
 use Rattle.std.specs.Prelude.{IfErr, OnOk}
-use Rattle.cell_library.specs.AddedCells.{AreInTree, TreeRefusesAll, new_views, views_from}
+use Rattle.cell_library.specs.steps.AddedCells.{AreInTree, TreeRefusesAll, new_views, views_from}
 use Rattle.cell_library.specs.Contents.{Held}
 use Rattle.cell_library.specs.Refusals.{HasFaultOrLacksMemory}
 use Rattle.cell_library.specs.Views.{CellView}

@@ -2,7 +2,7 @@ use Rattle.std.proofs.Common.{◌≡◌, ◌+◌, ◌-◌, ◌<◌, ◌≤◌, �
 use Rattle.std.specs.Prelude.{All}
 use Rattle.cell_tree.specs.declared.new_cells.NewCell.{NewCell}
 use Rattle.cell_tree.specs.Additions.{MayCome, new_states}
-use Rattle.cell_library.specs.AddedCells.{kept_uses}
+use Rattle.cell_library.specs.steps.AddedCells.{kept_uses}
 use Rattle.cell_library.specs.Contents.{held_at}
 use Rattle.cell_library.specs.Limits.{AreStatesOf}
 use Rattle.cell_library.specs.Seen.{cell_views}

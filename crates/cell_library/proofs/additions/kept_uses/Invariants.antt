@@ -1,5 +1,5 @@
 use Rattle.std.proofs.Common.{◌≡◌, map, take}
-use Rattle.cell_library.specs.AddedCells.{kept_uses}
+use Rattle.cell_library.specs.steps.AddedCells.{kept_uses}
 use Rattle.cell_library.proofs.additions.kept_uses.Given as goal
 
 -- the uses so far are kept

@@ -1,5 +1,5 @@
 use Rattle.std.proofs.Common.{◌≡◌, Bool, true, false, ◌&&◌, rules}
-use Rattle.cell_library.specs.OwnRestorations.{are_between}
+use Rattle.cell_library.specs.steps.OwnRestorations.{are_between}
 use Rattle.cell_library.proofs.own_restorations.is_inside.Goals as goal
 
 -- where the first test holds, the second decides

@@ -1,5 +1,5 @@
 use Rattle.std.proofs.Common.{◌*◌}
-use Rattle.cell_library.specs.Spans.{CanBeDropped, spots_to}
+use Rattle.cell_library.specs.steps.Spans.{CanBeDropped, spots_to}
 use Rattle.cell_library.specs.Spots.{AddsSpots}
 use Rattle.cell_library.proofs.spots.add_elements.Given as goal
 

@@ -1,5 +1,5 @@
 use Rattle.std.proofs.Common.{◌+◌, ◌*◌}
-use Rattle.cell_library.specs.Spans.{AddsRow}
+use Rattle.cell_library.specs.steps.Spans.{AddsRow}
 use Rattle.cell_library.proofs.spots.add_row.Given as goal
 
 abbrev pub invariant-loop-n : goal.invariant-loop-n

@@ -5,7 +5,7 @@ use Rattle.cell_tree.specs.Sizes.{size_at}
 use Rattle.cell_tree.specs.Uses.{displacements}
 use Rattle.cell_library.specs.declared.spots.UseSearch.{UseSearch}
 use Rattle.cell_library.specs.Spots.{spots_at, AddsSpots}
-use Rattle.cell_library.specs.UsePlaces.{IsApart}
+use Rattle.cell_library.specs.steps.UsePlaces.{IsApart}
 use Rattle.cell_library.proofs.RowSpots.{few_displacements, use_added, use_dropped}
 use Rattle.cell_library.proofs.VisitLaws.{hull_spans}
 use Rattle.cell_library.proofs.spots.add_use.Goals as goal

@@ -2,7 +2,7 @@ use Rattle.std.proofs.Common.{◌≡◌, false, true≢false, sym, ◌∙◌, su
 use Rattle.std.proofs.lemmas.Result.{IfErr-weaker}
 use Rattle.cell_tree.specs.Trees.{cell_at}
 use Rattle.cell_library.specs.declared.faults.LibFault.TheVariants.{OutOfRange}
-use Rattle.cell_library.specs.CellEdits.{TreeRefusesMove}
+use Rattle.cell_library.specs.steps.CellEdits.{TreeRefusesMove}
 use Rattle.cell_library.specs.Edits.{moved_use}
 use Rattle.cell_library.specs.Refusals.{FirstOf, stands_in_range}
 use Rattle.cell_library.proofs.FaultLaws.{not_full}

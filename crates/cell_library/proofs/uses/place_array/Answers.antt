@@ -5,7 +5,7 @@ use Rattle.cell_bodies.specs.Numbers.{is_displacement, are_few_elements}
 use Rattle.cell_tree.specs.Trees.{cell_at}
 use Rattle.cell_library.specs.declared.faults.LibFault.TheVariants.{OutOfRange, TooMany}
 use Rattle.cell_library.specs.declared.limits.LibraryLimit.TheVariants.{Elements}
-use Rattle.cell_library.specs.CellEdits.{TreeRefusesMove}
+use Rattle.cell_library.specs.steps.CellEdits.{TreeRefusesMove}
 use Rattle.cell_library.specs.Refusals.{FirstOf}
 use Rattle.cell_library.proofs.FaultLaws.{not_full}
 use Rattle.cell_library.proofs.UseLists.{has_there}

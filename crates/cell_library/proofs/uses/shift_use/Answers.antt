@@ -5,7 +5,7 @@ use Rattle.std.proofs.lemmas.Result.{IfErr-weaker}
 use Rattle.geo_core.specs.declared.transforms.Transform.{Transform}
 use Rattle.cell_bodies.specs.Numbers.{is_displacement}
 use Rattle.cell_tree.specs.Trees.{cell_at, with_moved, IsEdited}
-use Rattle.cell_library.specs.CellEdits.{TreeRefusesMove}
+use Rattle.cell_library.specs.steps.CellEdits.{TreeRefusesMove}
 use Rattle.cell_library.proofs.FaultLaws.{on_any_ok}
 use Rattle.cell_library.proofs.UseSteps.{shift_of}
 use Rattle.std.proofs.lemmas.Int.{to_z-of_z}

@@ -11,11 +11,11 @@ use Rattle.cell_tree.specs.Trees.{Tree}
 use Rattle.cell_library.specs.declared.spots.Spot.{Spot}
 use Rattle.cell_library.specs.LayoutTrees.{tree_to}
 use Rattle.cell_library.specs.Libraries.{seen}
-use Rattle.cell_library.specs.Spans.{SpansFar}
+use Rattle.cell_library.specs.steps.Spans.{SpansFar}
 use Rattle.cell_library.specs.Spots.{standing_at, AreSiftedBy, CanBeVisited}
-use Rattle.cell_library.specs.UsePlaces.{HasRoomBelow, IsApart, spots_under}
+use Rattle.cell_library.specs.steps.UsePlaces.{HasRoomBelow, IsApart, spots_under}
 use Rattle.cell_library.specs.UseTrees.{AreUseTrees}
-use Rattle.cell_library.specs.Visits.{HullIsAt, IsNearPart, IsNearSpot}
+use Rattle.cell_library.specs.steps.Visits.{HullIsAt, IsNearPart, IsNearSpot}
 use Rattle.cell_library.proofs.GridSpots.{room_in_reach}
 use Rattle.cell_library.proofs.RowSpots.{inverted_in_reach}
 use Rattle.cell_library.proofs.SpotLaws.{sifted_in, told_next, told_start}

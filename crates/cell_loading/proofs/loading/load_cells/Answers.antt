@@ -8,7 +8,7 @@ use Rattle.cell_library.specs.Views.{cell_named}
 use Rattle.cell_loading.specs.Arrivals.{Arrives}
 use Rattle.cell_loading.specs.Loads.{LoadGives}
 use Rattle.cell_loading.specs.Readings.{cell_files}
-use Rattle.cell_loading.specs.Walks.{files_read}
+use Rattle.cell_loading.specs.steps.Walks.{files_read}
 use Rattle.cell_loading.proofs.ArrivalLaws.{arrived, file_refuses}
 use Rattle.cell_loading.proofs.KnownLaws.{new_is_not_among, not_named}
 use Rattle.cell_loading.proofs.loading.load_cells.Goals as goal

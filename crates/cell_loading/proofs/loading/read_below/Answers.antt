@@ -1,7 +1,7 @@
 use Rattle.std.proofs.Common.{◌∙◌, ℕ, List, [], ◌∷◌, sym, ap, arith}
 use Rattle.std.specs.Prelude.{None}
 use Rattle.session_model.specs.FileTrees.{StopsAsking}
-use Rattle.session_model.specs.Stops.{kinds_of_told}
+use Rattle.session_model.specs.steps.Stops.{kinds_of_told}
 use Rattle.session_model.proofs.FetchLaws.{calm_from, calm_then}
 use Rattle.session_model.proofs.FileTreeLaws.{stops_asking_later}
 use Rattle.session_model.proofs.StopLaws.{refusal_weaker}
@@ -10,7 +10,7 @@ use Rattle.cell_bodies.specs.declared.bodies.CellBody.{CellBody}
 use Rattle.cell_library.specs.Libraries.{seen}
 use Rattle.cell_loading.specs.Loads.{cause_of_load}
 use Rattle.cell_loading.specs.Readings.{cell_files}
-use Rattle.cell_loading.specs.Walks.{files_read, names_left}
+use Rattle.cell_loading.specs.steps.Walks.{files_read, names_left}
 use Rattle.cell_loading.proofs.ReadingLaws.{files_same, goes_on_then}
 use Rattle.cell_loading.proofs.WalkLaws.{all_are_read, all_came, none_left, so_far_at_root}
 use Rattle.cell_loading.proofs.loading.read_below.Goals as goal

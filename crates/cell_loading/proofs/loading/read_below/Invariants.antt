@@ -3,7 +3,7 @@ use Rattle.outside_io.specs.Files.{Files}
 use Rattle.session_model.specs.Causes.{IsCalm}
 use Rattle.session_model.specs.Effects.{after_fetches}
 use Rattle.cell_library.specs.Libraries.{seen}
-use Rattle.cell_loading.specs.Walks.{files_read, names_left, work_left, AreFrames, AreSoFar, GoesOnToBodies}
+use Rattle.cell_loading.specs.steps.Walks.{files_read, names_left, work_left, AreFrames, AreSoFar, GoesOnToBodies}
 use Rattle.cell_loading.proofs.loading.read_below.Given as goal
 
 abbrev pub invariant-steps : goal.invariant-steps

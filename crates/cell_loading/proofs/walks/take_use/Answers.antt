@@ -1,8 +1,8 @@
 use Rattle.std.proofs.Common.{◌∷◌, ◌+◌, ap, ◌∙◌, sym, List, ℕ}
 use Rattle.cell_bodies.specs.declared.bodies.CellUse.{CellUse}
 use Rattle.cell_library.specs.Libraries.{seen}
-use Rattle.cell_loading.specs.ReadCells.{is_among}
-use Rattle.cell_loading.specs.Walks.{rest_of}
+use Rattle.cell_loading.specs.steps.ReadCells.{is_among}
+use Rattle.cell_loading.specs.steps.Walks.{rest_of}
 use Rattle.cell_loading.proofs.LeftLaws.{rest_of-next}
 use Rattle.cell_loading.proofs.walks.take_use.Goals as goal
 

@@ -1,4 +1,4 @@
-use Rattle.cell_nodes.specs.NodeNumbers.{AreNumberedUpTo}
+use Rattle.cell_nodes.specs.steps.NodeNumbers.{AreNumberedUpTo}
 use Rattle.cell_nodes.proofs.groups.node_numbers.Given as goal
 
 abbrev pub invariant-loop-number : goal.invariant-loop-number

@@ -6,7 +6,7 @@ use Rattle.measures.specs.declared.tables.MeasureRow.{MeasureRow}
 use Rattle.names.specs.declared.nodes.NamedNode.{NamedNode}
 use Rattle.names.specs.NamedNodes.{AreNamedNodes}
 use Rattle.cell_nodes.specs.RegionNodes.{AreNodesOfRegions}
-use Rattle.cell_nodes.specs.Records.{AreMade, AreRecordsOf}
+use Rattle.cell_nodes.specs.steps.Records.{AreMade, AreRecordsOf}
 use Rattle.cell_nodes.proofs.GroupLaws.{regions_below}
 use Rattle.cell_nodes.proofs.RecordLaws.{tiles_typed, are_made, region_records}
 use Rattle.cell_nodes.proofs.nodes.cell_regions.Goals as goal

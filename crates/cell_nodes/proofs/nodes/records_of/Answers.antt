@@ -3,7 +3,7 @@ use Rattle.std.proofs.lemmas.List.{get_or_default, length-append}
 use Rattle.ext_model.specs.declared.records.NodeRec.{NodeRec}
 use Rattle.measures.specs.declared.tables.MeasureRow.{MeasureRow}
 use Rattle.names.specs.declared.nodes.NamedNode.{NamedNode}
-use Rattle.cell_nodes.specs.Records.{IsRecordOf, row_at}
+use Rattle.cell_nodes.specs.steps.Records.{IsRecordOf, row_at}
 use Rattle.cell_nodes.proofs.RecordLaws.{records_more}
 use Rattle.cell_nodes.proofs.nodes.records_of.Goals as goal
 

@@ -1,6 +1,6 @@
 use Rattle.std.proofs.Common.{refl}
 use Rattle.tech_model.specs.Columns.{brushed_column}
-use Rattle.cell_paint.specs.Changes.{kind_after}
+use Rattle.cell_paint.specs.steps.Changes.{kind_after}
 use Rattle.cell_paint.specs.Painting.{kinds_on}
 use Rattle.cell_paint.specs.Paints.{layout_on}
 use Rattle.cell_paint.proofs.ChangeLaws.{none_known}

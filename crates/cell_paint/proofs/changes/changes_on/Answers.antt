@@ -6,10 +6,10 @@ use Rattle.geo_core.specs.Areas.{corner_of}
 use Rattle.tech_model.specs.declared.limits.TheConstants.{MOST_PLANES}
 use Rattle.tech_model.specs.declared.raw.TypeId.{TypeId}
 use Rattle.tech_model.specs.Columns.{brushed_column}
-use Rattle.cell_paint.specs.Changes.{kind_after, changed_pieces}
+use Rattle.cell_paint.specs.steps.Changes.{kind_after, changed_pieces}
 use Rattle.cell_paint.specs.Painting.{kinds_on, with_columns_where, is_in_some}
 use Rattle.cell_paint.specs.Paints.{layout_on}
-use Rattle.cell_paint.specs.Settings.{AreChanges}
+use Rattle.cell_paint.specs.steps.Settings.{AreChanges}
 use Rattle.cell_paint.proofs.ChangeLaws.{corners_even, found_changes, pieces_on_plane}
 use Rattle.cell_paint.proofs.ColumnsLaws.{squares_change_alike}
 use Rattle.cell_paint.proofs.changes.changes_on.Goals as goal

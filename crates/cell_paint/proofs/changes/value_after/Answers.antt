@@ -2,7 +2,7 @@ use Rattle.std.proofs.Common.{◌≡◌, ◌<◌, ◌∙◌, List, length, refl,
 use Rattle.tech_model.specs.declared.raw.TypeId.{TypeId}
 use Rattle.tech_model.specs.Columns.{type_on, brushed_column}
 use Rattle.tech_model.specs.ColumnForms.{IsColumn}
-use Rattle.cell_paint.specs.Changes.{kind_after}
+use Rattle.cell_paint.specs.steps.Changes.{kind_after}
 use Rattle.cell_paint.specs.Painting.{kinds_on}
 use Rattle.cell_paint.specs.Paints.{layout_on}
 use Rattle.cell_paint.proofs.ChangeLaws.{known_more}

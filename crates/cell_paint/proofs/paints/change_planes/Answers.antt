@@ -9,7 +9,7 @@ use Rattle.tech_model.specs.declared.raw.TypeId.{TypeId}
 use Rattle.tech_model.specs.Columns.{brushed_column}
 use Rattle.cell_paint.specs.Painting.{with_columns_where, is_in_some, paint_range}
 use Rattle.cell_paint.specs.Paints.{layout_on}
-use Rattle.cell_paint.specs.Settings.{AreSettable, AreAllSet}
+use Rattle.cell_paint.specs.steps.Settings.{AreSettable, AreAllSet}
 use Rattle.cell_paint.proofs.AreaLaws.{fitting_covered}
 use Rattle.cell_paint.proofs.PaintLaws.{whole_same, all_settable, changed_alike, stroke_done}
 use Rattle.cell_paint.proofs.paints.change_planes.Goals as goal

@@ -2,7 +2,7 @@ use Rattle.std.proofs.Common.{◌+◌, List, [], ◌∷◌, length, ◌∙◌, a
 use Rattle.std.proofs.lemmas.List.{length-append}
 use Rattle.ext_model.specs.declared.records.FetRec.{FetRec}
 use Rattle.fet_regions.specs.declared.transistors.Fet.{Fet}
-use Rattle.cell_records.specs.FetsOfRegions.{IsRecordOfFet}
+use Rattle.cell_records.specs.steps.FetsOfRegions.{IsRecordOfFet}
 use Rattle.cell_records.proofs.RecordLists.{made_more}
 use Rattle.cell_records.proofs.fet_records.fet_records.Goals as goal
 

@@ -1,5 +1,5 @@
 use Rattle.std.proofs.Common.{◌≡◌, map, take}
-use Rattle.cell_records.specs.FetsOfRegions.{term_of}
+use Rattle.cell_records.specs.steps.FetsOfRegions.{term_of}
 use Rattle.cell_records.proofs.fet_records.terminals_of.Given as goal
 
 abbrev pub invariant-loop-terminal : goal.invariant-loop-terminal

@@ -5,7 +5,7 @@ use Rattle.std.specs.Ordering.{nat_cmp}
 use Rattle.std.specs.Prelude.{Option, Some, unwrap_or, slice_index}
 use Rattle.std.proofs.lemmas.Int.{to_z-of_z}
 use Rattle.finite_sets.specs.Total.{sum_on}
-use Rattle.cell_records.specs.Joined.{length_in}
+use Rattle.cell_records.specs.steps.Joined.{length_in}
 use Rattle.cell_records.proofs.JoinedLaws.{told_or, told_more, part_fits, is_key}
 use Rattle.cell_records.proofs.joining.lengths_of.Goals as goal
 

@@ -18,8 +18,8 @@ use Rattle.fet_regions.specs.Transistors.{transistor_of}
 use Rattle.cell_nodes.specs.NodeRecords.{AreNodeRecords}
 use Rattle.cell_nodes.proofs.PaintLaws.{paint_is_near}
 use Rattle.own_record_laws.specs.TreeRecords.FetRecords.{AreFetRecords, IsNodeBefore}
-use Rattle.cell_records.specs.Exts.{IsExtOf}
-use Rattle.cell_records.specs.FetsOfRegions.{IsSmallFet, AreRecordsOfFets}
+use Rattle.cell_records.specs.steps.Exts.{IsExtOf}
+use Rattle.cell_records.specs.steps.FetsOfRegions.{IsSmallFet, AreRecordsOfFets}
 use Rattle.cell_records.proofs.OwnFets.{fets_are_small, own_fets}
 use Rattle.cell_records.proofs.records.cell_record.Goals as goal
 

@@ -2,7 +2,7 @@ use Rattle.std.proofs.Common.{arith}
 use Rattle.std.proofs.lemmas.Int.{ints}
 use Rattle.geo_core.proofs.SquareLaws.{rect_is}
 use Rattle.cif_expansion.specs.Reach.{LiesInRange}
-use Rattle.cif_expansion.specs.WideRects.{area_of}
+use Rattle.cif_expansion.specs.steps.WideRects.{area_of}
 use Rattle.cif_expansion.proofs.placements.within_range.Goals as goal
 
 pub returns : goal.returns

@@ -1,6 +1,6 @@
 use Rattle.std.proofs.Common.{◌≡◌, ◌++◌, drop, map, true}
 use Rattle.std.specs.List.{list_all}
-use Rattle.cif_reading.specs.Steps.{move_is_in_range, move_said}
+use Rattle.cif_reading.specs.SaidSteps.{move_is_in_range, move_said}
 use Rattle.cif_reading.proofs.steps.moves_said.Given as goal
 
 abbrev pub invariant-loop-step : goal.invariant-loop-step

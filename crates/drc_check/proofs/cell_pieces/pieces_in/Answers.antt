@@ -13,10 +13,10 @@ use Rattle.cell_library.specs.LayoutTrees.{tree_at}
 use Rattle.cell_library.specs.Libraries.{LibraryParts, seen}
 use Rattle.cell_library.specs.PartTiles.{IsPartTileIn, set_of_part, set_of_tiles}
 use Rattle.drc_check.specs.declared.pieces.ListedPiece.{ListedPiece}
-use Rattle.drc_check.specs.Bands.{AreBandsOf}
-use Rattle.drc_check.specs.CellPieces.{AreListedPiecesIn}
-use Rattle.drc_check.specs.Listed.{IsMarkedType}
-use Rattle.drc_check.specs.Pieces.{AddsListed}
+use Rattle.drc_check.specs.steps.Bands.{AreBandsOf}
+use Rattle.drc_check.specs.steps.CellPieces.{AreListedPiecesIn}
+use Rattle.drc_check.specs.steps.Listed.{IsMarkedType}
+use Rattle.drc_check.specs.steps.Pieces.{AddsListed}
 use Rattle.drc_check.proofs.VisitPieces.{bands_are_hull, next_band, pieces_of_visit}
 use Rattle.drc_check.proofs.cell_pieces.pieces_in.Goals as goal
 

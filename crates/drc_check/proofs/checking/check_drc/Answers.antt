@@ -9,8 +9,8 @@ use Rattle.drc_rules.specs.declared.limits.TheConstants.{MOST_RULES}
 use Rattle.drc_rules.specs.LawfulRules.{IsLawfulRule}
 use Rattle.drc_check.specs.declared.pieces.ListedPiece.{ListedPiece}
 use Rattle.drc_check.specs.declared.violations.Violation.{Violation}
-use Rattle.drc_check.specs.Checks.{IsSoundPiece, ViolatesIn}
-use Rattle.drc_check.specs.Pieces.{AreListedPieces, IsListedAt}
+use Rattle.drc_check.specs.steps.Checks.{IsSoundPiece, ViolatesIn}
+use Rattle.drc_check.specs.steps.Pieces.{AreListedPieces, IsListedAt}
 use Rattle.drc_check.specs.Violations.{AreRuleStripsFrom, AreViolations, Violates}
 use Rattle.drc_check.proofs.SquareLaws.{violates_by_pieces, violates_in_pieces}
 use Rattle.drc_check.proofs.ViolationLaws.{if_ok_then, strip_of_rule, strips_alike}

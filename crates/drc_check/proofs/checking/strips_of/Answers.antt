@@ -11,7 +11,7 @@ use Rattle.square_sets.specs.Boxes.{IsTooNarrow, IsTooNear, IsTooTight}
 use Rattle.square_sets.specs.Reaches.{IsBounded}
 use Rattle.tech_model.specs.declared.raw.TypeId.{TypeId}
 use Rattle.drc_rules.specs.declared.rules.RuleKind.{RuleKind}
-use Rattle.drc_check.specs.Checks.{areas_of_list}
+use Rattle.drc_check.specs.steps.Checks.{areas_of_list}
 use Rattle.drc_check.specs.Violations.{ViolatesBy}
 use Rattle.drc_check.proofs.AreaLaws.{areas_bounded, areas_proper}
 use Rattle.drc_check.proofs.checking.strips_of.Goals as goal

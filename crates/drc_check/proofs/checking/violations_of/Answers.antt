@@ -3,7 +3,7 @@ use Rattle.std.proofs.lemmas.List.{length-take-le, take_more}
 use Rattle.geo_core.specs.declared.squares.Rect.{Rect}
 use Rattle.drc_rules.specs.declared.rules.Rule.{Rule}
 use Rattle.drc_check.specs.declared.violations.Violation.{Violation}
-use Rattle.drc_check.specs.Checks.{ViolatesIn}
+use Rattle.drc_check.specs.steps.Checks.{ViolatesIn}
 use Rattle.drc_check.specs.Violations.{violation_of, AreRuleStripsFrom}
 use Rattle.drc_check.proofs.ViolationLaws.{strips_more}
 use Rattle.drc_check.proofs.checking.violations_of.Goals as goal

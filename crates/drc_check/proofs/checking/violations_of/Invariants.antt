@@ -1,5 +1,5 @@
 use Rattle.std.proofs.Common.{take}
-use Rattle.drc_check.specs.Checks.{ViolatesIn}
+use Rattle.drc_check.specs.steps.Checks.{ViolatesIn}
 use Rattle.drc_check.specs.Violations.{AreRuleStripsFrom}
 use Rattle.drc_check.proofs.checking.violations_of.Given as goal
 

@@ -3,7 +3,7 @@ use Rattle.std.proofs.lemmas.List.{take_all, take_more}
 use Rattle.finite_sets.specs.Lists.{In}
 use Rattle.finite_sets.proofs.Members.{In-push_cases}
 use Rattle.drc_rules.specs.declared.rules.Rule.{Rule}
-use Rattle.drc_check.specs.Listed.{IsListedType}
+use Rattle.drc_check.specs.steps.Listed.{IsListedType}
 use Rattle.drc_check.proofs.marks.listed_types.Goals as goal
 
 pub loop-rule-preserved : goal.loop-rule-preserved

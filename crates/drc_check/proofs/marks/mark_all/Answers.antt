@@ -4,7 +4,7 @@ use Rattle.std.proofs.lemmas.List.{take_more}
 use Rattle.finite_sets.specs.Lists.{In}
 use Rattle.finite_sets.proofs.Members.{In-push_cases}
 use Rattle.tech_model.specs.declared.raw.TypeId.{TypeId}
-use Rattle.drc_check.specs.Listed.{IsMarkedType}
+use Rattle.drc_check.specs.steps.Listed.{IsMarkedType}
 use Rattle.drc_check.proofs.MarkLaws.{mark_kept, mark_set}
 use Rattle.drc_check.proofs.marks.mark_all.Goals as goal
 

@@ -7,7 +7,7 @@ use Rattle.rect_overlays.specs.declared.stacks.Stack.{Stack}
 use Rattle.rect_overlays.specs.Stacks.{AreStacks}
 use Rattle.tech_model.specs.declared.raw.PartSet.{PartSet}
 use Rattle.tech_model.specs.declared.raw.RawTech.{RawTech}
-use Rattle.drc_check.specs.Pieces.{set_in, stack_piece, tiles_of_plane, HasMembersIn}
+use Rattle.drc_check.specs.steps.Pieces.{set_in, stack_piece, tiles_of_plane, HasMembersIn}
 use Rattle.drc_check.proofs.StackPieces.{areas_on, members_in, sets_on, stack_pieces, stack_pieces_lie}
 use Rattle.drc_check.proofs.pieces.add_of_plane.Goals as goal
 

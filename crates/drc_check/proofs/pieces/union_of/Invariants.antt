@@ -1,5 +1,5 @@
 use Rattle.std.proofs.Common.{◌≡◌, take}
-use Rattle.drc_check.specs.Pieces.{member_union}
+use Rattle.drc_check.specs.steps.Pieces.{member_union}
 use Rattle.drc_check.proofs.pieces.union_of.Given as goal
 
 abbrev pub invariant-loop-member : goal.invariant-loop-member

@@ -1,16 +1,17 @@
 use Rattle.std.proofs.Common.{◌≡◌, ◌≤◌, [], ◌∷◌, ◌++◌, inl, inr, length, refl, sym, arith, length-append}
 use Rattle.element_index.specs.declared.limits.TheConstants.{MOST_IDS}
-use Rattle.element_index.proofs.IdLaws.{found_id, unknown_id, new_id, last_id, there_In}
+use Rattle.element_index.proofs.IdLaws.{new_id, last_id, there_In}
 use Rattle.element_index.proofs.index.number_of.Goals as goal
+use Rattle.name_index.proofs.Positions.{stands_where_found, stands_nowhere}
 
 pub returns-in-Some-clause-number : goal.returns-in-Some-clause-number
-returns-in-Some-clause-number c = found_id c.args.ids.now c.args.id.now c.in-Some.number (sym c.in-Some.ensures)
+returns-in-Some-clause-number c = stands_where_found c.args.ids.now c.args.id.now c.in-Some.number (sym c.in-Some.ensures)
 
 pub returns-in-Some-clause-grown : goal.returns-in-Some-clause-grown
 returns-in-Some-clause-grown c =
     let ids = c.args.ids.now in
     let id = c.args.id.now in
-    inl (there_In ids id c.in-Some.number (found_id ids id c.in-Some.number (sym c.in-Some.ensures)), refl)
+    inl (there_In ids id c.in-Some.number (stands_where_found ids id c.in-Some.number (sym c.in-Some.ensures)), refl)
 
 pub returns-clause-number : goal.returns-clause-number
 returns-clause-number c =
@@ -26,4 +27,4 @@ returns-clause-grown c =
     let more : c.insert.new.self ≡ ids ++ id ∷ [] = new_id ids c.insert.new.self id (sym c.in_default.ensures) c.in_ok-insert.ensures.names in
     let few : length c.insert.new.self ≤ MOST_IDS =
     rw more (omega (arith, length-append ids (id ∷ []), c.len-number.ensures, c.if-number-ge-MOST_IDS.false)) in
-    inr (unknown_id ids id (sym c.in_default.ensures), more, few)
+    inr (stands_nowhere ids id (sym c.in_default.ensures), more, few)

@@ -3,7 +3,7 @@ use Rattle.std.proofs.lemmas.List.{get_or_default}
 use Rattle.std.proofs.lemmas.List.Sums.{sum_by_more}
 use Rattle.element_tree.specs.declared.tree.Branch.{Branch}
 use Rattle.element_tree.specs.Sizes.{value_at}
-use Rattle.element_tree.specs.RankSteps.{size_at}
+use Rattle.element_tree.specs.steps.RankSteps.{size_at}
 use Rattle.element_tree.proofs.Steps.{AreSteps-long, AreSteps-set, AreNumbers, number_within, numbers_long, numbers_sum, rank_steps_more}
 use Rattle.element_tree.proofs.branches.with_rank_steps.Goals as goal
 

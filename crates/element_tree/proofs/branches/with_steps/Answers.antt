@@ -3,7 +3,7 @@ use Rattle.std.proofs.lemmas.List.{take_more, get_or_default}
 use Rattle.std.proofs.lemmas.List.Sums.{sum_by_more}
 use Rattle.element_tree.specs.declared.tree.Branch.{Branch}
 use Rattle.element_tree.specs.Sizes.{value_at}
-use Rattle.element_tree.specs.Forests.{AreSteps}
+use Rattle.element_tree.specs.steps.Forests.{AreSteps}
 use Rattle.element_tree.proofs.Steps.{AreSteps-push}
 use Rattle.element_tree.proofs.branches.with_steps.Goals as goal
 

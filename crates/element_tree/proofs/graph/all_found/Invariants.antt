@@ -1,5 +1,5 @@
 use Rattle.std.proofs.Common.{◌≡◌, map, take}
-use Rattle.element_tree.specs.Goals.{found_goals}
+use Rattle.element_tree.specs.steps.Goals.{found_goals}
 use Rattle.element_tree.proofs.graph.all_found.Given as goal
 
 -- the records passed have their lists

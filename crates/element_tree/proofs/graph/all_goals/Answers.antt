@@ -4,7 +4,7 @@ use Rattle.std.specs.Str.{bytes_eq}
 use Rattle.std.proofs.lemmas.List.{map_more}
 use Rattle.ext_model.specs.declared.records.UseRec.{UseRec}
 use Rattle.ext_model.specs.declared.records.CellExt.{CellExt}
-use Rattle.element_tree.specs.Goals.{goals_in}
+use Rattle.element_tree.specs.steps.Goals.{goals_in}
 use Rattle.element_tree.proofs.graph.all_goals.Goals as goal
 
 pub loop-ext-preserved : goal.loop-ext-preserved

@@ -1,5 +1,5 @@
 use Rattle.std.proofs.Common.{◌≡◌, take}
-use Rattle.element_tree.specs.Goals.{found_goals}
+use Rattle.element_tree.specs.steps.Goals.{found_goals}
 use Rattle.element_tree.proofs.graph.found.Given as goal
 
 -- those among the goals passed have been taken

@@ -1,8 +1,8 @@
 use Rattle.std.proofs.Common.{◌≡◌, ◌<◌, length, ◌-◌, refl, sym, ◌∙◌, ap, subst, arith, inr, reverse, [], ◌∷◌, ◌++◌, get_or, set, vec_len}
 use Rattle.std.specs.Option.{option_to_list}
 use Rattle.element_tree.specs.declared.walks.Mark.TheVariants.{New, Open}
-use Rattle.element_tree.specs.Walks.{uses_of}
-use Rattle.element_tree.specs.UnderWay.{IsUnderWay}
+use Rattle.element_tree.specs.steps.Walks.{uses_of}
+use Rattle.element_tree.specs.steps.UnderWay.{IsUnderWay}
 use Rattle.element_tree.proofs.WalkLaws.{started}
 use Rattle.element_tree.proofs.Turns.{top_from, some_top, get_or-replicate_same, at_any, top_within, child_within, turn_nowhere, turn_cycle, turn_done, turn_new}
 use Rattle.element_tree.proofs.Turns.{turn_over, falls_taken, taken_fits, falls_done}

@@ -7,7 +7,7 @@ use Rattle.ext_cache.specs.Caches.{dirty_cells, is_dirty, stamp_in, with_record}
 use Rattle.ext_cache.specs.declared.extraction.Extracted.{Extracted}
 use Rattle.ext_cache.specs.declared.undo.Undo.{Undo}
 use Rattle.ext_cache.specs.Refusals.{IsUncleanIn}
-use Rattle.ext_cache.specs.Undoing.{undo_of}
+use Rattle.ext_cache.specs.steps.Undoing.{undo_of}
 use Rattle.tree_merges.proofs.HierMerge.CleanOrders.{clean_before, first_unclean_there, number_at, numbers, ordered_there}
 use Rattle.ext_cache.proofs.LoopLaws.{has_work_next, has_work_passed, kept_below, made_along, passed, renewed, told_dirty, work_all, work_next}
 use Rattle.ext_cache.proofs.LoopLaws.{work_passed}

@@ -6,7 +6,7 @@ use Rattle.session_model.proofs.StopLaws.{refusal_told}
 use Rattle.ext_loading.specs.declared.faults.ExtLoadFault.{ExtLoadFault}
 use Rattle.ext_loading.specs.Loads.{IsFitTree, LoadGives, LoadIsRefused}
 use Rattle.ext_loading.specs.Readings.{circuit_files}
-use Rattle.ext_loading.specs.Trees.{GivesTree}
+use Rattle.ext_loading.specs.steps.Trees.{GivesTree}
 use Rattle.ext_loading.proofs.LoadLaws.{file_refuses, tree_fits, tree_given}
 use Rattle.ext_loading.proofs.Positions.{children_are_cells}
 use Rattle.ext_loading.proofs.loading.load_exts.Goals as goal

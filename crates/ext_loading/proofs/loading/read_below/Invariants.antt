@@ -5,7 +5,7 @@ use Rattle.session_model.specs.Causes.{IsCalm}
 use Rattle.session_model.specs.Effects.{after_fetches}
 use Rattle.session_model.specs.FileTrees.{GoesOn, files_of}
 use Rattle.ext_loading.specs.Readings.{circuit_files}
-use Rattle.ext_loading.specs.Trees.{work_left, AreSoFar}
+use Rattle.ext_loading.specs.steps.Trees.{work_left, AreSoFar}
 use Rattle.ext_loading.proofs.loading.read_below.Given as goal
 
 abbrev pub invariant-names : goal.invariant-names

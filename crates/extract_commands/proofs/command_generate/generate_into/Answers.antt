@@ -6,7 +6,7 @@ use Rattle.extract_commands.specs.declared.command_generate.MadeStack.{MadeStack
 use Rattle.workspace.specs.KeptSessions.{edited_state}
 use Rattle.session_model.specs.declared.report.ReportLine.{ReportLine}
 use Rattle.extract_commands.specs.CommandGenerate.{GeneratesStack, unless_refused}
-use Rattle.extract_commands.specs.MadeStacks.{IsCellOf, IsStackMade}
+use Rattle.extract_commands.specs.steps.MadeStacks.{IsCellOf, IsStackMade}
 use Rattle.line_answers.proofs.AnswerLaws.{both_ok}
 use Rattle.extract_commands.proofs.GenerateLaws.{stack_made, stack_refused}
 use Rattle.extract_commands.proofs.command_generate.generate_into.Goals as goal

@@ -5,7 +5,7 @@ use Rattle.std.proofs.lemmas.List.Folds.{list_any_at, list_any_more}
 use Rattle.std.proofs.lemmas.Slice.Zip.{get_or-zip, length-zip, zip_end, zip_turn}
 use Rattle.vector_runs.specs.declared.watching.Seen.{Seen}
 use Rattle.vector_runs.specs.Running.{states_of}
-use Rattle.fault_grade.specs.Comparing.{is_shown_apart}
+use Rattle.fault_grade.specs.steps.Comparing.{is_shown_apart}
 use Rattle.fault_grade.proofs.comparing.are_apart.Goals as goal
 
 -- the test at a place of the pairs

@@ -1,7 +1,7 @@
 use Rattle.std.proofs.Common.{◌≡◌, false, length, take}
 use Rattle.std.specs.List.{list_any, zip}
 use Rattle.vector_runs.specs.Running.{states_of}
-use Rattle.fault_grade.specs.Comparing.{is_shown_apart}
+use Rattle.fault_grade.specs.steps.Comparing.{is_shown_apart}
 use Rattle.fault_grade.proofs.comparing.are_apart.Given as goal
 
 abbrev pub invariant-loop-named : goal.invariant-loop-named

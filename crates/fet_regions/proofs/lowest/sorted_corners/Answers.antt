@@ -2,8 +2,8 @@ use Rattle.std.proofs.Common.{◌≡◌, ℕ, ◌∷◌, ◌++◌, [], true, fal
 use Rattle.std.specs.List.{range_with_len}
 use Rattle.std.proofs.lemmas.List.{append-nil}
 use Rattle.flood_nodes.specs.TileShares.{tile_at}
-use Rattle.fet_regions.specs.Lowest.{corner_at, channel_corners}
-use Rattle.fet_regions.specs.Roles.{channel_in}
+use Rattle.fet_regions.specs.steps.Lowest.{corner_at, channel_corners}
+use Rattle.fet_regions.specs.steps.Roles.{channel_in}
 use Rattle.fet_regions.specs.declared.lowest.Corner.{Corner}
 use Rattle.fet_regions.proofs.LowestLaws.{corners_taken, corners_sorted, corners_within}
 use Rattle.fet_regions.proofs.lowest.sorted_corners.Goals as goal

@@ -5,7 +5,7 @@ use Rattle.std.proofs.lemmas.List.FromFn.{map-range_with_len_more}
 use Rattle.key_sums.specs.declared.Amount.{Amount}
 use Rattle.rect_contacts.specs.Squares.{area_of}
 use Rattle.flood_nodes.specs.TileShares.{tile_at}
-use Rattle.fet_regions.specs.Sizes.{area_amount}
+use Rattle.fet_regions.specs.steps.Sizes.{area_amount}
 use Rattle.fet_regions.proofs.sizes.area_amounts.Goals as goal
 
 pub loop-place-preserved : goal.loop-place-preserved

@@ -5,7 +5,7 @@ use Rattle.std.proofs.lemmas.Int.{to_z-of_z}
 use Rattle.std.proofs.lemmas.List.{append-nil}
 use Rattle.key_sums.specs.declared.Amount.{Amount}
 use Rattle.rect_contacts.specs.declared.contacts.Contact.{Contact}
-use Rattle.fet_regions.specs.Sizes.{taken_off}
+use Rattle.fet_regions.specs.steps.Sizes.{taken_off}
 use Rattle.fet_regions.proofs.ContactLaws.{shared_more}
 use Rattle.fet_regions.proofs.sizes.push_shared.Goals as goal
 use Rattle.fet_regions.proofs.sizes.push_shared.Goals.{then-eq+in_ok-push_both, else-eq}

@@ -1,6 +1,6 @@
 use Rattle.std.proofs.Common.{◌≡◌, ℕ, List, length, subst, arith}
 use Rattle.measures.proofs.AmountLaws.{contacts_within, contacts_some}
-use Rattle.fet_regions.specs.Roles.{channel_in, terminal_in}
+use Rattle.fet_regions.specs.steps.Roles.{channel_in, terminal_in}
 use Rattle.fet_regions.specs.Transistors.{AreFets}
 use Rattle.fet_regions.proofs.FetLaws.{fets_found, fets_by_region}
 use Rattle.fet_regions.proofs.transistors.fets_of.Goals as goal

@@ -1,6 +1,6 @@
 use Rattle.std.proofs.Common.{◌≡◌, ℕ, ◌<◌, ◌≤◌, length}
 use Rattle.circuit_model.specs.FlatNodes.{measure_of}
-use Rattle.flatten.specs.Amounts.{AddsMeasure}
+use Rattle.flatten.specs.steps.Amounts.{AddsMeasure}
 use Rattle.flatten.proofs.adding.add_measures.Given as goal
 
 abbrev pub invariant-loop-class : goal.invariant-loop-class

@@ -1,6 +1,6 @@
 use Rattle.std.proofs.Common.{◌≡◌, ℕ, List, length, ◌∙◌, subst, arith}
 use Rattle.full_names.specs.Names.{elements_in}
-use Rattle.flatten.specs.Spots.{AreNamedOf}
+use Rattle.flatten.specs.steps.Spots.{AreNamedOf}
 use Rattle.flatten.proofs.NodeLaws.{so_many}
 use Rattle.flatten.proofs.FlatNodeLaws.{named_filled, flat_nodes_are}
 use Rattle.flatten.proofs.circuits.flat_nodes.Goals as goal

@@ -7,9 +7,9 @@ use Rattle.geo_core.specs.Images.{image}
 use Rattle.ext_model.specs.declared.records.TermRec.{TermRec}
 use Rattle.element_tree.specs.declared.tree.ElementTree.{ElementTree}
 use Rattle.flatten.proofs.FlatLimits.TreeLaws.{no_flat}
-use Rattle.flatten.specs.Spots.{element_at}
+use Rattle.flatten.specs.steps.Spots.{element_at}
 use Rattle.flatten.proofs.SpotLaws.{element_here, read_small}
-use Rattle.flatten.specs.Sides.{AreFlatTerminals}
+use Rattle.flatten.specs.steps.Sides.{AreFlatTerminals}
 use Rattle.flatten.proofs.fets.flat_fet.Goals as goal
 
 abbrev square : ℤ → ℤ → Square

@@ -1,10 +1,10 @@
 use Rattle.std.proofs.Common.{length, sym, ◌∙◌, ap, arith}
 use Rattle.full_names.specs.Names.{elements_in}
 use Rattle.circuit_model.specs.FullNames.{name_in}
-use Rattle.flatten.specs.Spots.{element_at}
+use Rattle.flatten.specs.steps.Spots.{element_at}
 use Rattle.flatten.proofs.GroupLaws.{label_below}
 use Rattle.flatten.proofs.SpotLaws.{spot_named}
-use Rattle.flatten.specs.Sides.{name_of_node}
+use Rattle.flatten.specs.steps.Sides.{name_of_node}
 use Rattle.flatten.proofs.TerminalLaws.{node_name_is, name_read}
 use Rattle.flatten.proofs.fets.flat_gate.Goals as goal
 

@@ -4,7 +4,7 @@ use Rattle.circuit_model.specs.Elements.{Element}
 use Rattle.flatten.specs.Sinks.{GivesFets}
 use Rattle.ext_model.specs.declared.records.FetRec.{FetRec}
 use Rattle.circuit_model.specs.FlatFets.{IsFlatFet}
-use Rattle.flatten.specs.Spots.{AreFetSpots, element_at, cell_at}
+use Rattle.flatten.specs.steps.Spots.{AreFetSpots, element_at, cell_at}
 use Rattle.flatten.proofs.PlaceLaws.{AreAlong-read}
 use Rattle.flatten.proofs.FetLaws.{gives_more, gives_none}
 use Rattle.flatten.proofs.fets.give_fets.Goals as goal

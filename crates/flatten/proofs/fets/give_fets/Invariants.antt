@@ -1,5 +1,5 @@
 use Rattle.std.proofs.Common.{map, take}
-use Rattle.flatten.specs.Spots.{element_at}
+use Rattle.flatten.specs.steps.Spots.{element_at}
 use Rattle.flatten.specs.Sinks.{GivesFets}
 use Rattle.flatten.proofs.fets.give_fets.Given as goal
 

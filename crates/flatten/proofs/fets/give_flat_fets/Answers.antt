@@ -10,7 +10,7 @@ use Rattle.full_names.specs.Names.{elements_in}
 use Rattle.flatten.proofs.FlatLimits.TreeLaws.{no_flat}
 use Rattle.flatten.specs.declared.spots.FetSpots.{FetSpots}
 use Rattle.flatten.specs.Sinks.{GivesFets}
-use Rattle.flatten.specs.Spots.{AreFetSpotsOf, element_at, cell_at, no_element}
+use Rattle.flatten.specs.steps.Spots.{AreFetSpotsOf, element_at, cell_at, no_element}
 use Rattle.flatten.proofs.SpotLaws.{element_read, spots_read}
 use Rattle.flatten.proofs.NameClasses.TreeLaws.{tree_of_names}
 use Rattle.std.proofs.lemmas.List.{take_all}

@@ -2,7 +2,7 @@ use Rattle.std.proofs.Common.{◌≡◌, ℕ, ◌<◌, ◌≤◌, length, vec_le
 use Rattle.std.specs.Prelude.{Some, slice_get}
 use Rattle.ext_model.specs.declared.records.NodeRec.{NodeRec}
 use Rattle.flatten.specs.declared.sums.NodeSum.{NodeSum}
-use Rattle.flatten.specs.Filled.{with_sum}
+use Rattle.flatten.specs.steps.Filled.{with_sum}
 use Rattle.flatten.proofs.filling.with_sums.Given as goal
 
 abbrev pub invariant-loop-sum : goal.invariant-loop-sum

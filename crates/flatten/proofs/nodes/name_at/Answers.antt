@@ -1,6 +1,6 @@
 use Rattle.std.proofs.Common.{◌≡◌, ℕ, List, ◌∙◌, sym, subst}
 use Rattle.std.proofs.lemmas.Result.{IfOk-weaker}
-use Rattle.flatten.specs.Named.{HasText}
+use Rattle.flatten.specs.steps.Named.{HasText}
 use Rattle.flatten.proofs.PlacedLaws.{has_text}
 use Rattle.flatten.proofs.nodes.name_at.Goals as goal
 

@@ -6,7 +6,7 @@ use Rattle.finite_sets.proofs.Places.{In-slice_get}
 use Rattle.ext_model.specs.declared.records.NodeRec.{NodeRec}
 use Rattle.ext_model.specs.RecordNames.{names_of}
 use Rattle.full_names.specs.Names.{elements_in}
-use Rattle.flatten.specs.Named.{HasAlias, ArePlaced}
+use Rattle.flatten.specs.steps.Named.{HasAlias, ArePlaced}
 use Rattle.flatten.proofs.PlacedLaws.{placed_alias, placed_set, placed_push}
 use Rattle.flatten.proofs.ScanLaws.{AreNamedUpTo, scan_alias, scan_new, next_label, scan_all}
 use Rattle.flatten.proofs.nodes.named_nodes.Goals as goal

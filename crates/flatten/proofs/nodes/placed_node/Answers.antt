@@ -9,7 +9,7 @@ use Rattle.element_tree.specs.declared.tree.ElementTree.{ElementTree}
 use Rattle.geo_core.specs.Images.{image}
 use Rattle.circuit_model.specs.Elements.{Element, placed}
 use Rattle.flatten.proofs.FlatLimits.TreeLaws.{no_flat}
-use Rattle.flatten.specs.Spots.{element_at}
+use Rattle.flatten.specs.steps.Spots.{element_at}
 use Rattle.flatten.proofs.PlacedLaws.{origin_here, lies_in_reach}
 use Rattle.flatten.proofs.SpotLaws.{read_small}
 use Rattle.flatten.proofs.nodes.placed_node.Goals as goal

@@ -6,7 +6,7 @@ use Rattle.std.proofs.lemmas.Option.{slice_get_within}
 use Rattle.name_classes.proofs.TreeLaws.{tree_of_names}
 use Rattle.full_names.specs.Names.{IsReached}
 use Rattle.flat_limits.proofs.TreeLaws.{no_flat}
-use Rattle.flatten.specs.Spots.{cell_at}
+use Rattle.flatten.specs.steps.Spots.{cell_at}
 use Rattle.flatten.proofs.PlaceLaws.{place_set, place_set_cases, place_set_again}
 use Rattle.flatten.proofs.SpotLaws.{element_here}
 use Rattle.flatten.proofs.reached.reached_cells.Goals as goal

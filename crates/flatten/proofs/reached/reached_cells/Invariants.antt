@@ -1,7 +1,7 @@
 use Rattle.std.proofs.Common.{◌≡◌, ℕ, ◌<◌, length, true}
 use Rattle.std.specs.Prelude.{Some, slice_get}
 use Rattle.full_names.specs.Names.{IsReached}
-use Rattle.flatten.specs.Spots.{cell_at}
+use Rattle.flatten.specs.steps.Spots.{cell_at}
 use Rattle.flatten.proofs.reached.reached_cells.Given as goal
 
 abbrev pub invariant-loop-element : goal.invariant-loop-element

@@ -4,9 +4,9 @@ use Rattle.std.proofs.lemmas.Result.{IfOk-weaker}
 use Rattle.finite_sets.proofs.Searches.{All-from_In}
 use Rattle.ext_model.specs.declared.records.TermRec.{TermRec}
 use Rattle.full_names.specs.Names.{elements_in}
-use Rattle.flatten.specs.Spots.{element_at}
+use Rattle.flatten.specs.steps.Spots.{element_at}
 use Rattle.flatten.specs.declared.sides.Side.{Side}
-use Rattle.flatten.specs.Sides.{side_of, AreJoined, named_side, AreFlatTerminals}
+use Rattle.flatten.specs.steps.Sides.{side_of, AreJoined, named_side, AreFlatTerminals}
 use Rattle.flatten.proofs.TerminalLaws.{terminals_named, joined_within, flat_terminals_are}
 use Rattle.flatten.proofs.sides.flat_terminals.Goals as goal
 

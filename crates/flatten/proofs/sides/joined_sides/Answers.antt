@@ -5,7 +5,7 @@ use Rattle.std.proofs.lemmas.List.{take_more, take_all}
 use Rattle.std.proofs.lemmas.List.Sorted.{sum_by-IsPermutation}
 use Rattle.std.proofs.lemmas.List.Sums.{sum_by_more_le}
 use Rattle.flatten.specs.declared.sides.Side.{Side}
-use Rattle.flatten.specs.Sides.{AreByNode, AreJoined}
+use Rattle.flatten.specs.steps.Sides.{AreByNode, AreJoined}
 use Rattle.flatten.proofs.JoinLaws.{fits_last, join_more, joined_any_order, late_by_node}
 use Rattle.flatten.proofs.sides.joined_sides.Goals as goal
 

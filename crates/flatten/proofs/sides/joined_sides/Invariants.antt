@@ -1,5 +1,5 @@
 use Rattle.std.proofs.Common.{take}
-use Rattle.flatten.specs.Sides.{AreJoined}
+use Rattle.flatten.specs.steps.Sides.{AreJoined}
 use Rattle.flatten.proofs.sides.joined_sides.Given as goal
 
 abbrev pub invariant-loop-side : goal.invariant-loop-side

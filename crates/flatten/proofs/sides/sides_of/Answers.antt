@@ -5,10 +5,10 @@ use Rattle.std.proofs.lemmas.List.{map_more}
 use Rattle.ext_model.specs.declared.records.TermRec.{TermRec}
 use Rattle.full_names.specs.declared.names.Spot.TheVariants.{Local}
 use Rattle.full_names.specs.Names.{IsSpotOf}
-use Rattle.flatten.specs.Spots.{element_at, cell_at}
+use Rattle.flatten.specs.steps.Spots.{element_at, cell_at}
 use Rattle.flatten.proofs.PlaceLaws.{AreAlong-at}
 use Rattle.flatten.specs.declared.sides.Side.{Side}
-use Rattle.flatten.specs.Sides.{side_of}
+use Rattle.flatten.specs.steps.Sides.{side_of}
 use Rattle.flatten.proofs.sides.sides_of.Goals as goal
 
 abbrev name_of : TermRec → List ℕ

@@ -4,7 +4,7 @@ use Rattle.std.proofs.lemmas.Option.{slice_get_read, same_Some, get_or_from_slic
 use Rattle.finite_sets.proofs.Places.{slice_get-push_cases}
 use Rattle.ext_model.specs.declared.records.CellExt.{CellExt}
 use Rattle.flatten.specs.declared.spots.CellSpots.{CellSpots}
-use Rattle.flatten.specs.Spots.{AreSpotsIn, cell_at, element_at}
+use Rattle.flatten.specs.steps.Spots.{AreSpotsIn, cell_at, element_at}
 use Rattle.flatten.proofs.SpotLaws.{flat_here}
 use Rattle.flatten.proofs.spots.cell_spots.Goals as goal
 

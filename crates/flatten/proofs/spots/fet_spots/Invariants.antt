@@ -1,5 +1,5 @@
 use Rattle.std.proofs.Common.{take}
-use Rattle.flatten.specs.Spots.{AreFetSpotsOf}
+use Rattle.flatten.specs.steps.Spots.{AreFetSpotsOf}
 use Rattle.flatten.proofs.spots.fet_spots.Given as goal
 
 abbrev pub invariant-loop-fet : goal.invariant-loop-fet

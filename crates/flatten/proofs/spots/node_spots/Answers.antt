@@ -3,7 +3,7 @@ use Rattle.finite_sets.proofs.Members.{In-map}
 use Rattle.ext_model.specs.declared.records.NodeRec.{NodeRec}
 use Rattle.full_names.specs.declared.names.Spot.{Spot}
 use Rattle.full_names.specs.Names.{IsSpotOf}
-use Rattle.flatten.specs.Spots.{AreSpotsOf}
+use Rattle.flatten.specs.steps.Spots.{AreSpotsOf}
 use Rattle.flatten.proofs.PlaceLaws.{AreAlong-more, In-read}
 use Rattle.flatten.proofs.spots.node_spots.Goals as goal
 

@@ -1,5 +1,5 @@
 use Rattle.std.proofs.Common.{map, take}
-use Rattle.flatten.specs.Spots.{AreSpotsOf}
+use Rattle.flatten.specs.steps.Spots.{AreSpotsOf}
 use Rattle.flatten.proofs.spots.node_spots.Given as goal
 
 abbrev pub invariant-loop-node : goal.invariant-loop-node

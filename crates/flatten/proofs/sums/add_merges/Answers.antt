@@ -4,9 +4,9 @@ use Rattle.std.proofs.lemmas.List.{take_all}
 use Rattle.ext_model.specs.declared.records.MergeRec.{MergeRec}
 use Rattle.full_names.specs.declared.names.Spot.TheVariants.{Local}
 use Rattle.name_classes.specs.declared.classes.MergeEnd.{MergeEnd}
-use Rattle.flatten.specs.Labels.{label_of}
-use Rattle.flatten.specs.Spots.{element_at}
-use Rattle.flatten.specs.Sums.{AddAll, merge_addend}
+use Rattle.flatten.specs.steps.Labels.{label_of}
+use Rattle.flatten.specs.steps.Spots.{element_at}
+use Rattle.flatten.specs.steps.Sums.{AddAll, merge_addend}
 use Rattle.flatten.proofs.AddingLaws.{step_fits, step_adds}
 use Rattle.flatten.proofs.EndLaws.{end_here}
 use Rattle.flatten.proofs.sums.add_merges.Goals as goal

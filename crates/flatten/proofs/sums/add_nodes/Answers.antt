@@ -4,9 +4,9 @@ use Rattle.std.proofs.lemmas.List.{take_all}
 use Rattle.ext_model.specs.declared.records.NodeRec.{NodeRec}
 use Rattle.full_names.specs.declared.names.Spot.TheVariants.{Local}
 use Rattle.full_names.specs.Names.{IsSpotOf}
-use Rattle.flatten.specs.Spots.{element_at, cell_at}
+use Rattle.flatten.specs.steps.Spots.{element_at, cell_at}
 use Rattle.flatten.proofs.PlaceLaws.{AreAlong-at}
-use Rattle.flatten.specs.Sums.{AddAll, node_addend}
+use Rattle.flatten.specs.steps.Sums.{AddAll, node_addend}
 use Rattle.flatten.proofs.AddingLaws.{step_fits, step_adds}
 use Rattle.flatten.proofs.sums.add_nodes.Goals as goal
 

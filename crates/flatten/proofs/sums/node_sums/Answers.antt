@@ -10,11 +10,11 @@ use Rattle.name_classes.specs.declared.classes.MergeEnd.{MergeEnd}
 use Rattle.name_classes.specs.Classes.{HasEnds}
 use Rattle.name_classes.proofs.TreeLaws.{tree_of_names}
 use Rattle.flatten.proofs.FlatLimits.TreeLaws.{no_flat}
-use Rattle.flatten.specs.Spots.{AreSpotsOf, element_at, cell_at, no_element}
+use Rattle.flatten.specs.steps.Spots.{AreSpotsOf, element_at, cell_at, no_element}
 use Rattle.flatten.proofs.SpotLaws.{element_here, element_read, spots_read}
 use Rattle.flatten.specs.declared.sums.NodeSum.{NodeSum}
-use Rattle.flatten.specs.Sums.{HaveSums, AddNodes, AddMerges, Addend, addends_in, node_addends, merge_addends}
-use Rattle.flatten.specs.Sums.Quantity.{Capacitance, Area, Perimeter}
+use Rattle.flatten.specs.steps.Sums.{HaveSums, AddNodes, AddMerges, Addend, addends_in, node_addends, merge_addends}
+use Rattle.flatten.specs.steps.Sums.Quantity.{Capacitance, Area, Perimeter}
 use Rattle.flatten.proofs.EndLaws.{node_named, merge_named}
 use Rattle.flatten.proofs.NodeLaws.{has_name_is}
 use Rattle.flatten.proofs.PlaceLaws.{refilled}

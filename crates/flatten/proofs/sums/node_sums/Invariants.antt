@@ -2,7 +2,7 @@ use Rattle.std.proofs.Common.{ℕ, List, take}
 use Rattle.std.specs.List.{flat_map}
 use Rattle.full_names.specs.NameLists.{IsFullNameList}
 use Rattle.full_names.specs.Names.{elements_in}
-use Rattle.flatten.specs.Sums.{HaveSums, addends_in}
+use Rattle.flatten.specs.steps.Sums.{HaveSums, addends_in}
 use Rattle.flatten.proofs.sums.node_sums.Given as goal
 
 abbrev pub invariant-loop-number : goal.invariant-loop-number

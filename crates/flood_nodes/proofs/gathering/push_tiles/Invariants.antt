@@ -1,5 +1,5 @@
 use Rattle.std.proofs.Common.{◌≡◌, ◌++◌, map, take}
-use Rattle.flood_nodes.specs.Gathered.{tile_on}
+use Rattle.flood_nodes.specs.steps.Gathered.{tile_on}
 use Rattle.flood_nodes.proofs.gathering.push_tiles.Given as goal
 
 abbrev pub invariant-loop-area : goal.invariant-loop-area

@@ -11,7 +11,7 @@ use Rattle.finite_sets.proofs.Members.{In-get_or}
 use Rattle.layout_model.specs.declared.region_tiles.RegionTile.{RegionTile}
 use Rattle.rect_contacts.specs.declared.contacts.Contact.{Contact}
 use Rattle.rect_contacts.specs.Contacts.{IsSharedEdge}
-use Rattle.flood_nodes.specs.Runs.{areas_of, shifted}
+use Rattle.flood_nodes.specs.steps.Runs.{areas_of, shifted}
 use Rattle.flood_nodes.proofs.RunLaws.{areas_apart}
 use Rattle.flood_nodes.proofs.sharing.add_contacts.Goals as goal
 

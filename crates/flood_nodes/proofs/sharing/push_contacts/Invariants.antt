@@ -1,5 +1,5 @@
 use Rattle.std.proofs.Common.{◌≡◌, ◌++◌, map, take}
-use Rattle.flood_nodes.specs.Runs.{shifted}
+use Rattle.flood_nodes.specs.steps.Runs.{shifted}
 use Rattle.flood_nodes.proofs.sharing.push_contacts.Given as goal
 
 abbrev pub invariant-loop-contact : goal.invariant-loop-contact

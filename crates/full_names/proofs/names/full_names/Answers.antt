@@ -9,9 +9,9 @@ use Rattle.full_names.specs.declared.keys.NameKey.{NameKey}
 use Rattle.full_names.specs.declared.places.Place.{Place}
 use Rattle.full_names.specs.OwnNames.{AreAllNames}
 use Rattle.full_names.specs.Globals.{AreGlobalNames}
-use Rattle.full_names.specs.ByteCounts.{global_bytes, element_bytes}
+use Rattle.full_names.specs.steps.ByteCounts.{global_bytes, element_bytes}
 use Rattle.full_names.specs.Places.{ArePlaces}
-use Rattle.full_names.specs.Keys.{IsFitPlace, AreKeys}
+use Rattle.full_names.specs.steps.Keys.{IsFitPlace, AreKeys}
 use Rattle.full_names.specs.Orders.{AreStandings}
 use Rattle.full_names.proofs.NamesMade.{of_records, firsts_within, many_bytes, few_bytes, fits, slots_below, names_made}
 use Rattle.full_names.proofs.names.full_names.Goals as goal

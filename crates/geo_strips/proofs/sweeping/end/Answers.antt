@@ -7,7 +7,7 @@ use Rattle.std.proofs.lemmas.Int.{to_z-of_z}
 use Rattle.std.proofs.lemmas.List.{take_more}
 use Rattle.geo_strips.specs.declared.coverage.Gap.{Gap}
 use Rattle.geo_strips.specs.RowRuns.{IsUncovered}
-use Rattle.geo_strips.specs.Sweeping.{row_of}
+use Rattle.geo_strips.specs.steps.Sweeping.{row_of}
 use Rattle.geo_strips.proofs.SweepLaws.{IsEnding, ending_more, sweep_ended}
 use Rattle.geo_strips.proofs.sweeping.end.Goals as goal
 

@@ -10,8 +10,8 @@ use Rattle.geo_core.specs.FiniteSets.Lists.{In}
 use Rattle.geo_core.proofs.FiniteSets.Members.{In-get_or}
 use Rattle.geo_strips.specs.declared.row_events.Event.{Event}
 use Rattle.geo_strips.specs.Coverage.{until, IsCut}
-use Rattle.geo_strips.specs.RowEvents.{AreEvents, sides_of}
-use Rattle.geo_strips.specs.Sweeping.{row_of}
+use Rattle.geo_strips.specs.steps.RowEvents.{AreEvents, sides_of}
+use Rattle.geo_strips.specs.steps.Sweeping.{row_of}
 use Rattle.geo_strips.proofs.SweepLaws.{IsUnderWay, lowest, begun_under_way, ended_under_way, swept_begins, swept_all, from_in_sides, to_in_sides, begin_long}
 use Rattle.geo_strips.proofs.sweeping.runs.Goals as goal
 use Rattle.geo_strips.proofs.sweeping.runs.Goals.{then-event+in_ok-end, else-event+in_ok-begin}

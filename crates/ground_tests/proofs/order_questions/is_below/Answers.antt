@@ -1,4 +1,4 @@
-use Rattle.use_orders.specs.Searches.{lists_of}
+use Rattle.use_orders.specs.steps.Searches.{lists_of}
 use Rattle.use_orders.proofs.Acyclic.{acyclic_by_order}
 use Rattle.ground_tests.proofs.order_questions.is_below.Goals as goal
 

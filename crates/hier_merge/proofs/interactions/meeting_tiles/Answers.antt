@@ -8,7 +8,7 @@ use Rattle.interact.specs.NearBoxes.{IsShared}
 use Rattle.cell_tree.specs.Hulls.{IsLawfulBox}
 use Rattle.cell_library.specs.LayoutTrees.{tree_at}
 use Rattle.cell_library.specs.Libraries.{seen}
-use Rattle.hier_merge.specs.Visits.{AreVisits}
+use Rattle.hier_merge.specs.steps.Visits.{AreVisits}
 use Rattle.hier_merge.proofs.NearAreas.{areas_are_near, strips_are_proper}
 use Rattle.hier_merge.proofs.WorkLaws.{visited_work, within_work}
 use Rattle.hier_merge.proofs.interactions.meeting_tiles.Goals as goal

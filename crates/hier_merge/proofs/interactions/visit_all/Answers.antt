@@ -5,7 +5,7 @@ use Rattle.layout_model.specs.CellTrees.{CellTree}
 use Rattle.cell_library.specs.declared.part_tiles.PartTile.{PartTile}
 use Rattle.cell_library.specs.Libraries.{LibraryParts, seen}
 use Rattle.cell_library.specs.LayoutTrees.{tree_at}
-use Rattle.hier_merge.specs.Visits.{IsVisit}
+use Rattle.hier_merge.specs.steps.Visits.{IsVisit}
 use Rattle.hier_merge.proofs.SeamLaws.{next_seams}
 use Rattle.hier_merge.proofs.VisitLaws.{before_counted, next_added, next_counted, work_taken}
 use Rattle.hier_merge.proofs.interactions.visit_all.Goals as goal

@@ -3,7 +3,7 @@ use Rattle.std.proofs.lemmas.List.{append-nil, append_assoc, map-append, nil_fro
 use Rattle.std.specs.Vec.Iter.{into_iter_items}
 use Rattle.offences.specs.declared.plane_stacks.PlaneStack.{PlaneStack}
 use Rattle.offences.specs.declared.stacks.TypedStack.{TypedStack}
-use Rattle.hier_merge.specs.PlanePieces.{plane_stack}
+use Rattle.hier_merge.specs.steps.PlanePieces.{plane_stack}
 use Rattle.hier_merge.proofs.meetings.add_stacks.Goals as goal
 
 pub loop-stack-init : goal.loop-stack-init

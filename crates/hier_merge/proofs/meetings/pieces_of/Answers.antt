@@ -1,27 +1,15 @@
-use Rattle.std.proofs.Common.{◌≡◌, ◌+◌, ℕ, suc, sym, subst, arith}
-use Rattle.hier_merge.specs.PlanePieces.{ArePiecesFrom}
+use Rattle.std.proofs.Common.{◌≡◌, ◌+◌, ℕ, suc, subst, arith}
+use Rattle.hier_merge.specs.steps.PlanePieces.{ArePiecesFrom}
 use Rattle.hier_merge.proofs.PlanePieceLaws.{pieces_more}
-use Rattle.hier_merge.proofs.SortedTiles.{none_before}
 use Rattle.hier_merge.proofs.meetings.pieces_of.Goals as goal
 
-pub add_plane-requires-clause-start : goal.add_plane-requires-clause-start
-add_plane-requires-clause-start c = c.loop-plane.invariant.begins
-
 pub loop-plane-init : goal.loop-plane-init
-loop-plane-init c = record {
-  are = (c.new.ensures.items, c.new-2.ensures.items, c.new-3.ensures.items);
-  begins = sym (none_before c.args.tiles.now 0 (λ tile among. omega arith));
-}
+loop-plane-init c = (c.new.ensures.items, c.new-2.ensures.items)
 
 pub loop-plane-preserved : goal.loop-plane-preserved
 loop-plane-preserved c =
-    let raw = c.args.tech.now in
     let plane = c.loop-plane.plane in
     let next : suc plane ≡ plane + 1 = omega arith in
-    record {
-      are = subst (λ (count : ℕ). ArePiecesFrom raw c.args.tiles.now 0 count c.add_plane.new.pieces.starts.items c.add_plane.new.pieces.stacks.items
-          c.add_plane.new.pieces.offending.items) next
-          (pieces_more raw c.args.tiles.now plane c.loop-plane.start c.loop-plane.pieces c.add_plane.new.pieces c.loop-plane.invariant.begins
-          c.loop-plane.invariant.are c.in_ok-start.ensures.added);
-      begins = c.in_ok-start.ensures.next;
-    }
+    let after = c.add_plane.new.pieces in
+    subst (λ (count : ℕ). ArePiecesFrom c.args.tech.now c.args.tiles.now 0 count after.stacks.items after.offending.items) next
+    (pieces_more c.args.tech.now c.args.tiles.now plane c.loop-plane.pieces after c.loop-plane.invariant c.in_ok-add_plane.ensures)

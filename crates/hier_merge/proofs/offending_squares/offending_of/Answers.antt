@@ -1,5 +1,4 @@
 use Rattle.std.proofs.Common.{List, length, sym, subst, arith}
-use Rattle.std.proofs.lemmas.List.Sorted.{IsPermutation-refl}
 use Rattle.tech_model.specs.declared.raw.RawTech.{RawTech}
 use Rattle.layout_model.specs.FlatSets.{parts_in}
 use Rattle.offences.specs.Offences.{OffendsOn}
@@ -7,8 +6,8 @@ use Rattle.hierarchy_model.specs.Laws.{CleanCellsKeepWhatTheyHave}
 use Rattle.cell_library.specs.declared.part_tiles.PartTile.{PartTile}
 use Rattle.cell_library.specs.LayoutTrees.{tree_at}
 use Rattle.cell_library.specs.Libraries.{seen}
-use Rattle.hier_merge.specs.PlanePieces.{HaveTypedParts, parts_of_plane}
-use Rattle.hier_merge.specs.Seams.{AreSeams}
+use Rattle.hier_merge.specs.steps.PlanePieces.{HaveTypedParts, parts_of_plane}
+use Rattle.hier_merge.specs.steps.Seams.{AreSeams}
 use Rattle.hier_merge.specs.StripLists.{AreStripsByPlane}
 use Rattle.hier_merge.proofs.FoundPieces.{typed_parts}
 use Rattle.hier_merge.proofs.MeetingOffences.{clean_without_strips, meeting_tiles_are_of_parts, meeting_tiles_have_types, offences_of_tiles}
@@ -21,8 +20,8 @@ offending_by_plane-requires-clause-typed g c =
     let tiles = c.in_ok-tiles.field-0.tiles.items in
     subst (λ (raw : RawTech). HaveTypedParts raw c.as_slice.result.now) (sym c.tech-2.ensures)
     (subst (HaveTypedParts library.tech) (sym c.as_slice.ensures.value)
-    (typed_parts library.tech tree c.lawful.ensures.well_formed c.lawful.ensures.rules c.typed.ensures c.requires.clean tiles tiles
-    c.in_ok-tiles.ensures.tiles (IsPermutation-refl tiles)))
+    (typed_parts library.tech tree c.lawful.ensures.well_formed c.lawful.ensures.rules c.typed.ensures c.requires.clean tiles
+    c.in_ok-tiles.ensures.tiles))
 
 pub offending_by_plane-requires-clause-seams : goal.offending_by_plane-requires-clause-seams
 offending_by_plane-requires-clause-seams g c =

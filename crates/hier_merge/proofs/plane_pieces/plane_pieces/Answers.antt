@@ -1,79 +1,83 @@
-use Rattle.std.proofs.Common.{◌≡◌, ◌<◌, List, length, sym, ap, subst, ◌∙◌, arith}
-use Rattle.std.specs.Prelude.{All, AllPairs}
-use Rattle.finite_sets.proofs.Searches.{All-from_In, All-In}
+use Rattle.std.proofs.Common.{[], List, length, sym, subst, arith}
+use Rattle.std.specs.Prelude.{All, AllPairs, slice_index_or}
+use Rattle.finite_sets.proofs.Members.{In-get_or}
+use Rattle.finite_sets.proofs.Searches.{All-from_In}
 use Rattle.geo_core.specs.Areas.{AreDisjoint, IsNear}
 use Rattle.geo_core.specs.Covering.{IsProper}
-use Rattle.offences.specs.declared.set_tiles.SetTile.{SetTile}
 use Rattle.offences.specs.declared.stacks.TypedStack.{TypedStack}
-use Rattle.offences.specs.PartSets.{AreInPartOrder}
-use Rattle.offences.specs.SetTiles.{tile_parts}
-use Rattle.offences.specs.TypedStacks.{AreByPart, AreTypedStacks, HasMembers, StandForTiles, typed_stack_areas}
-use Rattle.hier_merge.specs.Visits.{tiles_on}
-use Rattle.hier_merge.proofs.PlaneTiles.{parts_on_plane}
-use Rattle.hier_merge.proofs.SortedTiles.{plane_in_order}
+use Rattle.offences.specs.TypedStacks.{AreByPart, AreTypedStacks, typed_stack_areas}
+use Rattle.hier_merge.specs.steps.PlanePieces.{HasTiles}
+use Rattle.hier_merge.specs.steps.Seams.{AreTilePieces}
+use Rattle.hier_merge.proofs.JoinedPieces.{no_pieces}
+use Rattle.hier_merge.proofs.SeamLaws.{pieces_to_end, pieces_to_seam, seam_at_start, tiles_to_seam, typed_pieces}
 use Rattle.hier_merge.proofs.plane_pieces.plane_pieces.Goals as goal
 
-pub typed_stacks-requires-clause-near : goal.typed_stacks-requires-clause-near
-typed_stacks-requires-clause-near c =
-    let raw = c.args.tech.now in
-    let tiles = c.args.tiles.now in
-    let plane = c.args.plane in
-    let typed = c.requires.typed in
-    let on = parts_on_plane raw plane typed.count tiles typed.of_parts in
-    let all : All (λ (tile : SetTile). IsNear tile.area) (tiles_on raw plane tiles) =
-    All-from_In (λ (tile : SetTile). IsNear tile.area) (tiles_on raw plane tiles) (λ tile among.
-    (All-In (λ (t : SetTile). (t.part < typed.count) × IsNear t.area) (tiles_on raw plane tiles) tile on among).1) in
-    subst (All (λ (tile : SetTile). IsNear tile.area)) (sym (c.as_slice.ensures.value ∙ c.in_ok-here.ensures)) all
+pub loop-seam-init : goal.loop-seam-init
+loop-seam-init c = record {
+  seam = seam_at_start c.args.tiles.now;
+  later = λ k from below. omega arith;
+  pieces = subst (AreTilePieces c.args.tech.now c.args.plane []) (sym c.new-stacks.ensures.items) (no_pieces c.args.tech.now c.args.plane);
+  have = subst (All (HasTiles c.args.tiles.now 0 0 c.args.plane)) (sym c.new-stacks.ensures.items)
+      (All-from_In (HasTiles c.args.tiles.now 0 0 c.args.plane) [] (λ piece none. absurd none));
+}
 
-pub typed_stacks-requires-clause-ordered : goal.typed_stacks-requires-clause-ordered
-typed_stacks-requires-clause-ordered c =
-    subst AreInPartOrder (sym (c.as_slice.ensures.value ∙ c.in_ok-here.ensures))
-    (plane_in_order c.args.tech.now c.args.plane c.args.tiles.now c.requires.sorted)
+pub add_pieces-requires-clause-order : goal.add_pieces-requires-clause-order
+add_pieces-requires-clause-order c = c.loop-seam.invariant.later c.loop-seam.seam-index (omega arith) c.loop-seam-test.true
+
+pub add_pieces-requires-clause-within : goal.add_pieces-requires-clause-within
+add_pieces-requires-clause-within c =
+    let seams = c.args.seams.now in
+    let place = c.loop-seam.seam-index in
+    (c.requires.seams.each (slice_index_or seams place 0) (In-get_or seams place 0 c.loop-seam-test.true)).within
+
+pub loop-seam-preserved : goal.loop-seam-preserved
+loop-seam-preserved c =
+    let so_far = c.loop-seam.invariant in
+    let seams = c.args.seams.now in
+    let place = c.loop-seam.seam-index in
+    let next = slice_index_or seams place 0 in
+    let below = c.loop-seam-test.true in
+    let order = so_far.later place (omega arith) below in
+    record {
+      seam = c.requires.seams.each next (In-get_or seams place 0 below);
+      later = λ k from less. c.requires.seams.rising place k 0 (omega (arith, from)) less;
+      pieces = pieces_to_seam c.args.tech.now c.args.plane c.args.tiles.now c.loop-seam.start next c.loop-seam.stacks.items
+          c.add_pieces.new.stacks.items so_far.seam order so_far.pieces c.in_ok-add_pieces.ensures;
+      have = tiles_to_seam c.args.tech.now c.args.plane c.args.tiles.now c.loop-seam.start next c.loop-seam.stacks.items c.add_pieces.new.stacks.items
+          so_far.seam order so_far.have c.in_ok-add_pieces.ensures;
+    }
 
 pub offending_stacks-requires-clause-sound : goal.offending_stacks-requires-clause-sound
 offending_stacks-requires-clause-sound c =
-    let raw = c.args.tech.now in
-    let tiles = c.args.tiles.now in
-    let plane = c.args.plane in
-    let typed = c.requires.typed in
-    let found = c.in_ok-stacks.stacks.items in
-    let stand : StandForTiles raw plane (tiles_on raw plane tiles) found =
-    subst (λ (here : List SetTile). StandForTiles raw plane here found) (c.as_slice.ensures.value ∙ c.in_ok-here.ensures) c.in_ok-stacks.ensures.stand in
-    let are : AreTypedStacks raw (tile_parts (tiles_on raw plane tiles) plane typed.count) plane found =
-    stand typed.count (parts_on_plane raw plane typed.count tiles typed.of_parts) (typed.types plane) in
-    let all : All (λ (s : TypedStack). IsProper s.area × IsNear s.area × AreByPart s.kinds) found =
-    All-from_In (λ (s : TypedStack). IsProper s.area × IsNear s.area × AreByPart s.kinds) found (λ s among.
+    let found = c.add_pieces-2.new.stacks.items in
+    let pieces = pieces_to_end c.args.tech.now c.args.plane c.args.tiles.now c.loop-seam.start c.loop-seam.stacks.items found c.loop-seam.invariant.seam
+    c.loop-seam.invariant.pieces c.in_ok-add_pieces-2.ensures in
+    let are = typed_pieces c.args.tech.now c.args.plane c.args.tiles.now found pieces.stand c.requires.typed in
+    subst (All (λ (s : TypedStack). IsProper s.area × IsNear s.area × AreByPart s.kinds)) (sym c.as_slice.ensures.value)
+    (All-from_In (λ (s : TypedStack). IsProper s.area × IsNear s.area × AreByPart s.kinds) found (λ s among.
     let is = are.each s among in
-    (is.proper, is.near, is.ordered)) in
-    subst (All (λ (s : TypedStack). IsProper s.area × IsNear s.area × AreByPart s.kinds)) (sym c.as_slice-2.ensures.value) all
+    (is.proper, is.near, is.ordered)))
 
 pub offending_stacks-requires-clause-apart : goal.offending_stacks-requires-clause-apart
 offending_stacks-requires-clause-apart c =
+    let found = c.add_pieces-2.new.stacks.items in
+    let pieces = pieces_to_end c.args.tech.now c.args.plane c.args.tiles.now c.loop-seam.start c.loop-seam.stacks.items found c.loop-seam.invariant.seam
+    c.loop-seam.invariant.pieces c.in_ok-add_pieces-2.ensures in
+    let are = typed_pieces c.args.tech.now c.args.plane c.args.tiles.now found pieces.stand c.requires.typed in
+    subst (λ (stacks : List TypedStack). AllPairs AreDisjoint (typed_stack_areas stacks)) (sym c.as_slice.ensures.value) are.apart
+
+pub returns : goal.returns
+returns c =
     let raw = c.args.tech.now in
     let tiles = c.args.tiles.now in
     let plane = c.args.plane in
-    let typed = c.requires.typed in
-    let found = c.in_ok-stacks.stacks.items in
-    let stand : StandForTiles raw plane (tiles_on raw plane tiles) found =
-    subst (λ (here : List SetTile). StandForTiles raw plane here found) (c.as_slice.ensures.value ∙ c.in_ok-here.ensures) c.in_ok-stacks.ensures.stand in
-    let are : AreTypedStacks raw (tile_parts (tiles_on raw plane tiles) plane typed.count) plane found =
-    stand typed.count (parts_on_plane raw plane typed.count tiles typed.of_parts) (typed.types plane) in
-    subst (λ (stacks : List TypedStack). AllPairs AreDisjoint (typed_stack_areas stacks)) (sym c.as_slice-2.ensures.value) are.apart
-
-pub returns-clause-tiles : goal.returns-clause-tiles
-returns-clause-tiles c =
-    let long : length c.in_ok-here.here.items ≡ length (tiles_on c.args.tech.now c.args.plane c.args.tiles.now) = ap length c.in_ok-here.ensures in
-    omega (arith, long, c.len.ensures, c.in_ok-here.here.ok.0)
-
-pub returns-clause-pieces : goal.returns-clause-pieces
-returns-clause-pieces c =
-    let raw = c.args.tech.now in
-    let plane = c.args.plane in
-    let found = c.in_ok-stacks.stacks.items in
-    let here = c.as_slice.ensures.value ∙ c.in_ok-here.ensures in
+    let so_far = c.loop-seam.invariant in
+    let found = c.add_pieces-2.new.stacks.items in
+    let pieces = pieces_to_end raw plane tiles c.loop-seam.start c.loop-seam.stacks.items found so_far.seam so_far.pieces c.in_ok-add_pieces-2.ensures in
     record {
-      stand = subst (λ (on : List SetTile). StandForTiles raw plane on found) here c.in_ok-stacks.ensures.stand;
-      members = subst (λ (on : List SetTile). All (HasMembers on) found) here c.in_ok-stacks.ensures.members;
+      stand = pieces.stand;
+      members = tiles_to_seam raw plane tiles c.loop-seam.start (length tiles) c.loop-seam.stacks.items found so_far.seam so_far.seam.within so_far.have
+          c.in_ok-add_pieces-2.ensures;
       strips_are = λ parts are.
-          c.in_ok-offending.ensures parts plane (subst (AreTypedStacks raw parts plane) (sym c.as_slice-2.ensures.value) are);
+          c.in_ok-offending.ensures parts plane (subst (AreTypedStacks raw parts plane) (sym c.as_slice.ensures.value) are);
     }

@@ -3,7 +3,7 @@ use Rattle.std.specs.Int.{w64}
 use Rattle.std.specs.Int.RustNames.{FitsSigned}
 use Rattle.std.proofs.lemmas.Int.{to_z-of_z}
 use Rattle.std.proofs.lemmas.List.{get_or_default}
-use Rattle.interact.specs.Counts.{IsCut}
+use Rattle.interact.specs.steps.Counts.{IsCut}
 use Rattle.interact.proofs.CountLaws.{cuts_from_sides}
 use Rattle.interact.proofs.counts.+no_counts.Goals as goal
 

@@ -1,5 +1,5 @@
 use Rattle.std.proofs.Common.{◌≡◌, ◌++◌, drop}
-use Rattle.interact.specs.Edges.{sides_of}
+use Rattle.interact.specs.steps.Edges.{sides_of}
 use Rattle.interact.proofs.edges.all_sides.Given as goal
 
 -- the sides so far, with those of the edges to come

@@ -2,7 +2,7 @@
 use Rattle.std.proofs.Common.{arith, rules}
 use Rattle.std.proofs.lemmas.Grind.{common_steps}
 use Rattle.std.proofs.lemmas.List.Elements.{All-push}
-use Rattle.interact.specs.Edges.{IsOf64Bits}
+use Rattle.interact.specs.steps.Edges.{IsOf64Bits}
 use Rattle.interact.proofs.edges.both_edges.Goals as goal
 use Rattle.interact.proofs.edges.both_edges.Goals.{then-has_square+in_ok-push+in_ok-push-2, else-has_square}
 

@@ -7,7 +7,7 @@ use Rattle.geo_core.specs.Areas.{widened, LiesWithin}
 use Rattle.geo_core.specs.Covering.{IsInTwo}
 use Rattle.geo_strips.specs.Bars.{AreStripsOf}
 use Rattle.geo_core.specs.Strips.{IsStrips}
-use Rattle.geo_strips.specs.Sweeping.{AreRunBars}
+use Rattle.geo_strips.specs.steps.Sweeping.{AreRunBars}
 use Rattle.geo_strips.proofs.StripListLaws.{strips_of_bars}
 use Rattle.interact.specs.NearBoxes.{IsShared}
 use Rattle.interact.proofs.Sharings.{strips_lie_within}

@@ -9,8 +9,8 @@ use Rattle.finite_sets.specs.Lists.{In}
 use Rattle.finite_sets.proofs.Members.{In-get_or}
 use Rattle.interact.specs.declared.edges.Edge.{Edge}
 use Rattle.interact.specs.declared.sweep.Sweep.{Sweep}
-use Rattle.interact.specs.Counts.{IsCut, IsAdded}
-use Rattle.interact.specs.Edges.{gain_of, AreEdges, sides_of}
+use Rattle.interact.specs.steps.Counts.{IsCut, IsAdded}
+use Rattle.interact.specs.steps.Edges.{gain_of, AreEdges, sides_of}
 use Rattle.interact.proofs.EdgeLaws.{edge_sides}
 use Rattle.interact.proofs.SweepLaws.{all_settled, next_settled, next_here, counted, sweep_begins}
 use Rattle.interact.proofs.sweep.shared_runs.Goals as goal

@@ -5,7 +5,7 @@ use Rattle.std.proofs.lemmas.List.{take_more}
 use Rattle.layout_model.specs.Technologies.{class_of}
 use Rattle.rect_contacts.specs.declared.contacts.Contact.{Contact}
 use Rattle.flood_nodes.specs.TileShares.{tile_at}
-use Rattle.measures.specs.Sizes.{shared_in, shared_amounts}
+use Rattle.measures.specs.steps.Sizes.{shared_in, shared_amounts}
 use Rattle.measures.proofs.AmountLaws.{shared_amounts-append, adds_two}
 use Rattle.measures.proofs.columns.push_shared.Goals as goal
 

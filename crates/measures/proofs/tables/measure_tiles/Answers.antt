@@ -6,7 +6,7 @@ use Rattle.tech_model.specs.declared.raw.ClassRec.{ClassRec}
 use Rattle.tech_model.specs.declared.raw.RawTech.{RawTech}
 use Rattle.measures.specs.declared.columns.Column.{Column}
 use Rattle.measures.specs.declared.tables.MeasureRow.{MeasureRow}
-use Rattle.measures.specs.Columns.{AreColumns}
+use Rattle.measures.specs.steps.Columns.{AreColumns}
 use Rattle.measures.proofs.MeasureLaws.{columns_long, rows_measure}
 use Rattle.measures.proofs.tables.measure_tiles.Goals as goal
 

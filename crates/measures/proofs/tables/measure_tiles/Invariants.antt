@@ -1,5 +1,5 @@
 use Rattle.std.proofs.Common.{◌≡◌, ◌<◌, ℕ, length, get_or, []}
-use Rattle.measures.specs.Columns.{pairs_at}
+use Rattle.measures.specs.steps.Columns.{pairs_at}
 use Rattle.measures.proofs.tables.measure_tiles.Given as goal
 
 abbrev pub invariant-loop-region : goal.invariant-loop-region

@@ -6,7 +6,7 @@ use Rattle.std.proofs.lemmas.List.{take_more, take_all}
 use Rattle.layout_model.specs.Technologies.{class_of}
 use Rattle.offences.specs.declared.stacks.PartKind.{PartKind}
 use Rattle.offences.specs.TypedStacks.{kind_in}
-use Rattle.meeting_sums.specs.Counts.{flat_kind, for_both, AddAmounts}
+use Rattle.meeting_sums.specs.steps.Counts.{flat_kind, for_both, AddAmounts}
 use Rattle.meeting_sums.proofs.AmountLaws.{gated, no_entry, contact_first, contact_more}
 use Rattle.meeting_sums.proofs.amounts.push_contact.Goals as goal
 

@@ -1,7 +1,7 @@
 use Rattle.std.proofs.Common.{◌≡◌, ◌⊎◌, ◌&&◌, pos, ◌-ℤ◌, take}
 use Rattle.layout_model.specs.Technologies.{class_of}
 use Rattle.offences.specs.TypedStacks.{kind_in}
-use Rattle.meeting_sums.specs.Counts.{flat_kind, for_both, AddAmounts}
+use Rattle.meeting_sums.specs.steps.Counts.{flat_kind, for_both, AddAmounts}
 use Rattle.meeting_sums.proofs.AmountLaws.{gated}
 use Rattle.meeting_sums.proofs.amounts.push_contact.Given as goal
 

@@ -2,7 +2,7 @@ use Rattle.std.specs.List.{range_with_len}
 use Rattle.finite_sets.specs.Lists.{In}
 use Rattle.finite_sets.specs.Total.{sum_on}
 use Rattle.layout_model.specs.Technologies.{class_of}
-use Rattle.meeting_sums.specs.Counts.{perimeter_counted, AddAmounts}
+use Rattle.meeting_sums.specs.steps.Counts.{perimeter_counted, AddAmounts}
 use Rattle.meeting_sums.proofs.columns.push_perimeters.Given as goal
 
 abbrev pub invariant-loop-place : goal.invariant-loop-place

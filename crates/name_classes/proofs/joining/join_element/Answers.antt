@@ -2,7 +2,7 @@ use Rattle.std.proofs.Common.{List, ◌++◌, ◌∙◌, subst}
 use Rattle.finite_sets.specs.Lists.{In}
 use Rattle.finite_sets.proofs.Members.{In-append_left, In-append_right}
 use Rattle.name_classes.specs.declared.links.Link.{Link}
-use Rattle.name_classes.specs.Joins.{AddsJoins, once_at}
+use Rattle.name_classes.specs.steps.Joins.{AddsJoins, once_at}
 use Rattle.name_classes.proofs.JoinLaws.{adds_append}
 use Rattle.name_classes.proofs.joining.join_element.Goals as goal
 

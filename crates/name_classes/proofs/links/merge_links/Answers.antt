@@ -3,7 +3,7 @@ use Rattle.std.proofs.lemmas.Option.{slice_get_read}
 use Rattle.finite_sets.proofs.Places.{take-slice_get}
 use Rattle.ext_model.specs.declared.records.MergeRec.{MergeRec}
 use Rattle.circuit_model.specs.declared.faults.FlatFault.TheVariants.{Memory}
-use Rattle.name_classes.specs.Links.{AreMergeLinks, IsMergeFault}
+use Rattle.name_classes.specs.steps.Links.{AreMergeLinks, IsMergeFault}
 use Rattle.name_classes.proofs.FaultLaws.{err_same, path_sound, first_faulty, second_faulty, merges_refused, merge_added}
 use Rattle.name_classes.proofs.links.merge_links.Goals as goal
 

@@ -4,7 +4,7 @@ use Rattle.finite_sets.proofs.Places.{take-slice_get}
 use Rattle.ext_model.specs.declared.records.UseRec.{UseRec}
 use Rattle.ext_model.specs.declared.records.CellExt.{CellExt}
 use Rattle.name_classes.specs.declared.tables.UseTable.{UseTable}
-use Rattle.name_classes.specs.UseTables.{AreUseTables, IsTableOf}
+use Rattle.name_classes.specs.steps.UseTables.{AreUseTables, IsTableOf}
 use Rattle.name_classes.proofs.TableLaws.{tables_push}
 use Rattle.name_classes.proofs.tables.use_tables.Goals as goal
 

@@ -4,7 +4,7 @@ use Rattle.geo_core.specs.declared.squares.Rect.{Rect}
 use Rattle.geo_core.specs.declared.squares.Square.{Square}
 use Rattle.geo_core.specs.Areas.{has_square, common_rect, corner_of}
 use Rattle.names.specs.Attachments.{touched}
-use Rattle.names.specs.TakenLabels.{stands_earlier}
+use Rattle.names.specs.steps.TakenLabels.{stands_earlier}
 use Rattle.names.proofs.TakingLaws.{beaten_apart, beaten_later}
 use Rattle.names.proofs.attaching.is_beaten.Goals as goal
 

@@ -1,6 +1,6 @@
 use Rattle.std.proofs.Common.{◌≡◌, ◌≤◌, ◌<◌, ℕ}
 use Rattle.flood_nodes.specs.TileShares.{tile_at}
-use Rattle.names.specs.Blocks.{IsWithinBlock}
+use Rattle.names.specs.steps.Blocks.{IsWithinBlock}
 use Rattle.names.proofs.blocks.block_of.Given as goal
 
 abbrev pub invariant-loop-index : goal.invariant-loop-index

@@ -8,7 +8,7 @@ use Rattle.std.proofs.lemmas.List.{get_or_read}
 use Rattle.tech_model.specs.declared.raw.Label.{Label}
 use Rattle.names.specs.declared.attaching.Attachment.{Attachment}
 use Rattle.names.specs.Attachments.{no_label}
-use Rattle.names.specs.CountedLabels.{text_at, region_found, IsCounted}
+use Rattle.names.specs.steps.CountedLabels.{text_at, region_found, IsCounted}
 use Rattle.names.proofs.CountingLaws.{counted_none, counted_nowhere, counted_one, counted_all}
 use Rattle.names.proofs.counting.count_labels.Goals as goal
 use Rattle.names.proofs.counting.count_labels.Goals.{in-None, in-Some+in_ok-region-in-Some}

@@ -4,7 +4,7 @@ use Rattle.std.proofs.lemmas.List.Sorted.{All-permutation}
 use Rattle.std.proofs.lemmas.Result.{IfOk-weaker}
 use Rattle.finite_sets.specs.Lists.{In}
 use Rattle.layout_model.specs.declared.region_tiles.RegionTile.{RegionTile}
-use Rattle.names.specs.FirstTiles.{AreFirstTiles}
+use Rattle.names.specs.steps.FirstTiles.{AreFirstTiles}
 use Rattle.names.proofs.FirstTileLaws.{firsts_moved}
 use Rattle.names.proofs.first_tiles.first_tiles.Goals as goal
 

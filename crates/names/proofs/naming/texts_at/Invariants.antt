@@ -1,5 +1,5 @@
 use Rattle.std.proofs.Common.{◌≡◌, map, take}
-use Rattle.names.specs.CountedLabels.{text_at}
+use Rattle.names.specs.steps.CountedLabels.{text_at}
 use Rattle.names.proofs.naming.texts_at.Given as goal
 
 abbrev pub invariant-loop-index : goal.invariant-loop-index

@@ -5,9 +5,9 @@ use Rattle.partition.specs.Divides.{Divides, IsPair}
 use Rattle.tech_model.specs.Types.{is_type}
 use Rattle.layout_model.specs.declared.region_tiles.RegionTile.{RegionTile}
 use Rattle.names.specs.Attachments.{AreUnattached, AreTextsOf}
-use Rattle.names.specs.CountedLabels.{AreCountedOn}
-use Rattle.names.specs.FirstTiles.{AreFirstTiles}
-use Rattle.names.specs.Groups.{AreNodesOf, key_at}
+use Rattle.names.specs.steps.CountedLabels.{AreCountedOn}
+use Rattle.names.specs.steps.FirstTiles.{AreFirstTiles}
+use Rattle.names.specs.steps.Groups.{AreNodesOf, key_at}
 use Rattle.names.specs.NamedNodes.{AreNamedNodes}
 use Rattle.names.proofs.AttachmentLists.{pairs_below, named_below, firsts_have}
 use Rattle.names.proofs.NamedNodeLaws.{named_nodes_are, unattached_are}

@@ -2,7 +2,7 @@ use Rattle.std.proofs.Common.{◌<◌, List, ℕ, Vec, Global, length, sym, subs
 use Rattle.std.specs.Prelude.{All}
 use Rattle.std.proofs.lemmas.Result.{IfOk-weaker}
 use Rattle.names.specs.declared.nodes.NamedNode.{NamedNode}
-use Rattle.names.specs.Groups.{AreGroupsBy, AreNodesOn, AreNodesOf, region_key, label_key}
+use Rattle.names.specs.steps.Groups.{AreGroupsBy, AreNodesOn, AreNodesOf, region_key, label_key}
 use Rattle.names.proofs.GroupLaws.{members_below}
 use Rattle.names.proofs.NodeLists.{nodes_of_classes}
 use Rattle.names.proofs.nodes.nodes_of.Goals as goal

@@ -3,7 +3,7 @@ use Rattle.std.proofs.lemmas.List.{append_assoc, get_or_read}
 use Rattle.geo_core.specs.declared.squares.Rect.{Rect}
 use Rattle.rect_contacts.specs.declared.contacts.Contact.{Contact}
 use Rattle.offences.specs.declared.stacks.TypedStack.{TypedStack}
-use Rattle.offences.specs.Pieces.{changed, changed_pieces}
+use Rattle.offences.specs.steps.Pieces.{changed, changed_pieces}
 use Rattle.offences.specs.TypedStacks.{typed_stack_at, no_typed_stack}
 use Rattle.offences.proofs.PieceLaws.{changed_more}
 use Rattle.offences.proofs.changes.changed_pieces.Goals as goal

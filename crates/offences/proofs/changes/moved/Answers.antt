@@ -3,7 +3,7 @@ use Rattle.std.specs.Int.{w64}
 use Rattle.std.proofs.lemmas.Int.{ints, to_z-of_z}
 use Rattle.geo_core.specs.Areas.{IsSmall}
 use Rattle.geo_core.proofs.SquareLaws.{rect_is}
-use Rattle.offences.specs.Pieces.{moved_rect}
+use Rattle.offences.specs.steps.Pieces.{moved_rect}
 use Rattle.offences.proofs.changes.moved.Goals as goal
 
 sum_kept : (a d : ℤ) → FitsSigned w64 a → FitsSigned w64 d → FitsSigned w64 (a +ℤ d)

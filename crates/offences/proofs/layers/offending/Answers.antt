@@ -12,9 +12,9 @@ use Rattle.geo_core.proofs.StripSets.{strips_same}
 use Rattle.tech_model.specs.declared.raw.RawTech.{RawTech}
 use Rattle.layout_model.specs.LayerTypes.{Kinds, AreTypesOf}
 use Rattle.offences.specs.declared.set_tiles.SetTile.{SetTile}
-use Rattle.offences.specs.LayerParts.{ArePartTiles}
+use Rattle.offences.specs.steps.LayerParts.{ArePartTiles}
 use Rattle.offences.specs.Offences.{SetLayout, OffendsOn, HaveTypes}
-use Rattle.offences.specs.Pieces.{CoverExactly}
+use Rattle.offences.specs.steps.Pieces.{CoverExactly}
 use Rattle.offences.specs.SetTiles.{AreTilesOfParts, tile_parts, set_layout}
 use Rattle.offences.proofs.LayerLaws.{grown_proper, near_before, tiles_of_parts, tiles_have_types, layers_covered}
 use Rattle.offences.proofs.layers.offending.Goals as goal

@@ -1,5 +1,5 @@
 use Rattle.std.proofs.Common.{◌≡◌, ◌++◌, map, take}
-use Rattle.offences.specs.LayerParts.{layer_tile}
+use Rattle.offences.specs.steps.LayerParts.{layer_tile}
 use Rattle.offences.proofs.layers.push_tiles.Given as goal
 
 abbrev pub invariant-loop-area : goal.invariant-loop-area

@@ -10,7 +10,7 @@ use Rattle.geo_core.specs.Covering.{IsProper}
 use Rattle.offences.specs.declared.set_tiles.SetTile.{SetTile}
 use Rattle.offences.specs.declared.stacks.TypedStack.{TypedStack}
 use Rattle.offences.specs.Offences.{SetLayout, OffendsOn}
-use Rattle.offences.specs.Pieces.{CoverExactly}
+use Rattle.offences.specs.steps.Pieces.{CoverExactly}
 use Rattle.offences.specs.SetTiles.{tile_parts}
 use Rattle.offences.specs.TypedStacks.{AreByPart, AreTypedStacks, typed_stack_areas}
 use Rattle.offences.proofs.MemberLaws.{of_moved}

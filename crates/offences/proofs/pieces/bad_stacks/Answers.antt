@@ -5,7 +5,7 @@ use Rattle.geo_core.specs.Areas.{IsNear}
 use Rattle.geo_core.specs.Covering.{IsProper}
 use Rattle.offences.specs.declared.stacks.TypedStack.{TypedStack}
 use Rattle.offences.specs.Offences.{OffendsOn}
-use Rattle.offences.specs.Pieces.{CoverExactly, AreFoundChanges, spoiled_areas}
+use Rattle.offences.specs.steps.Pieces.{CoverExactly, AreFoundChanges, spoiled_areas}
 use Rattle.offences.specs.TypedStacks.{AreByPart}
 use Rattle.offences.proofs.PieceLaws.{pieces_cover, found_changes}
 use Rattle.offences.proofs.pieces.bad_stacks.Goals as goal

@@ -7,7 +7,7 @@ use Rattle.geo_core.specs.Areas.{IsNear}
 use Rattle.geo_core.specs.Covering.{IsProper}
 use Rattle.rect_contacts.specs.declared.contacts.Contact.{Contact}
 use Rattle.rect_contacts.specs.Contacts.{IsSharedEdge}
-use Rattle.offences.specs.Pieces.{AreFoundChanges, of_contacts, changed_pieces}
+use Rattle.offences.specs.steps.Pieces.{AreFoundChanges, of_contacts, changed_pieces}
 use Rattle.offences.specs.TypedStacks.{typed_stack_areas}
 use Rattle.offences.proofs.PieceLaws.{all_areas, contacts_within}
 use Rattle.offences.proofs.pieces.changes.Goals as goal

@@ -1,5 +1,5 @@
-use Rattle.piece_groups.specs.Links.{AreLinkedFrom}
-use Rattle.piece_groups.specs.Members.{marks_of}
+use Rattle.piece_groups.specs.steps.Links.{AreLinkedFrom}
+use Rattle.piece_groups.specs.steps.Members.{marks_of}
 use Rattle.piece_groups.proofs.links.link.Given as goal
 
 abbrev pub invariant-loop-place : goal.invariant-loop-place

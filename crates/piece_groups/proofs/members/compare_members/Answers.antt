@@ -2,7 +2,7 @@ use Rattle.std.proofs.Common.{◌≡◌, ◌∙◌, length, nat_cmp, rules}
 use Rattle.std.specs.Cmp.Lexicographic.{slice_cmp}
 use Rattle.std.specs.Ordering.{ordering_then}
 use Rattle.ext_model.specs.NameOrder.{kind_rank}
-use Rattle.piece_groups.specs.Members.{member_cmp}
+use Rattle.piece_groups.specs.steps.Members.{member_cmp}
 use Rattle.piece_groups.proofs.MemberLaws.{then_assoc}
 use Rattle.piece_groups.proofs.members.compare_members.Goals as goal
 

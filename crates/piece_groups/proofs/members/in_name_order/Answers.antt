@@ -2,7 +2,7 @@ use Rattle.std.proofs.Common.{rules}
 use Rattle.std.specs.Ordering.{is_lt}
 use Rattle.std.proofs.lemmas.List.Sorted.{ranks_by, answers_always}
 use Rattle.piece_groups.specs.declared.members.Member.{Member}
-use Rattle.piece_groups.specs.Members.{member_cmp}
+use Rattle.piece_groups.specs.steps.Members.{member_cmp}
 use Rattle.piece_groups.proofs.MemberLaws.{member_cmp_total}
 use Rattle.piece_groups.proofs.members.in_name_order.Goals as goal
 

@@ -1,6 +1,6 @@
 use Rattle.std.proofs.Common.{◌-◌, length}
 use Rattle.meeting_sums.specs.TreeRecords.Merges.{merge_of}
-use Rattle.piece_groups.specs.Groups.{name_at}
+use Rattle.piece_groups.specs.steps.Groups.{name_at}
 use Rattle.piece_groups.specs.MarkedGroups.{adjustment_of}
 use Rattle.piece_groups.proofs.WalkLaws.{IsUpTo}
 use Rattle.piece_groups.proofs.merges.add_others.Given as goal

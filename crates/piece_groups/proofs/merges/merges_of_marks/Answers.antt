@@ -4,7 +4,7 @@ use Rattle.ext_model.specs.declared.records.MergeRec.{MergeRec}
 use Rattle.ext_model.specs.declared.arrays.MergeRow.{MergeRow}
 use Rattle.ext_model.specs.Rows.{AreRowsOf}
 use Rattle.piece_groups.specs.declared.members.Member.{Member}
-use Rattle.piece_groups.specs.Groups.{all_groups, AddsMerges}
+use Rattle.piece_groups.specs.steps.Groups.{all_groups, AddsMerges}
 use Rattle.piece_groups.specs.MarkMerges.{AreMergesOfMarks}
 use Rattle.piece_groups.proofs.MarkLaws.{all_below, merges_marked}
 use Rattle.piece_groups.proofs.merges.merges_of_marks.Goals as goal

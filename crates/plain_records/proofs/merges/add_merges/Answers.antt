@@ -12,10 +12,8 @@ loop-n-preserved c =
     let n = c.loop-n.n in
     let before = c.args.merges.now.items in
     let passed = range_with_len 0 n in
-    let made : MergeRec =
-    record { first = c.in_ok-copy.field-0; second = c.in_ok-raised.field-0; cap = row.cap; measures = c.in_ok-copy_numbers.field-0 } in
-    let one : made ≡ plain_merge row n =
-    (λ k. record { first = c.in_ok-copy.ensures k; second = c.in_ok-raised.ensures k; cap = row.cap; measures = c.in_ok-copy_numbers.ensures k }) in
+    let made : MergeRec = c.in_ok-plain_merge.field-0 in
+    let one : made ≡ plain_merge row n = c.in_ok-plain_merge.ensures in
     let more : map (plain_merge row) (range_with_len 0 (n + 1)) ≡ map (plain_merge row) passed ++ plain_merge row n ∷ [] =
     ap (map (plain_merge row)) (range_push 0 n) ∙ map-append (plain_merge row) passed ((0 + n) ∷ [])
     ∙ ap (λ (m : ℕ). map (plain_merge row) passed ++ plain_merge row m ∷ []) (omega arith) in

@@ -7,7 +7,7 @@ use Rattle.geo_core.specs.Elements.{elements_of}
 use Rattle.ext_model.specs.ElementNames.{indexed_name}
 use Rattle.ext_model.specs.declared.records.UseRec.{UseRec}
 use Rattle.ext_model.specs.Plain.{displaced, element_use}
-use Rattle.plain_records.specs.Steps.{IsShortStep}
+use Rattle.plain_records.specs.steps.Steps.{IsShortStep}
 use Rattle.plain_records.proofs.StepLaws.{short_steps}
 use Rattle.plain_records.proofs.uses.element_at.Goals as goal
 

@@ -1,5 +1,5 @@
 use Rattle.std.proofs.Common.{◌≡◌, ◌++◌, drop}
-use Rattle.rect_contacts.specs.Events.{events_from}
+use Rattle.rect_contacts.specs.steps.Events.{events_from}
 use Rattle.rect_contacts.proofs.events.add_events.Given as goal
 
 abbrev pub invariant-loop-owner : goal.invariant-loop-owner

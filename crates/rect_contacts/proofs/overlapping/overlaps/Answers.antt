@@ -5,7 +5,7 @@ use Rattle.std.specs.BTreeMap.{get, is_at}
 use Rattle.std.specs.Map.{lookup}
 use Rattle.geo_core.proofs.FiniteSets.Members.{In-get_or}
 use Rattle.rect_contacts.specs.declared.events.Event.{Event}
-use Rattle.rect_contacts.specs.Events.{AreEvents}
+use Rattle.rect_contacts.specs.steps.Events.{AreEvents}
 use Rattle.rect_contacts.proofs.CommonSweep.{AreLists, Swept, lists_are, event_small, first_actives, second_actives, swept_first, swept_second, swept_none}
 use Rattle.rect_contacts.proofs.CommonSweep.{swept_all}
 use Rattle.rect_contacts.proofs.overlapping.overlaps.Goals as goal

@@ -5,7 +5,7 @@ use Rattle.std.proofs.lemmas.Int.{ints, clamps}
 use Rattle.rect_contacts.specs.declared.contacts.Contact.{Contact}
 use Rattle.rect_contacts.specs.declared.sides.Side.{Side}
 use Rattle.rect_contacts.specs.Contacts.{overlap}
-use Rattle.rect_contacts.specs.Sides.{contact_of}
+use Rattle.rect_contacts.specs.steps.Sides.{contact_of}
 use Rattle.rect_contacts.proofs.Intervals.{overlap-positive, overlap-none}
 use Rattle.rect_contacts.proofs.sides.note_contact.Goals as goal
 use Rattle.rect_contacts.proofs.sides.note_contact.Goals.{else-lower-upper-via-then-lower-upper+else-from-to, else-lower-upper-via-else-lower-upper}

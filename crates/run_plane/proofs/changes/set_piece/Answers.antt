@@ -4,7 +4,7 @@ use Rattle.std.proofs.lemmas.List.{get_or_default}
 use Rattle.finite_sets.proofs.Members.{In-get_or}
 use Rattle.run_plane.specs.declared.rows.Row.{Row}
 use Rattle.run_plane.specs.Rows.{edge, AreRuns}
-use Rattle.run_plane.specs.Listings.{no_row}
+use Rattle.run_plane.specs.steps.Listings.{no_row}
 use Rattle.run_plane.proofs.RowLaws.{row_facts}
 use Rattle.run_plane.proofs.SettingLaws.{set_all}
 use Rattle.run_plane.proofs.changes.set_piece.Goals as goal

@@ -3,7 +3,7 @@ use Rattle.std.specs.Prelude.{MatchOption}
 use Rattle.std.specs.Int.{int_min, int_max}
 use Rattle.std.specs.declared.ops.Range.{Range}
 use Rattle.std.proofs.lemmas.List.{take_more}
-use Rattle.run_plane.specs.Changes.{Spans}
+use Rattle.run_plane.specs.steps.Changes.{Spans}
 use Rattle.geo_core.proofs.CornerLaws.{no_piece}
 use Rattle.run_plane.proofs.SettingLaws.{spans_one, spans_more}
 use Rattle.run_plane.proofs.changes.span_of.Goals as goal

@@ -5,7 +5,7 @@ use Rattle.geo_core.specs.Areas.{joined_rect}
 use Rattle.run_plane.specs.declared.runs.Run.{Run}
 use Rattle.run_plane.specs.declared.rows.Row.{Row}
 use Rattle.run_plane.specs.Rows.{edge, AreRuns}
-use Rattle.run_plane.specs.Listings.{no_row, IsRowBox}
+use Rattle.run_plane.specs.steps.Listings.{no_row, IsRowBox}
 use Rattle.run_plane.proofs.BoxLaws.{BoxUpTo, box_kept, box_begun, box_grown, box_whole, ordered}
 use Rattle.run_plane.proofs.listings.box_of.Goals as goal
 use Rattle.run_plane.proofs.listings.box_of.Goals.{in-Some+in-Some-found, in-Some+in-None, in_default}

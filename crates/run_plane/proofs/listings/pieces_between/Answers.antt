@@ -8,7 +8,7 @@ use Rattle.std.proofs.lemmas.List.{get_or_default}
 use Rattle.geo_core.specs.declared.squares.Piece.{Piece}
 use Rattle.run_plane.specs.declared.runs.Run.{Run}
 use Rattle.run_plane.specs.declared.rows.Row.{Row}
-use Rattle.run_plane.specs.Listings.{no_row, piece_of}
+use Rattle.run_plane.specs.steps.Listings.{no_row, piece_of}
 use Rattle.run_plane.proofs.PieceLaws.{AreCovered, covered_none, covered_more, covered_all}
 use Rattle.run_plane.proofs.listings.pieces_between.Goals as goal
 

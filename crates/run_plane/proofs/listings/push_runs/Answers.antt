@@ -4,7 +4,7 @@ use Rattle.std.proofs.lemmas.Int.{to_z-of_z}
 use Rattle.std.proofs.lemmas.List.{take_more, take_all, map-append}
 use Rattle.geo_core.specs.declared.squares.Piece.{Piece}
 use Rattle.run_plane.specs.declared.runs.Run.{Run}
-use Rattle.run_plane.specs.Listings.{piece_of}
+use Rattle.run_plane.specs.steps.Listings.{piece_of}
 use Rattle.run_plane.proofs.listings.push_runs.Goals as goal
 
 abbrev no_run : Run

@@ -1,6 +1,6 @@
 -- The runs so far are added.
 use Rattle.std.proofs.Common.{◌≡◌, ◌++◌, map, take}
-use Rattle.run_plane.specs.Listings.{piece_of}
+use Rattle.run_plane.specs.steps.Listings.{piece_of}
 use Rattle.run_plane.proofs.listings.push_runs.Given as goal
 
 abbrev pub invariant-loop-run : goal.invariant-loop-run

@@ -1,6 +1,6 @@
 use Rattle.std.proofs.Common.{◌∙◌, ap, sym}
 use Rattle.std.proofs.lemmas.Int.{to_z-of_z}
-use Rattle.run_words.specs.ClapWords.{signed_budget}
+use Rattle.run_words.specs.steps.ClapWords.{signed_budget}
 use Rattle.run_words.proofs.BudgetLaws.{budget_by_number, budget_in, number_fits}
 use Rattle.run_words.proofs.command_line.budget_of.Goals as goal
 

@@ -1,7 +1,7 @@
 use Rattle.std.proofs.Common.{◌∙◌, ap, codes}
 use Rattle.clap.specs.Words.{found_of}
 use Rattle.clap.proofs.WalkLemmas.{first_value-rows, one_text-rows}
-use Rattle.run_words.specs.ClapWords.{budget_told}
+use Rattle.run_words.specs.steps.ClapWords.{budget_told}
 use Rattle.run_words.proofs.command_line.options_of.Goals as goal
 
 pub returns-clause-quiet : goal.returns-clause-quiet

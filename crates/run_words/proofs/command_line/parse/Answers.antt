@@ -3,7 +3,7 @@ use Rattle.std.proofs.lemmas.Result.{IfOk-weaker}
 use Rattle.clap.specs.Words.{App, FailsBy, app_of, fault_of, is_simple, is_simple_and_free, matches_of, new_app, rule_of, with_rule}
 use Rattle.clap.specs.Simple.{app_of_fields, on_top}
 use Rattle.clap.proofs.OnLiterals.{clap_on_literals}
-use Rattle.run_words.specs.ClapWords.{bare_command, budget_rule, command_line, quiet_rule}
+use Rattle.run_words.specs.steps.ClapWords.{bare_command, budget_rule, command_line, quiet_rule}
 use Rattle.run_words.proofs.command_line.parse.Goals as goal
 
 is_plain : is_simple_and_free command_line ≡ true

@@ -1,6 +1,6 @@
 use Rattle.std.proofs.Common.{◌∙◌, map, string_bytes, sym}
 use Rattle.std.proofs.lemmas.List.Folds.{list_all-map}
-use Rattle.run_words.specs.ClapWords.{is_known}
+use Rattle.run_words.specs.steps.ClapWords.{is_known}
 use Rattle.run_words.proofs.ParseLaws.{refused_is, taken_is, unknown_none}
 use Rattle.run_words.proofs.words.read_words.Goals as goal
 

@@ -2,7 +2,7 @@ use Rattle.std.proofs.Common.{◌≡◌, ◌∙◌, ◌∷◌, [], ap, sym, drop
 use Rattle.std.proofs.lemmas.Grind.{common_steps}
 use Rattle.text_scan.specs.Words.{words_of}
 use Rattle.script_lines.specs.Arguments.{behind_word}
-use Rattle.script_lines.specs.NextWords.{begins_with_numbers}
+use Rattle.script_lines.specs.steps.NextWords.{begins_with_numbers}
 use Rattle.script_lines.proofs.FrontLaws.{behind-next, drop-next, begins-next, begins-ends, begins-breaks, fit-some, fit-none, values-some}
 use Rattle.script_lines.proofs.arguments.next_numbers.Goals as goal
 use Rattle.script_lines.proofs.arguments.next_numbers.Goals.{in-Some, in-None}

@@ -4,7 +4,7 @@ use Rattle.text_scan.specs.Words.{words_of}
 use Rattle.script_lines.specs.declared.faults.LineFault.TheVariants.{BadForm}
 use Rattle.script_lines.specs.Arguments.{Layer, Word, Value, read_words}
 use Rattle.script_lines.specs.Commands.{four_numbers}
-use Rattle.script_lines.specs.NextWords.{begins_with}
+use Rattle.script_lines.specs.steps.NextWords.{begins_with}
 use Rattle.script_lines.proofs.ReadLaws.{read-front, read-front-err, read-front-bad}
 use Rattle.script_lines.proofs.readings.layer_and_area.Goals as goal
 

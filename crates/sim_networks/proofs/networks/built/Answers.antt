@@ -5,7 +5,7 @@ use Rattle.sim_text.specs.declared.files.SimFet.{SimFet}
 use Rattle.switch_net.specs.declared.switches.Switch.{Switch}
 use Rattle.switch_net.specs.Network.{IsWithin}
 use Rattle.sim_networks.specs.SimNetworks.{transistor_of}
-use Rattle.sim_networks.specs.Numbering.{HasTerminals, names_with_nodes}
+use Rattle.sim_networks.specs.steps.Numbering.{HasTerminals, names_with_nodes}
 use Rattle.sim_networks.proofs.InputLaws.{node_below}
 use Rattle.sim_networks.proofs.SwitchLaws.{terminals_known, transistors_long, transistors_within}
 use Rattle.sim_networks.proofs.networks.built.Goals as goal

@@ -1,7 +1,7 @@
 use Rattle.std.proofs.Common.{length, inl, inr, refl, ap, arith}
 use Rattle.switch_net.specs.declared.limits.TheConstants.{MOST_NODES}
 use Rattle.sim_networks.specs.SimNetworks.{records_of}
-use Rattle.sim_networks.specs.Numbering.{names_with_nodes}
+use Rattle.sim_networks.specs.steps.Numbering.{names_with_nodes}
 use Rattle.sim_networks.proofs.CountLaws.{few_nodes, many_nodes}
 use Rattle.sim_networks.proofs.networks.check_limits.Goals as goal
 

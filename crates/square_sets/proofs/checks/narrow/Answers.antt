@@ -8,7 +8,7 @@ use Rattle.geo_core.specs.Strips.{IsInUnion, IsStrips}
 use Rattle.geo_core.proofs.StripSets.{strips_same}
 use Rattle.square_sets.specs.declared.limits.TheConstants.{SET_EDGE}
 use Rattle.square_sets.specs.Boxes.{IsTooNarrow, LiesInBox}
-use Rattle.square_sets.specs.Combined.{IsInFirstAlone}
+use Rattle.square_sets.specs.steps.Combined.{IsInFirstAlone}
 use Rattle.square_sets.specs.Reaches.{IsBounded}
 use Rattle.square_sets.proofs.BoxLaws.{narrow_same}
 use Rattle.square_sets.proofs.ErosionLaws.{strips_again, strips_cover, strips_within}

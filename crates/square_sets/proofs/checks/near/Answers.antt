@@ -6,7 +6,7 @@ use Rattle.geo_core.specs.declared.squares.Square.{Square}
 use Rattle.geo_core.specs.Strips.{IsInUnion, IsStrips}
 use Rattle.geo_core.proofs.StripSets.{strips_same}
 use Rattle.square_sets.specs.Boxes.{IsNearBy, IsTooNear}
-use Rattle.square_sets.specs.Combined.{IsInBoth}
+use Rattle.square_sets.specs.steps.Combined.{IsInBoth}
 use Rattle.square_sets.proofs.BoxLaws.{around, same_trans}
 use Rattle.square_sets.proofs.ErosionLaws.{strips_cover}
 use Rattle.square_sets.proofs.checks.near.Goals as goal

@@ -5,7 +5,7 @@ use Rattle.std.proofs.lemmas.Result.{IfOk-weaker}
 use Rattle.geo_core.specs.Strips.{IsInUnion, IsStrips}
 use Rattle.geo_core.proofs.StripSets.{strips_same}
 use Rattle.square_sets.specs.Boxes.{IsOutside, IsTooTight, LiesInNoBox}
-use Rattle.square_sets.specs.Combined.{IsInFirstAlone}
+use Rattle.square_sets.specs.steps.Combined.{IsInFirstAlone}
 use Rattle.square_sets.proofs.ErosionLaws.{strips_cover}
 use Rattle.square_sets.proofs.checks.tight.Goals as goal
 

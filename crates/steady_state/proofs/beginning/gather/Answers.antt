@@ -1,4 +1,4 @@
-use Rattle.steady_state.specs.Wired.{network_in}
+use Rattle.steady_state.specs.steps.Wired.{network_in}
 use Rattle.steady_state.proofs.Collecting.{adds_then, covered_grown}
 use Rattle.steady_state.proofs.Gathering.{gathered_of}
 use Rattle.switch_net.specs.declared.terminals.Side.TheVariants.{Left}

@@ -2,9 +2,9 @@ use Rattle.std.proofs.Common.{◌<◌, ◌≤◌, ◌-◌, ℕ, List, slice_inde
 use Rattle.switch_net.specs.declared.terminals.Side.TheVariants.{Left, Right}
 use Rattle.switch_net.specs.Sets.{IsInside}
 use Rattle.switch_net.specs.Vicinity.{IsReached, IsStorage}
-use Rattle.steady_state.specs.Gathering.{AreGatheredAt}
+use Rattle.steady_state.specs.steps.Gathering.{AreGatheredAt}
 use Rattle.steady_state.specs.Marked.{AddsMarks, AreMarked, AreReached, IsCovered}
-use Rattle.steady_state.specs.Wired.{network_in}
+use Rattle.steady_state.specs.steps.Wired.{network_in}
 use Rattle.steady_state.proofs.exploring.explore.Given as goal
 
 abbrev pub invariant-nodes : goal.invariant-nodes

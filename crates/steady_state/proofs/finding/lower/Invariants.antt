@@ -1,5 +1,5 @@
 use Rattle.std.proofs.Common.{◌≡◌, length}
-use Rattle.steady_state.specs.Lowering.{IsLowered}
+use Rattle.steady_state.specs.steps.Lowering.{IsLowered}
 use Rattle.steady_state.proofs.finding.lower.Given as goal
 
 abbrev pub invariant-nodes : goal.invariant-nodes

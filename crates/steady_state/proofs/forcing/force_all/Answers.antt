@@ -4,7 +4,7 @@ use Rattle.switch_net.specs.Path.{state_of}
 use Rattle.switch_net.specs.Sets.{IsInside}
 use Rattle.switch_net.proofs.Forcing.{forced_is_x}
 use Rattle.switch_net.proofs.Listing.{known}
-use Rattle.steady_state.specs.Wired.{network_in}
+use Rattle.steady_state.specs.steps.Wired.{network_in}
 use Rattle.steady_state.proofs.Collecting.{marked-le, none_marked}
 use Rattle.steady_state.proofs.Moving.{all_changed, below_take, waiting_take}
 use Rattle.steady_state.proofs.Rounds.{IsForcing, added_listed, added_within, are_over, differ_take, due_first, due_next, few_storage, forced_storage}

@@ -1,7 +1,7 @@
 use Rattle.std.proofs.Common.{ℕ, List, Option, Bor, subst}
 use Rattle.std.specs.Prelude.{IfSome}
 use Rattle.steady_state.specs.Marked.{IsRestedBut}
-use Rattle.steady_state.specs.Wired.{network_in}
+use Rattle.steady_state.specs.steps.Wired.{network_in}
 use Rattle.steady_state.proofs.Resting.{all_touched}
 use Rattle.steady_state.proofs.settling.mark_first.Goals as goal
 

@@ -6,7 +6,7 @@ use Rattle.switch_net.specs.Steady.{IsStep}
 use Rattle.switch_net.proofs.Listing.{known}
 use Rattle.switch_net.proofs.Phases.{none_more}
 use Rattle.switch_net.specs.Sets.{IsAmong}
-use Rattle.steady_state.specs.Wired.{network_in}
+use Rattle.steady_state.specs.steps.Wired.{network_in}
 use Rattle.steady_state.proofs.Collecting.{marked-le, none_marked}
 use Rattle.steady_state.proofs.Moving.{waiting_take, below_take, all_changed, steps_more, same_states, quiet_next}
 use Rattle.steady_state.proofs.Wires.{sound_of}

@@ -1,9 +1,9 @@
 use Rattle.std.proofs.Common.{◌≡◌, ◌<◌, ℕ, [], ◌∷◌, length, slice_index, slice_index_or}
 use Rattle.switch_net.specs.declared.switches.Switch.{Switch}
-use Rattle.steady_state.specs.Parts.{floors_in}
-use Rattle.steady_state.specs.Passing.{IsOver}
-use Rattle.steady_state.specs.Wired.{network_in}
-use Rattle.steady_state.specs.Spreading.{IsRelaxed, IsWorking, IsRaised}
+use Rattle.steady_state.specs.steps.Parts.{floors_in}
+use Rattle.steady_state.specs.steps.Passing.{IsOver}
+use Rattle.steady_state.specs.steps.Wired.{network_in}
+use Rattle.steady_state.specs.steps.Spreading.{IsRelaxed, IsWorking, IsRaised}
 use Rattle.steady_state.proofs.spreading.visit.Given as goal
 
 abbrev pub invariant-switches : goal.invariant-switches

@@ -1,7 +1,7 @@
 use Rattle.std.proofs.Common.{slice_index}
 use Rattle.switch_net.specs.Path.{state_of}
 use Rattle.steady_state.specs.Levels.{IsLevelOf}
-use Rattle.steady_state.specs.Wired.{network_in}
+use Rattle.steady_state.specs.steps.Wired.{network_in}
 use Rattle.steady_state.proofs.Passes.{order_below, steady_of}
 use Rattle.steady_state.proofs.Wires.{sound_of}
 use Rattle.steady_state.proofs.stepping.step_over.Goals as goal

@@ -3,7 +3,7 @@ use Rattle.std.proofs.lemmas.Bool.{cases_Bool}
 use Rattle.std.proofs.lemmas.List.{length-take-le}
 use Rattle.switch_net.specs.Sets.{IsInside}
 use Rattle.switch_net.proofs.Listing.{count-le, known, none_inside}
-use Rattle.steady_state.specs.Wired.{network_in}
+use Rattle.steady_state.specs.steps.Wired.{network_in}
 use Rattle.steady_state.proofs.Collecting.{none_marked}
 use Rattle.steady_state.proofs.Moving.{below_one}
 use Rattle.steady_state.proofs.stepping.step_vicinities.Goals as goal

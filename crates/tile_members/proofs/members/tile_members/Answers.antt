@@ -3,7 +3,7 @@ use Rattle.std.proofs.lemmas.Option.{slice_get-get_or}
 use Rattle.finite_sets.specs.Lists.{Distinct}
 use Rattle.cell_library.specs.Libraries.{seen}
 use Rattle.library_trees.specs.NamedCells.{named_tree_at}
-use Rattle.tile_members.specs.Finding.{HasMembers}
+use Rattle.tile_members.specs.steps.Finding.{HasMembers}
 use Rattle.tile_members.specs.TileMembers.{AreTileMembers}
 use Rattle.tile_members.proofs.FinderLaws.{finder_members, finder_tile, finding_more, finding_none}
 use Rattle.tile_members.proofs.FoundTiles.{found_all}

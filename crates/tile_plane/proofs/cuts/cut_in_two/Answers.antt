@@ -1,20 +1,16 @@
 use Rattle.std.proofs.Common.{◌≡◌, ℤ, w64, to_z, of_z, subst, arith}
 use Rattle.std.proofs.lemmas.Int.{ints, to_z-of_z}
-use Rattle.tile_plane.specs.Cuts.{IsCutAcross}
+use Rattle.tile_plane.specs.steps.Cuts.{IsCutAcross}
 use Rattle.tile_plane.proofs.cuts.cut_in_two.Goals as goal
 
 pub overflow_sub-below : goal.overflow_sub-below
 overflow_sub-below c =
     let within = c.requires.partition.within c.args.id c.requires.taken in
-    let from = c.requires.from in
-    let to = c.requires.to in
     rw c.get.ensures (omega (arith, ints))
 
 pub overflow_sub-above : goal.overflow_sub-above
 overflow_sub-above c =
     let within = c.requires.partition.within c.args.id c.requires.taken in
-    let from = c.requires.from in
-    let to = c.requires.to in
     rw c.get.ensures (omega (arith, ints))
 
 pub returns-then-below-above-clause-cut : goal.returns-then-below-above-clause-cut

@@ -1,35 +1,28 @@
 use Rattle.std.proofs.Common.{◌≡◌, inl, inr, ℤ, w64, to_z, of_z, refl, ap, subst, arith}
 use Rattle.std.proofs.lemmas.Int.{ints, to_z-of_z}
 use Rattle.tile_plane.specs.declared.tiles.Tile.{Tile}
-use Rattle.tile_plane.specs.Cuts.{IsCutAlong}
+use Rattle.tile_plane.specs.steps.Cuts.{IsCutAlong}
 use Rattle.tile_plane.proofs.cuts.part_after.Goals as goal
 
 pub returns-then-x-area-clause-part : goal.returns-then-x-area-clause-part
 returns-then-x-area-clause-part c =
     let edge = ap (λ (t : Tile). t.area.xlo) c.get.ensures in
-    let test = c.if-x-area.true in
-    let from = c.requires.from in
     inl (omega (arith, ints), refl, refl)
 
 pub overflow_sub-left : goal.overflow_sub-left
 overflow_sub-left c =
     let within = c.requires.partition.within c.args.id c.requires.taken in
-    let from = c.requires.from in
-    let to = c.requires.to in
     rw c.get.ensures (omega (arith, ints))
 
 pub overflow_sub-right : goal.overflow_sub-right
 overflow_sub-right c =
     let within = c.requires.partition.within c.args.id c.requires.taken in
-    let from = c.requires.from in
-    let to = c.requires.to in
     rw c.get.ensures (omega (arith, ints))
 
 pub returns-then-left-right-clause-part : goal.returns-then-left-right-clause-part
 returns-then-left-right-clause-part c =
     let same : to_z w64 (of_z w64 c.args.x) ≡ c.args.x = to_z-of_z w64 c.args.x c.ranges.x in
     let edge = ap (λ (t : Tile). t.area.xlo) c.get.ensures in
-    let test = c.if-x-area.false in
     let left = c.in_ok-_left._left in
     inr (
       left,
@@ -42,7 +35,6 @@ pub returns-clause-part : goal.returns-clause-part
 returns-clause-part c =
     let same : to_z w64 (of_z w64 c.args.x) ≡ c.args.x = to_z-of_z w64 c.args.x c.ranges.x in
     let edge = ap (λ (t : Tile). t.area.xlo) c.get.ensures in
-    let test = c.if-x-area.false in
     let part = c.in_ok-part.part in
     inr (
       c.args.id,

@@ -1,14 +1,13 @@
 use Rattle.std.proofs.Common.{◌≡◌, inl, inr, ℤ, w64, to_z, of_z, refl, ap, subst, arith}
 use Rattle.std.proofs.lemmas.Int.{ints, to_z-of_z}
 use Rattle.tile_plane.specs.declared.tiles.Tile.{Tile}
-use Rattle.tile_plane.specs.Cuts.{IsCutAcross}
+use Rattle.tile_plane.specs.steps.Cuts.{IsCutAcross}
 use Rattle.tile_plane.proofs.cuts.part_from.Goals as goal
 
 pub returns-then-get-y-clause-part : goal.returns-then-get-y-clause-part
 returns-then-get-y-clause-part c =
     let same : to_z w64 (of_z w64 c.args.y) ≡ c.args.y = to_z-of_z w64 c.args.y c.ranges.y in
     let edge = ap (λ (t : Tile). t.area.ylo) c.get.ensures in
-    let test = c.if-get-y.true in
     let parts = c.in_ok-parts.parts in
     inr (
       parts.0,
@@ -20,6 +19,4 @@ returns-then-get-y-clause-part c =
 pub returns-clause-part : goal.returns-clause-part
 returns-clause-part c =
     let edge = ap (λ (t : Tile). t.area.ylo) c.get.ensures in
-    let test = c.if-get-y.false in
-    let from = c.requires.from in
     inl (omega (arith, ints), refl, refl)

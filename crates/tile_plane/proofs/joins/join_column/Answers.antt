@@ -1,47 +1,50 @@
-use Rattle.std.proofs.Common.{◌≡◌, ℤ, pos, ◌+ℤ◌, ◌-ℤ◌, ◌<ℤ◌, w64, to_z, of_z, refl, sym, ◌∙◌, ap, subst, arith}
+use Rattle.std.proofs.Common.{◌≡◌, ℤ, pos, ◌+ℤ◌, ◌-ℤ◌, w64, to_z, of_z, refl, ◌∙◌, ap, subst, arith}
 use Rattle.std.proofs.lemmas.Int.{ints, by_lt_z, to_z-of_z}
 use Rattle.geo_core.specs.declared.squares.Rect.{Rect}
 use Rattle.tile_plane.specs.declared.tiles.Tile.{Tile}
 use Rattle.tile_plane.specs.Tiles.{tile_at, Owns}
 use Rattle.tile_plane.specs.Walks.{square_at}
-use Rattle.tile_plane.specs.Tall.{IsTallAt, AreGrown, AreJoining}
+use Rattle.tile_plane.specs.Tall.{IsTallAt, AreJoining}
 use Rattle.tile_plane.proofs.TileLaws.{owner_taken}
 use Rattle.tile_plane.proofs.SideLaws.{beside_above}
 use Rattle.tile_plane.proofs.WalkLaws.{extent_falls}
-use Rattle.tile_plane.proofs.KeepLaws.{IsTallBelow, grown_self, grown_then, join_grows, tall_kept, tall_begins, tall_on, tall_joined}
+use Rattle.tile_plane.proofs.KeepLaws.{IsTallBelow, grown_self, grown_then, tall_kept, tall_begins, tall_on, tall_joined}
+use Rattle.tile_plane.proofs.StackLaws.{IsUpon, joinable_as_read, unlike_as_read, joined_grow}
 use Rattle.tile_plane.proofs.joins.join_column.Goals as goal
+use Rattle.tile_plane.proofs.joins.join_column.Goals.{After-above_at-next}
+
+-- the next tile has the square of the column where this one ends
+owns : (c : After-above_at-next) → Owns c.column.store c.above_at-next.result
+    (square_at (to_z w64 (of_z w64 c.args.x)) (tile_at c.column.store c.column.id).area.yhi)
+owns c =
+    let same_x : to_z w64 (of_z w64 c.args.x) ≡ c.args.x = to_z-of_z w64 c.args.x c.ranges.x in
+    let same_top : to_z w64 (of_z w64 c.args.yhi) ≡ c.args.yhi = to_z-of_z w64 c.args.yhi c.ranges.yhi in
+    let edge = ap (λ (t : Tile). t.area.yhi) c.get.ensures in
+    let taken = c.column.invariant.below.taken in
+    let within = c.column.invariant.joining.partition.within c.column.id taken in
+    let proper = taken.proper in
+    c.above_at-next.ensures (omega (arith, ints))
+
+upon : (c : After-above_at-next) → IsUpon c.column.store c.column.id c.above_at-next.result
+upon c =
+    let below = c.column.invariant.below in
+    record {
+      taken = below.taken;
+      other_taken = owner_taken _ _ _ (owns c);
+      meet = beside_above _ _ _ (to_z w64 (of_z w64 c.args.x)) c.column.invariant.joining.partition below.taken below.low below.high (owns c);
+    }
 
 pub join_below-id-requires-clause-taken : goal.join_below-id-requires-clause-taken
-join_below-id-requires-clause-taken c =
-    let x = to_z w64 (of_z w64 c.args.x) in
-    let y = to_z w64 (of_z w64 c.args.ylo) in
-    let same_x : x ≡ c.args.x = to_z-of_z w64 c.args.x c.ranges.x in
-    let same_y : y ≡ c.args.ylo = to_z-of_z w64 c.args.ylo c.ranges.ylo in
-    let bounds = c.requires in
-    let owns = c.find-first.ensures in
-    let covers = owns.covers in
-    owner_taken _ _ _ owns
+join_below-id-requires-clause-taken c = owner_taken _ _ _ c.find-first.ensures
 
 pub join_below-id-requires-clause-from : goal.join_below-id-requires-clause-from
 join_below-id-requires-clause-from c =
-    let x = to_z w64 (of_z w64 c.args.x) in
-    let y = to_z w64 (of_z w64 c.args.ylo) in
-    let same_x : x ≡ c.args.x = to_z-of_z w64 c.args.x c.ranges.x in
-    let same_y : y ≡ c.args.ylo = to_z-of_z w64 c.args.ylo c.ranges.ylo in
-    let bounds = c.requires in
-    let owns = c.find-first.ensures in
-    let covers = owns.covers in
+    let same : to_z w64 (of_z w64 c.args.ylo) ≡ c.args.ylo = to_z-of_z w64 c.args.ylo c.ranges.ylo in
     omega (arith, ints)
 
 pub join_below-id-requires-clause-to : goal.join_below-id-requires-clause-to
 join_below-id-requires-clause-to c =
-    let x = to_z w64 (of_z w64 c.args.x) in
-    let y = to_z w64 (of_z w64 c.args.ylo) in
-    let same_x : x ≡ c.args.x = to_z-of_z w64 c.args.x c.ranges.x in
-    let same_y : y ≡ c.args.ylo = to_z-of_z w64 c.args.ylo c.ranges.ylo in
-    let bounds = c.requires in
-    let owns = c.find-first.ensures in
-    let covers = owns.covers in
+    let same : to_z w64 (of_z w64 c.args.ylo) ≡ c.args.ylo = to_z-of_z w64 c.args.ylo c.ranges.ylo in
     omega (arith, ints)
 
 pub column-init : goal.column-init
@@ -49,7 +52,6 @@ column-init c =
     let x = to_z w64 (of_z w64 c.args.x) in
     let y = to_z w64 (of_z w64 c.args.ylo) in
     let same_y : y ≡ c.args.ylo = to_z-of_z w64 c.args.ylo c.ranges.ylo in
-    let bounds = c.requires in
     let new = c.join_below-id.new.store in
     let id = c.join_below-id.result in
     let owns : Owns c.args.store.now c.find-first.result (square_at x y) = c.find-first.ensures in
@@ -62,194 +64,64 @@ column-init c =
     }
 
 pub get-upper-requires : goal.get-upper-requires
-get-upper-requires c =
-    let tiles = c.column.store in
-    let id = c.column.id in
-    let next = c.above_at-next.result in
-    let x = to_z w64 (of_z w64 c.args.x) in
-    let same_x : x ≡ c.args.x = to_z-of_z w64 c.args.x c.ranges.x in
-    let joining : AreJoining c.join_below-id.new.store tiles = c.column.invariant.joining in
-    let below : IsTallBelow tiles x (to_z w64 (of_z w64 c.args.ylo) -ℤ pos 1) id = c.column.invariant.below in
-    let edge = ap (λ (t : Tile). t.area.yhi) c.get.ensures in
-    let test = c.column-test.true in
-    let top : (tile_at tiles id).area.yhi <ℤ c.args.yhi = omega (arith, ints) in
-    let within = joining.partition.within id below.taken in
-    let proper = below.taken.proper in
-    let bounds = c.requires in
-    let owns : Owns tiles next (square_at x (tile_at tiles id).area.yhi) = c.above_at-next.ensures (omega (arith, ints)) in
-    let meet : (tile_at tiles next).area.ylo ≡ (tile_at tiles id).area.yhi =
-    beside_above tiles id next x joining.partition below.taken below.low below.high owns in
-    owner_taken tiles next _ owns
+get-upper-requires c = (upon (goal.at.get-upper-requires c).After-above_at-next).other_taken
 
 pub join_up-requires-clause-other_taken : goal.join_up-requires-clause-other_taken
-join_up-requires-clause-other_taken c =
-    let tiles = c.column.store in
-    let id = c.column.id in
-    let next = c.above_at-next.result in
-    let x = to_z w64 (of_z w64 c.args.x) in
-    let same_x : x ≡ c.args.x = to_z-of_z w64 c.args.x c.ranges.x in
-    let joining : AreJoining c.join_below-id.new.store tiles = c.column.invariant.joining in
-    let below : IsTallBelow tiles x (to_z w64 (of_z w64 c.args.ylo) -ℤ pos 1) id = c.column.invariant.below in
-    let edge = ap (λ (t : Tile). t.area.yhi) c.get.ensures in
-    let test = c.column-test.true in
-    let top : (tile_at tiles id).area.yhi <ℤ c.args.yhi = omega (arith, ints) in
-    let within = joining.partition.within id below.taken in
-    let proper = below.taken.proper in
-    let bounds = c.requires in
-    let owns : Owns tiles next (square_at x (tile_at tiles id).area.yhi) = c.above_at-next.ensures (omega (arith, ints)) in
-    let meet : (tile_at tiles next).area.ylo ≡ (tile_at tiles id).area.yhi =
-    beside_above tiles id next x joining.partition below.taken below.low below.high owns in
-    owner_taken tiles next _ owns
+join_up-requires-clause-other_taken c = (upon (goal.at.join_up-requires-clause-other_taken c).After-above_at-next).other_taken
 
 pub join_up-requires-clause-meet : goal.join_up-requires-clause-meet
-join_up-requires-clause-meet c =
-    let tiles = c.column.store in
-    let id = c.column.id in
-    let next = c.above_at-next.result in
-    let x = to_z w64 (of_z w64 c.args.x) in
-    let same_x : x ≡ c.args.x = to_z-of_z w64 c.args.x c.ranges.x in
-    let joining : AreJoining c.join_below-id.new.store tiles = c.column.invariant.joining in
-    let below : IsTallBelow tiles x (to_z w64 (of_z w64 c.args.ylo) -ℤ pos 1) id = c.column.invariant.below in
-    let edge = ap (λ (t : Tile). t.area.yhi) c.get.ensures in
-    let test = c.column-test.true in
-    let top : (tile_at tiles id).area.yhi <ℤ c.args.yhi = omega (arith, ints) in
-    let within = joining.partition.within id below.taken in
-    let proper = below.taken.proper in
-    let bounds = c.requires in
-    let owns : Owns tiles next (square_at x (tile_at tiles id).area.yhi) = c.above_at-next.ensures (omega (arith, ints)) in
-    let meet : (tile_at tiles next).area.ylo ≡ (tile_at tiles id).area.yhi =
-    beside_above tiles id next x joining.partition below.taken below.low below.high owns in
-    meet
+join_up-requires-clause-meet c = (upon (goal.at.join_up-requires-clause-meet c).After-above_at-next).meet
 
 pub column-preserved-then-may_join : goal.column-preserved-then-may_join
 column-preserved-then-may_join c =
-    let tiles = c.column.store in
-    let id = c.column.id in
-    let next = c.above_at-next.result in
-    let x = to_z w64 (of_z w64 c.args.x) in
-    let same_x : x ≡ c.args.x = to_z-of_z w64 c.args.x c.ranges.x in
-    let joining : AreJoining c.join_below-id.new.store tiles = c.column.invariant.joining in
-    let below : IsTallBelow tiles x (to_z w64 (of_z w64 c.args.ylo) -ℤ pos 1) id = c.column.invariant.below in
-    let edge = ap (λ (t : Tile). t.area.yhi) c.get.ensures in
-    let test = c.column-test.true in
-    let top : (tile_at tiles id).area.yhi <ℤ c.args.yhi = omega (arith, ints) in
-    let within = joining.partition.within id below.taken in
-    let proper = below.taken.proper in
-    let bounds = c.requires in
-    let owns : Owns tiles next (square_at x (tile_at tiles id).area.yhi) = c.above_at-next.ensures (omega (arith, ints)) in
-    let meet : (tile_at tiles next).area.ylo ≡ (tile_at tiles id).area.yhi =
-    beside_above tiles id next x joining.partition below.taken below.low below.high owns in
-    let yes = c.if-may_join.ensures.yes refl in
-    let p = c.get-lower.ensures in
-    let q = c.get-upper.ensures in
-    let low : (tile_at tiles next).area.xlo ≡ (tile_at tiles id).area.xlo = sym (ap (λ (t : Tile). t.area.xlo) q) ∙ sym yes.0
-    ∙ ap (λ (t : Tile). t.area.xlo) p in
-    let high : (tile_at tiles next).area.xhi ≡ (tile_at tiles id).area.xhi = sym (ap (λ (t : Tile). t.area.xhi) q) ∙ sym yes.1
-    ∙ ap (λ (t : Tile). t.area.xhi) p in
-    let value : (tile_at tiles next).value ≡ (tile_at tiles id).value = sym (ap (λ (t : Tile). t.value) q) ∙ sym yes.2 ∙ ap (λ (t : Tile). t.value) p in
-    let joined = c.join_up.ensures.joined in
-    let taken = owner_taken tiles next _ owns in
-    let grows : AreGrown tiles c.join_up.new.store = join_grows tiles c.join_up.new.store id next below.taken taken meet low high value joined in
-    let still = tall_joined tiles c.join_up.new.store x _ id next c.join_up.ensures.partition grows below taken meet joined in
+    let stack = upon (goal.at.column-preserved-then-may_join c).After-above_at-next in
+    let joining = c.column.invariant.joining in
+    let alike = joinable_as_read c.column.store c.column.id c.above_at-next.result _ _ c.get-lower.ensures c.get-upper.ensures
+    (c.if-may_join.ensures.yes refl) in
+    let joined = c.join_up.ensures in
+    let grow = joined_grow stack alike joined.joined in
     record {
       joining = record {
-        partition = c.join_up.ensures.partition;
-        stitches = c.join_up.ensures.stitches;
-        same = λ s. c.join_up.ensures.same s ∙ joining.same s;
-        grown = grown_then c.join_below-id.new.store tiles c.join_up.new.store joining.grown grows;
+        partition = joined.partition;
+        stitches = joined.stitches;
+        same = λ s. joined.same s ∙ joining.same s;
+        grown = grown_then c.join_below-id.new.store c.column.store c.join_up.new.store joining.grown grow;
       };
-      below = still;
+      below = tall_joined _ _ _ _ _ _ joined.partition grow c.column.invariant.below stack.other_taken stack.meet joined.joined;
     }
 
 pub column-smaller-then-may_join : goal.column-smaller-then-may_join
 column-smaller-then-may_join c =
-    let tiles = c.column.store in
-    let id = c.column.id in
-    let next = c.above_at-next.result in
-    let x = to_z w64 (of_z w64 c.args.x) in
-    let same_x : x ≡ c.args.x = to_z-of_z w64 c.args.x c.ranges.x in
-    let joining : AreJoining c.join_below-id.new.store tiles = c.column.invariant.joining in
-    let below : IsTallBelow tiles x (to_z w64 (of_z w64 c.args.ylo) -ℤ pos 1) id = c.column.invariant.below in
-    let edge = ap (λ (t : Tile). t.area.yhi) c.get.ensures in
-    let test = c.column-test.true in
-    let top : (tile_at tiles id).area.yhi <ℤ c.args.yhi = omega (arith, ints) in
-    let within = joining.partition.within id below.taken in
-    let proper = below.taken.proper in
-    let bounds = c.requires in
-    let owns : Owns tiles next (square_at x (tile_at tiles id).area.yhi) = c.above_at-next.ensures (omega (arith, ints)) in
-    let meet : (tile_at tiles next).area.ylo ≡ (tile_at tiles id).area.yhi =
-    beside_above tiles id next x joining.partition below.taken below.low below.high owns in
-    let at = to_z w64 (of_z w64 c.args.yhi) in
-    let same_top : at ≡ c.args.yhi = to_z-of_z w64 c.args.yhi c.ranges.yhi in
+    let stack = upon (goal.at.column-smaller-then-may_join c).After-above_at-next in
+    let proper = stack.other_taken.proper in
+    let meet = stack.meet in
     let is = ap (λ (r : Rect). r.yhi) c.join_up.ensures.joined.whole in
-    let more = owns.covers in
-    extent_falls (tile_at tiles id).area.yhi (tile_at c.join_up.new.store id).area.yhi at (omega (arith, ints)) (omega (arith, ints))
+    let edge = ap (λ (t : Tile). t.area.yhi) c.get.ensures in
+    extent_falls (tile_at c.column.store c.column.id).area.yhi (tile_at c.join_up.new.store c.column.id).area.yhi (to_z w64 (of_z w64 c.args.yhi))
+    (omega (arith, ints)) (omega (arith, ints))
 
 pub column-smaller : goal.column-smaller
 column-smaller c =
-    let tiles = c.column.store in
-    let id = c.column.id in
-    let next = c.above_at-next.result in
-    let x = to_z w64 (of_z w64 c.args.x) in
-    let same_x : x ≡ c.args.x = to_z-of_z w64 c.args.x c.ranges.x in
-    let joining : AreJoining c.join_below-id.new.store tiles = c.column.invariant.joining in
-    let below : IsTallBelow tiles x (to_z w64 (of_z w64 c.args.ylo) -ℤ pos 1) id = c.column.invariant.below in
+    let stack = upon (goal.at.column-smaller c).After-above_at-next in
+    let proper = stack.other_taken.proper in
+    let meet = stack.meet in
     let edge = ap (λ (t : Tile). t.area.yhi) c.get.ensures in
-    let test = c.column-test.true in
-    let top : (tile_at tiles id).area.yhi <ℤ c.args.yhi = omega (arith, ints) in
-    let within = joining.partition.within id below.taken in
-    let proper = below.taken.proper in
-    let bounds = c.requires in
-    let owns : Owns tiles next (square_at x (tile_at tiles id).area.yhi) = c.above_at-next.ensures (omega (arith, ints)) in
-    let meet : (tile_at tiles next).area.ylo ≡ (tile_at tiles id).area.yhi =
-    beside_above tiles id next x joining.partition below.taken below.low below.high owns in
-    let at = to_z w64 (of_z w64 c.args.yhi) in
-    let same_top : at ≡ c.args.yhi = to_z-of_z w64 c.args.yhi c.ranges.yhi in
-    let more = owns.covers in
-    extent_falls (tile_at tiles id).area.yhi (tile_at tiles next).area.yhi at (omega (arith, ints)) (omega (arith, ints))
+    extent_falls (tile_at c.column.store c.column.id).area.yhi (tile_at c.column.store c.above_at-next.result).area.yhi (to_z w64 (of_z w64 c.args.yhi))
+    (omega (arith, ints)) (omega (arith, ints))
 
 pub column-preserved : goal.column-preserved
 column-preserved c =
-    let tiles = c.column.store in
-    let id = c.column.id in
-    let next = c.above_at-next.result in
-    let x = to_z w64 (of_z w64 c.args.x) in
-    let same_x : x ≡ c.args.x = to_z-of_z w64 c.args.x c.ranges.x in
-    let joining : AreJoining c.join_below-id.new.store tiles = c.column.invariant.joining in
-    let below : IsTallBelow tiles x (to_z w64 (of_z w64 c.args.ylo) -ℤ pos 1) id = c.column.invariant.below in
-    let edge = ap (λ (t : Tile). t.area.yhi) c.get.ensures in
-    let test = c.column-test.true in
-    let top : (tile_at tiles id).area.yhi <ℤ c.args.yhi = omega (arith, ints) in
-    let within = joining.partition.within id below.taken in
-    let proper = below.taken.proper in
-    let bounds = c.requires in
-    let owns : Owns tiles next (square_at x (tile_at tiles id).area.yhi) = c.above_at-next.ensures (omega (arith, ints)) in
-    let meet : (tile_at tiles next).area.ylo ≡ (tile_at tiles id).area.yhi =
-    beside_above tiles id next x joining.partition below.taken below.low below.high owns in
-    let p = c.get-lower.ensures in
-    let q = c.get-upper.ensures in
+    let at = (goal.at.column-preserved c).After-above_at-next in
     record {
-      joining = joining;
-      below = tall_on tiles x _ id next joining.partition below owns meet (λ low high value. c.if-may_join.ensures.no refl
-          (ap (λ (t : Tile). t.area.xlo) p ∙ low ∙ sym (ap (λ (t : Tile). t.area.xlo) q))
-          (ap (λ (t : Tile). t.area.xhi) p ∙ high ∙ sym (ap (λ (t : Tile). t.area.xhi) q))
-          (ap (λ (t : Tile). t.value) p ∙ value ∙ sym (ap (λ (t : Tile). t.value) q)));
+      joining = c.column.invariant.joining;
+      below = tall_on _ _ _ _ _ c.column.invariant.joining.partition c.column.invariant.below (owns at) (upon at).meet
+          (unlike_as_read _ _ _ _ _ c.get-lower.ensures c.get-upper.ensures (c.if-may_join.ensures.no refl));
     }
 
 pub join_above-requires-clause-reach : goal.join_above-requires-clause-reach
 join_above-requires-clause-reach c =
-    let x = to_z w64 (of_z w64 c.args.x) in
-    let at = to_z w64 (of_z w64 c.args.yhi) in
-    let same_x : x ≡ c.args.x = to_z-of_z w64 c.args.x c.ranges.x in
-    let same_y : to_z w64 (of_z w64 c.args.ylo) ≡ c.args.ylo = to_z-of_z w64 c.args.ylo c.ranges.ylo in
-    let same_top : at ≡ c.args.yhi = to_z-of_z w64 c.args.yhi c.ranges.yhi in
+    let same_top : to_z w64 (of_z w64 c.args.yhi) ≡ c.args.yhi = to_z-of_z w64 c.args.yhi c.ranges.yhi in
     let edge = ap (λ (t : Tile). t.area.yhi) c.get.ensures in
-    let test = c.column-test.false in
-    let tiles = c.column.store in
-    let id = c.column.id in
-    let joining : AreJoining c.join_below-id.new.store tiles = c.column.invariant.joining in
-    let below : IsTallBelow tiles x (to_z w64 (of_z w64 c.args.ylo) -ℤ pos 1) id = c.column.invariant.below in
-    let bounds = c.requires in
     omega (arith, ints)
 
 pub returns : goal.returns
@@ -260,12 +132,10 @@ returns c =
     let same_y : to_z w64 (of_z w64 c.args.ylo) ≡ c.args.ylo = to_z-of_z w64 c.args.ylo c.ranges.ylo in
     let same_top : at ≡ c.args.yhi = to_z-of_z w64 c.args.yhi c.ranges.yhi in
     let edge = ap (λ (t : Tile). t.area.yhi) c.get.ensures in
-    let test = c.column-test.false in
     let tiles = c.column.store in
     let id = c.column.id in
     let joining : AreJoining c.join_below-id.new.store tiles = c.column.invariant.joining in
     let below : IsTallBelow tiles x (to_z w64 (of_z w64 c.args.ylo) -ℤ pos 1) id = c.column.invariant.below in
-    let bounds = c.requires in
     let new = c.join_above.new.store in
     let first : AreJoining c.args.store.now c.join_below-id.new.store = c.join_below-id.ensures.joining in
     let last : AreJoining tiles new = c.join_above.ensures.joining in

@@ -1,71 +1,66 @@
-use Rattle.std.proofs.Common.{ℕ, sym, ap, subst, arith}
+use Rattle.std.proofs.Common.{sym, subst, arith}
 use Rattle.std.proofs.lemmas.Int.{ints}
 use Rattle.geo_core.specs.Covering.{IsProper}
 use Rattle.tile_plane.specs.declared.tiles.Tile.{Tile}
-use Rattle.tile_plane.specs.Tiles.{tile_at}
-use Rattle.tile_plane.proofs.JoinLaws.{IsJoiningUp, up_new_partition, up_end, up_partition, up_stitches, up_same, up_joined}
+use Rattle.tile_plane.proofs.JoinLaws.{StandsUpon, IsJoining, whole_partition, whole_same, up_two, up_round, up_end, up_joined}
 use Rattle.tile_plane.proofs.joins.join_up.Goals as goal
+use Rattle.tile_plane.proofs.joins.join_up.Goals.{After-get-part, After-remove}
+
+stands : (c : After-get-part) → StandsUpon c.args.store.now c.args.lower c.args.upper
+stands c = record {
+  taken = c.requires.taken;
+  other_taken = c.requires.other_taken;
+  meet = c.requires.meet;
+  low = c.requires.low;
+  high = c.requires.high;
+}
+
+joining : (c : After-remove) → StandsUpon c.args.store.now c.args.lower c.args.upper
+    → IsJoining c.args.store.now c.put.new.self c.remove.new.self c.args.lower c.args.upper c.get-tile.result c.get-part.result c.whole_of-whole.result
+joining c at = record {
+  partition = c.requires.partition;
+  stitches = c.requires.stitches;
+  taken = c.requires.taken;
+  other_taken = c.requires.other_taken;
+  two = up_two at;
+  round = up_round at;
+  value = c.requires.value;
+  is = c.get-tile.ensures;
+  is_part = c.get-part.ensures;
+  is_whole = c.whole_of-whole.ensures;
+  put = c.put.ensures;
+  gone = c.remove.ensures.gone;
+  removed = c.remove.ensures.others;
+}
 
 pub put-requires-clause-proper : goal.put-requires-clause-proper
 put-requires-clause-proper c =
-    let proper = c.requires.taken.proper in
-    let more = c.requires.other_taken.proper in
-    rw (c.up_whole-whole.ensures, c.get-tile.ensures, c.get-part.ensures) (omega (arith, ints))
+    rw (c.whole_of-whole.ensures, c.get-tile.ensures, c.get-part.ensures) (omega (arith, ints))
 
 pub put-requires-clause-within : goal.put-requires-clause-within
 put-requires-clause-within c =
     let within = c.requires.partition.within c.args.lower c.requires.taken in
     let other = c.requires.partition.within c.args.upper c.requires.other_taken in
-    rw (c.up_whole-whole.ensures, c.get-tile.ensures, c.get-part.ensures) (omega (arith, ints))
+    rw (c.whole_of-whole.ensures, c.get-tile.ensures, c.get-part.ensures) (omega (arith, ints))
 
 pub remove-requires : goal.remove-requires
 remove-requires c = record {
-  proper = subst (λ (t : Tile). IsProper t.area) (sym (c.put.ensures.others c.args.upper (λ e.
-      let same = ap (λ (v : ℕ). (tile_at c.args.store.now v).area.ylo) e in
-      let meet = c.requires.meet in
-      let proper = c.requires.taken.proper in
-      omega (arith, ints)))) c.requires.other_taken.proper;
+  proper = subst (λ (t : Tile). IsProper t.area)
+      (sym (c.put.ensures.others c.args.upper (λ e. up_two (stands (goal.at.remove-requires c).After-get-part) (sym e)))) c.requires.other_taken.proper;
 }
 
 pub mend_upper_end-requires : goal.mend_upper_end-requires
 mend_upper_end-requires c =
-    let joining : IsJoiningUp c.args.store.now c.put.new.self c.remove.new.self c.args.lower c.args.upper c.get-tile.result c.get-part.result
-    c.up_whole-whole.result = record {
-      partition = c.requires.partition;
-      stitches = c.requires.stitches;
-      taken = c.requires.taken;
-      other_taken = c.requires.other_taken;
-      meet = c.requires.meet;
-      low = c.requires.low;
-      high = c.requires.high;
-      value = c.requires.value;
-      is = c.get-tile.ensures;
-      is_part = c.get-part.ensures;
-      is_whole = c.up_whole-whole.ensures;
-      put = c.put.ensures;
-      gone = c.remove.ensures.gone;
-      removed = c.remove.ensures.others;
-    } in
-    record { partition = up_new_partition joining; end = up_end joining }
+    let at = goal.at.mend_upper_end-requires c in
+    let side = stands at.After-get-part in
+    let join = joining at.After-remove side in
+    record { partition = whole_partition join; end = up_end side join }
 
 pub returns : goal.returns
 returns c =
-    let joining : IsJoiningUp c.args.store.now c.put.new.self c.remove.new.self c.args.lower c.args.upper c.get-tile.result c.get-part.result
-    c.up_whole-whole.result = record {
-      partition = c.requires.partition;
-      stitches = c.requires.stitches;
-      taken = c.requires.taken;
-      other_taken = c.requires.other_taken;
-      meet = c.requires.meet;
-      low = c.requires.low;
-      high = c.requires.high;
-      value = c.requires.value;
-      is = c.get-tile.ensures;
-      is_part = c.get-part.ensures;
-      is_whole = c.up_whole-whole.ensures;
-      put = c.put.ensures;
-      gone = c.remove.ensures.gone;
-      removed = c.remove.ensures.others;
-    } in
+    let at = goal.at.returns c in
+    let side = stands at.After-get-part in
+    let join = joining at.After-remove side in
     let all = c.mend_upper_end.ensures in
-    record { partition = up_partition joining all; stitches = up_stitches joining all; same = up_same joining all; joined = up_joined joining all }
+    let still = whole_same join all in
+    record { partition = still.partition; stitches = still.stitches; same = still.same; joined = up_joined side join all }

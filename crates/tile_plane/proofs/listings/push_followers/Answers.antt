@@ -10,7 +10,14 @@ use Rattle.tile_plane.proofs.TileLaws.{owner_taken}
 use Rattle.tile_plane.specs.Listings.{low_row}
 use Rattle.tile_plane.proofs.FollowerLaws.{hint_taken, next_taken, no_followers, adding_begins, adding_goes_on, adding_passes, adding_falls, adding_ends}
 use Rattle.tile_plane.proofs.listings.push_followers.Goals as goal
-use Rattle.tile_plane.proofs.listings.push_followers.Goals.{else-low-y-via-then-low-y+else-y-area, else-low-y-via-else-low-y}
+use Rattle.tile_plane.proofs.listings.push_followers.Goals.{
+  Else-area-tile,
+  After-min-top,
+  After-max-low,
+  After-max-y,
+  else-low-y-via-then-low-y+else-y-area,
+  else-low-y-via-else-low-y,
+}
 
 -- the greater of two numbers in bits
 max_in_bits : (m a b x : ℤ) → FitsSigned w64 m → FitsSigned w64 a → FitsSigned w64 b → m ≡ int_max (to_z w64 (of_z w64 a)) (to_z w64 (of_z w64 b)) → a ≡ x
@@ -43,6 +50,26 @@ is_past a b x y p q test = omega (arith, ints)
 no_more : (l low y : ℤ) → l ≡ low → lt_z l y ≡ false → y ≤ℤ low
 no_more l low y same test = omega (arith, ints)
 
+-- the tile ends before the area does
+inside : (c : Else-area-tile) → (tile_at c.args.store.now c.args.id).area.xhi <ℤ c.args.area.now.xhi
+inside c =
+    let area = c.args.area.now in
+    is_past (to_z w64 (of_z w64 area.xhi)) (to_z w64 (of_z w64 c.get-tile.result.area.xhi)) (tile_at c.args.store.now c.args.id).area.xhi area.xhi
+    (to_z-of_z w64 area.xhi (search rules))
+    (to_z-of_z w64 c.get-tile.result.area.xhi (search rules) ∙ ap (λ (t : Tile). t.area.xhi) c.get-tile.ensures) c.if-area-tile.false
+
+top_is : (c : After-min-top) → to_z w64 (of_z w64 c.min-top.result) ≡ int_min (tile_at c.args.store.now c.args.id).area.yhi c.args.area.now.yhi
+top_is c = min_in_bits c.min-top.result c.get-tile.result.area.yhi c.args.area.now.yhi (tile_at c.args.store.now c.args.id).area.yhi
+    (search rules) (search rules) (search rules) c.min-top.ensures.value (ap (λ (t : Tile). t.area.yhi) c.get-tile.ensures)
+
+low_is : (c : After-max-low) → to_z w64 (of_z w64 c.max-low.result) ≡ low_row c.args.store.now c.args.area.now c.args.id
+low_is c = max_in_bits c.max-low.result c.get-tile.result.area.ylo c.args.area.now.ylo (tile_at c.args.store.now c.args.id).area.ylo
+    (search rules) (search rules) (search rules) c.max-low.ensures.value (ap (λ (t : Tile). t.area.ylo) c.get-tile.ensures)
+
+row_is : (c : After-max-y) → to_z w64 (of_z w64 c.max-y.result) ≡ low_row c.args.store.now c.args.area.now c.loop-y.next
+row_is c = max_in_bits c.max-y.result c.get-follower.result.area.ylo c.args.area.now.ylo (tile_at c.args.store.now c.loop-y.next).area.ylo
+    (search rules) (search rules) (search rules) c.max-y.ensures.value (ap (λ (t : Tile). t.area.ylo) c.get-follower.ensures)
+
 pub returns-then-area-tile : goal.returns-then-area-tile
 returns-then-area-tile c =
     let tiles = c.args.store.now in
@@ -68,199 +95,84 @@ right_below-next-requires-clause-hint c =
 
 pub right_below-next-requires-clause-inside : goal.right_below-next-requires-clause-inside
 right_below-next-requires-clause-inside c =
-    let tiles = c.args.store.now in
-    let area = c.args.area.now in
-    let edge = ap (λ (t : Tile). t.area.xhi) c.get-tile.ensures in
-    let test = c.if-area-tile.false in
-    let inside : (tile_at tiles c.args.id).area.xhi <ℤ area.xhi =
-    is_past (to_z w64 (of_z w64 area.xhi)) (to_z w64 (of_z w64 c.get-tile.result.area.xhi)) (tile_at tiles c.args.id).area.xhi area.xhi
-    (to_z-of_z w64 area.xhi (search rules)) (to_z-of_z w64 c.get-tile.result.area.xhi (search rules) ∙ edge) test in
-    let top = to_z w64 (of_z w64 c.min-top.result) in
-    let at : top ≡ int_min (tile_at tiles c.args.id).area.yhi area.yhi =
-    min_in_bits c.min-top.result c.get-tile.result.area.yhi area.yhi (tile_at tiles c.args.id).area.yhi
-    (search rules) (search rules) (search rules) c.min-top.ensures.value (ap (λ (t : Tile). t.area.yhi) c.get-tile.ensures) in
+    let before = inside (goal.at.right_below-next-requires-clause-inside c).Else-area-tile in
     let near = c.requires.near.xhi.1 in
     omega (arith, ints)
 
 pub right_below-next-requires-clause-from : goal.right_below-next-requires-clause-from
 right_below-next-requires-clause-from c =
-    let tiles = c.args.store.now in
-    let area = c.args.area.now in
-    let edge = ap (λ (t : Tile). t.area.xhi) c.get-tile.ensures in
-    let test = c.if-area-tile.false in
-    let inside : (tile_at tiles c.args.id).area.xhi <ℤ area.xhi =
-    is_past (to_z w64 (of_z w64 area.xhi)) (to_z w64 (of_z w64 c.get-tile.result.area.xhi)) (tile_at tiles c.args.id).area.xhi area.xhi
-    (to_z-of_z w64 area.xhi (search rules)) (to_z-of_z w64 c.get-tile.result.area.xhi (search rules) ∙ edge) test in
-    let top = to_z w64 (of_z w64 c.min-top.result) in
-    let at : top ≡ int_min (tile_at tiles c.args.id).area.yhi area.yhi =
-    min_in_bits c.min-top.result c.get-tile.result.area.yhi area.yhi (tile_at tiles c.args.id).area.yhi
-    (search rules) (search rules) (search rules) c.min-top.ensures.value (ap (λ (t : Tile). t.area.yhi) c.get-tile.ensures) in
+    let at = top_is (goal.at.right_below-next-requires-clause-from c).After-min-top in
     let covers = c.requires.meets.covers in
     let mine = c.requires.meets.owns.covers in
     omega (arith, ints, clamps, at)
 
 pub right_below-next-requires-clause-to : goal.right_below-next-requires-clause-to
 right_below-next-requires-clause-to c =
-    let tiles = c.args.store.now in
-    let area = c.args.area.now in
-    let edge = ap (λ (t : Tile). t.area.xhi) c.get-tile.ensures in
-    let test = c.if-area-tile.false in
-    let inside : (tile_at tiles c.args.id).area.xhi <ℤ area.xhi =
-    is_past (to_z w64 (of_z w64 area.xhi)) (to_z w64 (of_z w64 c.get-tile.result.area.xhi)) (tile_at tiles c.args.id).area.xhi area.xhi
-    (to_z-of_z w64 area.xhi (search rules)) (to_z-of_z w64 c.get-tile.result.area.xhi (search rules) ∙ edge) test in
-    let top = to_z w64 (of_z w64 c.min-top.result) in
-    let at : top ≡ int_min (tile_at tiles c.args.id).area.yhi area.yhi =
-    min_in_bits c.min-top.result c.get-tile.result.area.yhi area.yhi (tile_at tiles c.args.id).area.yhi
-    (search rules) (search rules) (search rules) c.min-top.ensures.value (ap (λ (t : Tile). t.area.yhi) c.get-tile.ensures) in
+    let at = top_is (goal.at.right_below-next-requires-clause-to c).After-min-top in
     omega (arith, ints, clamps, at)
 
 pub loop-y-init : goal.loop-y-init
 loop-y-init c =
-    let tiles = c.args.store.now in
-    let area = c.args.area.now in
-    let edge = ap (λ (t : Tile). t.area.xhi) c.get-tile.ensures in
-    let test = c.if-area-tile.false in
-    let inside : (tile_at tiles c.args.id).area.xhi <ℤ area.xhi =
-    is_past (to_z w64 (of_z w64 area.xhi)) (to_z w64 (of_z w64 c.get-tile.result.area.xhi)) (tile_at tiles c.args.id).area.xhi area.xhi
-    (to_z-of_z w64 area.xhi (search rules)) (to_z-of_z w64 c.get-tile.result.area.xhi (search rules) ∙ edge) test in
-    let top = to_z w64 (of_z w64 c.min-top.result) in
-    let at : top ≡ int_min (tile_at tiles c.args.id).area.yhi area.yhi =
-    min_in_bits c.min-top.result c.get-tile.result.area.yhi area.yhi (tile_at tiles c.args.id).area.yhi
-    (search rules) (search rules) (search rules) c.min-top.ensures.value (ap (λ (t : Tile). t.area.yhi) c.get-tile.ensures) in
-    adding_begins tiles area c.requires.partition c.requires.stitches c.requires.near c.args.id c.requires.meets inside c.args.found.now.items
-    top c.right_below-next.result at c.right_below-next.ensures
+    let at = goal.at.loop-y-init c in
+    adding_begins c.requires.partition c.requires.stitches c.requires.near c.requires.meets (inside at.Else-area-tile)
+    (to_z w64 (of_z w64 c.min-top.result)) c.right_below-next.result (top_is at.After-min-top) c.right_below-next.ensures
 
 pub get-follower-requires : goal.get-follower-requires
 get-follower-requires c =
-    let tiles = c.args.store.now in
-    let area = c.args.area.now in
-    let edge = ap (λ (t : Tile). t.area.xhi) c.get-tile.ensures in
-    let bottom = ap (λ (t : Tile). t.area.ylo) c.get-tile.ensures in
-    let test = c.if-area-tile.false in
-    let inside : (tile_at tiles c.args.id).area.xhi <ℤ area.xhi =
-    is_past (to_z w64 (of_z w64 area.xhi)) (to_z w64 (of_z w64 c.get-tile.result.area.xhi)) (tile_at tiles c.args.id).area.xhi area.xhi
-    (to_z-of_z w64 area.xhi (search rules)) (to_z-of_z w64 c.get-tile.result.area.xhi (search rules) ∙ edge) test in
-    let low : to_z w64 (of_z w64 c.max-low.result) ≡ low_row tiles area c.args.id =
-    max_in_bits c.max-low.result c.get-tile.result.area.ylo area.ylo (tile_at tiles c.args.id).area.ylo
-    (search rules) (search rules) (search rules) c.max-low.ensures.value bottom in
-    let left = is_less (to_z w64 (of_z w64 c.max-low.result)) (to_z w64 c.loop-y.y-bits) (low_row tiles area c.args.id) (to_z w64 c.loop-y.y-bits)
-    low refl c.loop-y-test.true in
-    next_taken tiles area c.requires.partition c.requires.stitches c.requires.near c.args.id c.requires.meets inside (to_z w64 c.loop-y.y-bits) c.loop-y.next
-    c.loop-y.invariant.more c.loop-y.invariant.from left
+    let at = goal.at.get-follower-requires c in
+    let low = low_is at.After-max-low in
+    let test = c.loop-y-test.true in
+    next_taken c.args.store.now c.args.area.now c.requires.partition c.requires.stitches c.requires.near c.args.id c.requires.meets (inside at.Else-area-tile)
+    (to_z w64 c.loop-y.y-bits) c.loop-y.next c.loop-y.invariant.more c.loop-y.invariant.from (omega (arith, ints, low))
 
 pub loop-y-smaller-in_ok-push : goal.loop-y-smaller-in_ok-push
 loop-y-smaller-in_ok-push c =
-    let tiles = c.args.store.now in
-    let area = c.args.area.now in
-    let edge = ap (λ (t : Tile). t.area.xhi) c.get-tile.ensures in
-    let bottom = ap (λ (t : Tile). t.area.ylo) c.get-tile.ensures in
-    let test = c.if-area-tile.false in
-    let inside : (tile_at tiles c.args.id).area.xhi <ℤ area.xhi =
-    is_past (to_z w64 (of_z w64 area.xhi)) (to_z w64 (of_z w64 c.get-tile.result.area.xhi)) (tile_at tiles c.args.id).area.xhi area.xhi
-    (to_z-of_z w64 area.xhi (search rules)) (to_z-of_z w64 c.get-tile.result.area.xhi (search rules) ∙ edge) test in
-    let low : to_z w64 (of_z w64 c.max-low.result) ≡ low_row tiles area c.args.id =
-    max_in_bits c.max-low.result c.get-tile.result.area.ylo area.ylo (tile_at tiles c.args.id).area.ylo
-    (search rules) (search rules) (search rules) c.max-low.ensures.value bottom in
-    let left = is_less (to_z w64 (of_z w64 c.max-low.result)) (to_z w64 c.loop-y.y-bits) (low_row tiles area c.args.id) (to_z w64 c.loop-y.y-bits)
-    low refl c.loop-y-test.true in
-    let h = to_z w64 (of_z w64 c.max-y.result) in
-    let at : h ≡ low_row tiles area c.loop-y.next =
-    max_in_bits c.max-y.result c.get-follower.result.area.ylo area.ylo (tile_at tiles c.loop-y.next).area.ylo
-    (search rules) (search rules) (search rules) c.max-y.ensures.value (ap (λ (t : Tile). t.area.ylo) c.get-follower.ensures) in
-    let is = ap (λ (t : Tile). t.below) c.get-follower.ensures in
-    adding_falls tiles area c.requires.partition c.requires.stitches c.requires.near c.args.id c.requires.meets inside c.args.found.now.items
-    (to_z w64 c.loop-y.y-bits) h c.loop-y.next c.get-follower.result.below c.loop-y.found.items c.loop-y.invariant left at is
+    let at = goal.at.loop-y-smaller-in_ok-push c in
+    let low = low_is at.After-max-low in
+    let test = c.loop-y-test.true in
+    adding_falls c.requires.partition c.requires.stitches c.requires.near c.requires.meets (inside at.Else-area-tile) c.loop-y.invariant
+    (omega (arith, ints, low)) (row_is at.After-max-y) (ap (λ (t : Tile). t.below) c.get-follower.ensures)
 
 pub loop-y-preserved-in_ok-push : goal.loop-y-preserved-in_ok-push
 loop-y-preserved-in_ok-push c =
-    let tiles = c.args.store.now in
+    let at = goal.at.loop-y-preserved-in_ok-push c in
     let area = c.args.area.now in
-    let edge = ap (λ (t : Tile). t.area.xhi) c.get-tile.ensures in
-    let bottom = ap (λ (t : Tile). t.area.ylo) c.get-tile.ensures in
-    let test = c.if-area-tile.false in
-    let inside : (tile_at tiles c.args.id).area.xhi <ℤ area.xhi =
-    is_past (to_z w64 (of_z w64 area.xhi)) (to_z w64 (of_z w64 c.get-tile.result.area.xhi)) (tile_at tiles c.args.id).area.xhi area.xhi
-    (to_z-of_z w64 area.xhi (search rules)) (to_z-of_z w64 c.get-tile.result.area.xhi (search rules) ∙ edge) test in
-    let low : to_z w64 (of_z w64 c.max-low.result) ≡ low_row tiles area c.args.id =
-    max_in_bits c.max-low.result c.get-tile.result.area.ylo area.ylo (tile_at tiles c.args.id).area.ylo
-    (search rules) (search rules) (search rules) c.max-low.ensures.value bottom in
-    let left = is_less (to_z w64 (of_z w64 c.max-low.result)) (to_z w64 c.loop-y.y-bits) (low_row tiles area c.args.id) (to_z w64 c.loop-y.y-bits)
-    low refl c.loop-y-test.true in
+    let low = low_is at.After-max-low in
     let h = to_z w64 (of_z w64 c.max-y.result) in
-    let at : h ≡ low_row tiles area c.loop-y.next =
-    max_in_bits c.max-y.result c.get-follower.result.area.ylo area.ylo (tile_at tiles c.loop-y.next).area.ylo
-    (search rules) (search rules) (search rules) c.max-y.ensures.value (ap (λ (t : Tile). t.area.ylo) c.get-follower.ensures) in
-    let is = ap (λ (t : Tile). t.below) c.get-follower.ensures in
-    adding_goes_on tiles area c.requires.partition c.requires.stitches c.requires.near c.args.id c.requires.meets inside c.args.found.now.items
-    (to_z w64 c.loop-y.y-bits) h c.loop-y.next c.get-follower.result.below c.loop-y.found.items c.loop-y.invariant left at is
+    let test = c.loop-y-test.true in
+    adding_goes_on c.requires.partition c.requires.stitches c.requires.near c.requires.meets (inside at.Else-area-tile) c.loop-y.invariant
+    (omega (arith, ints, low)) (row_is at.After-max-y) (ap (λ (t : Tile). t.below) c.get-follower.ensures)
     c.push.new.self.items c.in_ok-push.ensures.items
-    (is_at_most (to_z w64 (of_z w64 c.max-low.result)) h (low_row tiles area c.args.id) h low refl c.if-low-y.true)
+    (is_at_most (to_z w64 (of_z w64 c.max-low.result)) h (low_row c.args.store.now area c.args.id) h low refl c.if-low-y.true)
     (is_less h (to_z w64 (of_z w64 area.yhi)) h area.yhi refl (to_z-of_z w64 area.yhi (search rules)) c.if-y-area.true)
 
 pub loop-y-smaller : goal.loop-y-smaller
 loop-y-smaller c =
-    let tiles = c.args.store.now in
-    let area = c.args.area.now in
-    let edge = ap (λ (t : Tile). t.area.xhi) c.get-tile.ensures in
-    let bottom = ap (λ (t : Tile). t.area.ylo) c.get-tile.ensures in
-    let test = c.if-area-tile.false in
-    let inside : (tile_at tiles c.args.id).area.xhi <ℤ area.xhi =
-    is_past (to_z w64 (of_z w64 area.xhi)) (to_z w64 (of_z w64 c.get-tile.result.area.xhi)) (tile_at tiles c.args.id).area.xhi area.xhi
-    (to_z-of_z w64 area.xhi (search rules)) (to_z-of_z w64 c.get-tile.result.area.xhi (search rules) ∙ edge) test in
-    let low : to_z w64 (of_z w64 c.max-low.result) ≡ low_row tiles area c.args.id =
-    max_in_bits c.max-low.result c.get-tile.result.area.ylo area.ylo (tile_at tiles c.args.id).area.ylo
-    (search rules) (search rules) (search rules) c.max-low.ensures.value bottom in
-    let left = is_less (to_z w64 (of_z w64 c.max-low.result)) (to_z w64 c.loop-y.y-bits) (low_row tiles area c.args.id) (to_z w64 c.loop-y.y-bits)
-    low refl c.loop-y-test.true in
-    let h = to_z w64 (of_z w64 c.max-y.result) in
-    let at : h ≡ low_row tiles area c.loop-y.next =
-    max_in_bits c.max-y.result c.get-follower.result.area.ylo area.ylo (tile_at tiles c.loop-y.next).area.ylo
-    (search rules) (search rules) (search rules) c.max-y.ensures.value (ap (λ (t : Tile). t.area.ylo) c.get-follower.ensures) in
-    let is = ap (λ (t : Tile). t.below) c.get-follower.ensures in
-    adding_falls tiles area c.requires.partition c.requires.stitches c.requires.near c.args.id c.requires.meets inside c.args.found.now.items
-    (to_z w64 c.loop-y.y-bits) h c.loop-y.next c.get-follower.result.below c.loop-y.found.items c.loop-y.invariant left at is
+    let at = goal.at.loop-y-smaller c in
+    let low = low_is at.After-max-low in
+    let test = c.loop-y-test.true in
+    adding_falls c.requires.partition c.requires.stitches c.requires.near c.requires.meets (inside at.Else-area-tile) c.loop-y.invariant
+    (omega (arith, ints, low)) (row_is at.After-max-y) (ap (λ (t : Tile). t.below) c.get-follower.ensures)
 
 pub loop-y-preserved : goal.loop-y-preserved
 loop-y-preserved c =
-    let tiles = c.args.store.now in
+    let at = goal.at.loop-y-preserved c in
     let area = c.args.area.now in
-    let edge = ap (λ (t : Tile). t.area.xhi) c.get-tile.ensures in
-    let bottom = ap (λ (t : Tile). t.area.ylo) c.get-tile.ensures in
-    let test = c.if-area-tile.false in
-    let inside : (tile_at tiles c.args.id).area.xhi <ℤ area.xhi =
-    is_past (to_z w64 (of_z w64 area.xhi)) (to_z w64 (of_z w64 c.get-tile.result.area.xhi)) (tile_at tiles c.args.id).area.xhi area.xhi
-    (to_z-of_z w64 area.xhi (search rules)) (to_z-of_z w64 c.get-tile.result.area.xhi (search rules) ∙ edge) test in
-    let low : to_z w64 (of_z w64 c.max-low.result) ≡ low_row tiles area c.args.id =
-    max_in_bits c.max-low.result c.get-tile.result.area.ylo area.ylo (tile_at tiles c.args.id).area.ylo
-    (search rules) (search rules) (search rules) c.max-low.ensures.value bottom in
-    let left = is_less (to_z w64 (of_z w64 c.max-low.result)) (to_z w64 c.loop-y.y-bits) (low_row tiles area c.args.id) (to_z w64 c.loop-y.y-bits)
-    low refl c.loop-y-test.true in
+    let low = low_is at.After-max-low in
     let h = to_z w64 (of_z w64 c.max-y.result) in
-    let at : h ≡ low_row tiles area c.loop-y.next =
-    max_in_bits c.max-y.result c.get-follower.result.area.ylo area.ylo (tile_at tiles c.loop-y.next).area.ylo
-    (search rules) (search rules) (search rules) c.max-y.ensures.value (ap (λ (t : Tile). t.area.ylo) c.get-follower.ensures) in
-    let is = ap (λ (t : Tile). t.below) c.get-follower.ensures in
-    let out : low_row tiles area c.args.id ≤ℤ h → h <ℤ area.yhi → ⊥ = λ at_low under. elim c.else-low-y.branch [
+    let test = c.loop-y-test.true in
+    adding_passes c.requires.partition c.requires.stitches c.requires.near c.requires.meets (inside at.Else-area-tile) c.loop-y.invariant
+    (omega (arith, ints, low)) (row_is at.After-max-y) (ap (λ (t : Tile). t.below) c.get-follower.ensures)
+    (λ at_low under. elim c.else-low-y.branch [
       | else-low-y-via-then-low-y+else-y-area w ↦ is_not_less h (to_z w64 (of_z w64 area.yhi)) h area.yhi refl
           (to_z-of_z w64 area.yhi (search rules)) w.if-y-area.false under
-      | else-low-y-via-else-low-y w ↦ is_not_at_most (to_z w64 (of_z w64 c.max-low.result)) h (low_row tiles area c.args.id) h low refl w.if-low-y.false at_low
-    ] in
-    adding_passes tiles area c.requires.partition c.requires.stitches c.requires.near c.args.id c.requires.meets inside c.args.found.now.items
-    (to_z w64 c.loop-y.y-bits) h c.loop-y.next c.get-follower.result.below c.loop-y.found.items c.loop-y.invariant left at is out
+      | else-low-y-via-else-low-y w ↦ is_not_at_most (to_z w64 (of_z w64 c.max-low.result)) h (low_row c.args.store.now area c.args.id) h low refl
+          w.if-low-y.false at_low
+    ])
 
 pub returns : goal.returns
 returns c =
-    let tiles = c.args.store.now in
-    let area = c.args.area.now in
-    let edge = ap (λ (t : Tile). t.area.xhi) c.get-tile.ensures in
-    let bottom = ap (λ (t : Tile). t.area.ylo) c.get-tile.ensures in
-    let test = c.if-area-tile.false in
-    let inside : (tile_at tiles c.args.id).area.xhi <ℤ area.xhi =
-    is_past (to_z w64 (of_z w64 area.xhi)) (to_z w64 (of_z w64 c.get-tile.result.area.xhi)) (tile_at tiles c.args.id).area.xhi area.xhi
-    (to_z-of_z w64 area.xhi (search rules)) (to_z-of_z w64 c.get-tile.result.area.xhi (search rules) ∙ edge) test in
-    let low : to_z w64 (of_z w64 c.max-low.result) ≡ low_row tiles area c.args.id =
-    max_in_bits c.max-low.result c.get-tile.result.area.ylo area.ylo (tile_at tiles c.args.id).area.ylo
-    (search rules) (search rules) (search rules) c.max-low.ensures.value bottom in
-    adding_ends tiles area c.requires.partition c.requires.stitches c.requires.near c.args.id c.requires.meets inside c.args.found.now.items
-    (to_z w64 c.loop-y.y-bits) c.loop-y.next c.loop-y.found.items c.loop-y.invariant
-    (no_more (to_z w64 (of_z w64 c.max-low.result)) (low_row tiles area c.args.id) (to_z w64 c.loop-y.y-bits) low c.loop-y-test.false)
+    let at = goal.at.returns c in
+    adding_ends c.requires.partition c.requires.stitches c.requires.near c.requires.meets (inside at.Else-area-tile) c.loop-y.invariant
+    (no_more (to_z w64 (of_z w64 c.max-low.result)) (low_row c.args.store.now c.args.area.now c.args.id) (to_z w64 c.loop-y.y-bits)
+    (low_is at.After-max-low) c.loop-y-test.false)

@@ -6,61 +6,41 @@ use Rattle.tile_plane.proofs.mends.mend_below.Goals as goal
 
 pub returns-then-area : goal.returns-then-area
 returns-then-area c =
-    let test = c.if-area.true in
-    lower_none c.args.store.now c.args.area.now c.args.first c.args.id c.requires.partition c.requires.side (omega (arith, ints))
+    lower_none c.requires.partition c.requires.side (omega (arith, ints))
 
 pub rightward-init : goal.rightward-init
 rightward-init c =
-    let test = c.if-area.false in
     let same : to_z w64 (of_z w64 c.args.area.now.xlo) ≡ c.args.area.now.xlo = to_z-of_z w64 c.args.area.now.xlo (search rules) in
     subst (IsMendingLower c.args.store.now c.args.store.now c.args.area.now c.args.id c.args.first) (sym same)
-    (lower_begins c.args.store.now c.args.area.now c.args.first c.args.id c.requires.partition c.requires.side (omega (arith, ints)))
+    (lower_begins c.requires.partition c.requires.side (omega (arith, ints)))
 
 pub get-tile-requires : goal.get-tile-requires
 get-tile-requires c =
-    let test = c.rightward-test.true in
-    lower_next_taken c.args.store.now c.args.area.now c.args.first c.args.id c.requires.partition c.requires.side c.rightward.store c.rightward.next
-    (to_z w64 c.rightward.x-bits) c.rightward.invariant
-    (omega (arith, ints))
+    lower_next_taken c.requires.partition c.requires.side c.rightward.invariant (omega (arith, ints))
 
 pub set_above-requires : goal.set_above-requires
 set_above-requires c =
-    let test = c.rightward-test.true in
-    lower_next_taken c.args.store.now c.args.area.now c.args.first c.args.id c.requires.partition c.requires.side c.rightward.store c.rightward.next
-    (to_z w64 c.rightward.x-bits) c.rightward.invariant
-    (omega (arith, ints))
+    lower_next_taken c.requires.partition c.requires.side c.rightward.invariant (omega (arith, ints))
 
 pub returns-then-area-tile : goal.returns-then-area-tile
 returns-then-area-tile c =
-    let test = c.rightward-test.true in
-    let stop = c.if-area-tile.true in
-    lower_last c.args.store.now c.args.area.now c.args.first c.args.id c.requires.partition c.requires.side c.rightward.store c.rightward.next
-    (to_z w64 c.rightward.x-bits)
-    c.get-tile.result c.rightward.invariant (omega (arith, ints)) c.get-tile.ensures (omega (arith, ints))
+    lower_last c.requires.partition c.requires.side c.rightward.invariant (omega (arith, ints)) c.get-tile.ensures (omega (arith, ints))
 
 pub rightward-preserved : goal.rightward-preserved
 rightward-preserved c =
-    let test = c.rightward-test.true in
-    let on = c.if-area-tile.false in
     let fits : FitsSigned w64 c.get-tile.result.area.xhi = search rules in
     let same : to_z w64 (of_z w64 c.get-tile.result.area.xhi) ≡ c.get-tile.result.area.xhi = to_z-of_z w64 c.get-tile.result.area.xhi fits in
     subst (IsMendingLower c.args.store.now c.set_above.new.self c.args.area.now c.args.id c.get-tile.result.right) (sym same)
-    (lower_goes_on c.args.store.now c.args.area.now c.args.first c.args.id c.requires.partition c.requires.side c.rightward.store c.rightward.next
-    (to_z w64 c.rightward.x-bits)
-    c.get-tile.result c.rightward.invariant (omega (arith, ints)) c.get-tile.ensures c.set_above.new.self (omega (arith, ints)) c.set_above.ensures)
+    (lower_goes_on c.requires.partition c.requires.side c.rightward.invariant (omega (arith, ints)) c.get-tile.ensures
+    c.set_above.new.self (omega (arith, ints)) c.set_above.ensures)
 
 pub rightward-smaller : goal.rightward-smaller
 rightward-smaller c =
-    let test = c.rightward-test.true in
     let fits : FitsSigned w64 c.get-tile.result.area.xhi = search rules in
     let same : to_z w64 (of_z w64 c.get-tile.result.area.xhi) ≡ c.get-tile.result.area.xhi = to_z-of_z w64 c.get-tile.result.area.xhi fits in
     subst (λ (v : ℤ). extent v c.args.area.now.xhi < extent (to_z w64 c.rightward.x-bits) c.args.area.now.xhi) (sym same)
-    (lower_falls c.args.store.now c.args.area.now c.args.first c.args.id c.requires.partition c.requires.side c.rightward.store c.rightward.next
-    (to_z w64 c.rightward.x-bits)
-    c.get-tile.result c.rightward.invariant (omega (arith, ints)) c.get-tile.ensures)
+    (lower_falls c.requires.partition c.requires.side c.rightward.invariant (omega (arith, ints)) c.get-tile.ensures)
 
 pub returns : goal.returns
 returns c =
-    let test = c.rightward-test.false in
-    lower_ends c.args.store.now c.args.area.now c.args.first c.args.id c.requires.partition c.requires.side c.rightward.store c.rightward.next
-    (to_z w64 c.rightward.x-bits) c.rightward.invariant (omega (arith, ints))
+    lower_ends c.requires.partition c.requires.side c.rightward.invariant (omega (arith, ints))

@@ -1,4 +1,4 @@
-use Rattle.tile_plane.specs.Mends.{Right, Below}
+use Rattle.tile_plane.specs.steps.Mends.{Right, Below}
 use Rattle.tile_plane.proofs.MendedLaws.{mended_partition, above_after_left, below_after_above, redirected_left}
 use Rattle.tile_plane.proofs.mends.mend_left_end.Goals as goal
 

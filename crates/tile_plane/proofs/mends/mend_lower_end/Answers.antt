@@ -1,4 +1,4 @@
-use Rattle.tile_plane.specs.Mends.{Right, Left}
+use Rattle.tile_plane.specs.steps.Mends.{Right, Left}
 use Rattle.tile_plane.proofs.MendedLaws.{mended_partition, right_once_left, below_after_sides, redirected_down}
 use Rattle.tile_plane.proofs.mends.mend_lower_end.Goals as goal
 

@@ -6,61 +6,41 @@ use Rattle.tile_plane.proofs.mends.mend_right.Goals as goal
 
 pub returns-then-area-ge-PLANE_EDGE : goal.returns-then-area-ge-PLANE_EDGE
 returns-then-area-ge-PLANE_EDGE c =
-    let test = c.if-area-ge-PLANE_EDGE.true in
-    right_none c.args.store.now c.args.area.now c.args.first c.args.id c.requires.partition c.requires.side (omega (arith, ints))
+    right_none c.requires.partition c.requires.side (omega (arith, ints))
 
 pub downward-init : goal.downward-init
 downward-init c =
-    let test = c.if-area-ge-PLANE_EDGE.false in
     let same : to_z w64 (of_z w64 c.args.area.now.yhi) ≡ c.args.area.now.yhi = to_z-of_z w64 c.args.area.now.yhi (search rules) in
     subst (IsMendingRight c.args.store.now c.args.store.now c.args.area.now c.args.id c.args.first) (sym same)
-    (right_begins c.args.store.now c.args.area.now c.args.first c.args.id c.requires.partition c.requires.side (omega (arith, ints)))
+    (right_begins c.requires.partition c.requires.side (omega (arith, ints)))
 
 pub get-tile-requires : goal.get-tile-requires
 get-tile-requires c =
-    let test = c.downward-test.true in
-    right_next_taken c.args.store.now c.args.area.now c.args.first c.args.id c.requires.partition c.requires.side c.downward.store c.downward.next
-    (to_z w64 c.downward.y-bits) c.downward.invariant
-    (omega (arith, ints))
+    right_next_taken c.requires.partition c.requires.side c.downward.store c.downward.invariant (omega (arith, ints))
 
 pub set_left-requires : goal.set_left-requires
 set_left-requires c =
-    let test = c.downward-test.true in
-    right_next_taken c.args.store.now c.args.area.now c.args.first c.args.id c.requires.partition c.requires.side c.downward.store c.downward.next
-    (to_z w64 c.downward.y-bits) c.downward.invariant
-    (omega (arith, ints))
+    right_next_taken c.requires.partition c.requires.side c.downward.store c.downward.invariant (omega (arith, ints))
 
 pub returns-then-tile-area : goal.returns-then-tile-area
 returns-then-tile-area c =
-    let test = c.downward-test.true in
-    let stop = c.if-tile-area.true in
-    right_last c.args.store.now c.args.area.now c.args.first c.args.id c.requires.partition c.requires.side c.downward.store c.downward.next
-    (to_z w64 c.downward.y-bits)
-    c.get-tile.result c.downward.invariant (omega (arith, ints)) c.get-tile.ensures (omega (arith, ints))
+    right_last c.requires.partition c.requires.side c.downward.store c.downward.invariant (omega (arith, ints)) c.get-tile.ensures (omega (arith, ints))
 
 pub downward-preserved : goal.downward-preserved
 downward-preserved c =
-    let test = c.downward-test.true in
-    let on = c.if-tile-area.false in
     let fits : FitsSigned w64 c.get-tile.result.area.ylo = search rules in
     let same : to_z w64 (of_z w64 c.get-tile.result.area.ylo) ≡ c.get-tile.result.area.ylo = to_z-of_z w64 c.get-tile.result.area.ylo fits in
     subst (IsMendingRight c.args.store.now c.set_left.new.self c.args.area.now c.args.id c.get-tile.result.below) (sym same)
-    (right_goes_on c.args.store.now c.args.area.now c.args.first c.args.id c.requires.partition c.requires.side c.downward.store c.downward.next
-    (to_z w64 c.downward.y-bits)
-    c.get-tile.result c.downward.invariant (omega (arith, ints)) c.get-tile.ensures c.set_left.new.self (omega (arith, ints)) c.set_left.ensures)
+    (right_goes_on c.requires.partition c.requires.side c.downward.store c.downward.invariant (omega (arith, ints)) c.get-tile.ensures
+    c.set_left.new.self (omega (arith, ints)) c.set_left.ensures)
 
 pub downward-smaller : goal.downward-smaller
 downward-smaller c =
-    let test = c.downward-test.true in
     let fits : FitsSigned w64 c.get-tile.result.area.ylo = search rules in
     let same : to_z w64 (of_z w64 c.get-tile.result.area.ylo) ≡ c.get-tile.result.area.ylo = to_z-of_z w64 c.get-tile.result.area.ylo fits in
     subst (λ (v : ℤ). extent c.args.area.now.ylo v < extent c.args.area.now.ylo (to_z w64 c.downward.y-bits)) (sym same)
-    (right_falls c.args.store.now c.args.area.now c.args.first c.args.id c.requires.partition c.requires.side c.downward.store c.downward.next
-    (to_z w64 c.downward.y-bits)
-    c.get-tile.result c.downward.invariant (omega (arith, ints)) c.get-tile.ensures)
+    (right_falls c.requires.partition c.requires.side c.downward.store c.downward.invariant (omega (arith, ints)) c.get-tile.ensures)
 
 pub returns : goal.returns
 returns c =
-    let test = c.downward-test.false in
-    right_ends c.args.store.now c.args.area.now c.args.first c.args.id c.requires.partition c.requires.side c.downward.store c.downward.next
-    (to_z w64 c.downward.y-bits) c.downward.invariant (omega (arith, ints))
+    right_ends c.requires.partition c.requires.side c.downward.store c.downward.invariant (omega (arith, ints))

@@ -1,4 +1,4 @@
-use Rattle.tile_plane.specs.Mends.{Left, Above}
+use Rattle.tile_plane.specs.steps.Mends.{Left, Above}
 use Rattle.tile_plane.proofs.MendedLaws.{mended_partition, below_after_right, above_after_below, redirected_right}
 use Rattle.tile_plane.proofs.mends.mend_right_end.Goals as goal
 

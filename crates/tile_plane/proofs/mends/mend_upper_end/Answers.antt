@@ -1,4 +1,4 @@
-use Rattle.tile_plane.specs.Mends.{Below, Right}
+use Rattle.tile_plane.specs.steps.Mends.{Below, Right}
 use Rattle.tile_plane.proofs.MendedLaws.{mended_partition, left_after_above, right_after_left, redirected_up}
 use Rattle.tile_plane.proofs.mends.mend_upper_end.Goals as goal
 

@@ -11,11 +11,7 @@ returns-then-x-tile c =
     let right = ap (λ (t : Tile). t.area.xhi) c.get-tile.ensures in
     let x = to_z w64 (of_z w64 c.args.x) in
     let same : x ≡ c.args.x = to_z-of_z w64 c.args.x c.ranges.x in
-    let from = c.if-tile-x.true in
-    let to = c.if-x-tile.true in
-    let bounds = c.requires in
     let within = c.requires.partition.within c.args.id c.requires.taken in
-    let proper = c.requires.taken.proper in
     record { x = x; owns = c.below_at.ensures (omega (arith, ints)) }
 
 pub returns : goal.returns

@@ -10,7 +10,6 @@ use Rattle.tile_plane.proofs.walks.find.Goals as goal
 pub rightward-preserved : goal.rightward-preserved
 rightward-preserved c =
     let edge = ap (λ (t : Tile). t.area.xhi) c.get.ensures in
-    let test = c.rightward-test.true in
     let row = c.rightward.invariant in
     let within = c.requires.partition.within c.rightward.id row.taken in
     let y = to_z w64 (of_z w64 c.args.square.y) in
@@ -23,7 +22,6 @@ rightward-preserved c =
 pub rightward-smaller : goal.rightward-smaller
 rightward-smaller c =
     let edge = ap (λ (t : Tile). t.area.xhi) c.get.ensures in
-    let test = c.rightward-test.true in
     let row = c.rightward.invariant in
     let within = c.requires.partition.within c.rightward.id row.taken in
     let y = to_z w64 (of_z w64 c.args.square.y) in
@@ -37,7 +35,6 @@ rightward-smaller c =
 pub leftward-preserved : goal.leftward-preserved
 leftward-preserved c =
     let edge = ap (λ (t : Tile). t.area.xlo) c.get-in-leftward.ensures in
-    let test = c.leftward-test.true in
     let row = c.leftward.invariant in
     let within = c.requires.partition.within c.leftward.id row.taken in
     let y = to_z w64 (of_z w64 c.args.square.y) in
@@ -50,7 +47,6 @@ leftward-preserved c =
 pub leftward-smaller : goal.leftward-smaller
 leftward-smaller c =
     let edge = ap (λ (t : Tile). t.area.xlo) c.get-in-leftward.ensures in
-    let test = c.leftward-test.true in
     let row = c.leftward.invariant in
     let within = c.requires.partition.within c.leftward.id row.taken in
     let y = to_z w64 (of_z w64 c.args.square.y) in
@@ -64,6 +60,4 @@ leftward-smaller c =
 pub returns : goal.returns
 returns c =
     let edge = ap (λ (t : Tile). t.area.xlo) c.get-in-leftward.ensures in
-    let test = c.leftward-test.false in
-    let row = c.leftward.invariant in
     omega (arith, ints)

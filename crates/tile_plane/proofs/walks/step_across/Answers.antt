@@ -1,41 +1,25 @@
 use Rattle.std.proofs.Common.{ap, arith}
 use Rattle.std.proofs.lemmas.Int.{ints}
 use Rattle.tile_plane.specs.declared.tiles.Tile.{Tile}
-use Rattle.tile_plane.proofs.TileLaws.{owner_taken}
-use Rattle.tile_plane.proofs.BesideLaws.{next_right, next_above, next_left, next_below}
+use Rattle.tile_plane.specs.steps.Mends.{Above, Right, Below, Left}
+use Rattle.tile_plane.proofs.BesideLaws.{stitch_taken}
 use Rattle.tile_plane.proofs.walks.step_across.Goals as goal
 
 pub returns-then-tile-square : goal.returns-then-tile-square
 returns-then-tile-square c =
-    let end = ap (λ (t : Tile). t.area.xhi) c.get-tile.ensures in
-    let test = c.if-tile-square.true in
-    let inside = c.requires.inside in
-    rw c.get-tile.ensures (owner_taken _ _ _
-    (next_right c.args.store.now c.args.id c.requires.partition c.requires.stitches c.requires.taken (omega (arith, ints))))
+    stitch_taken c.args.store.now c.args.id c.requires.partition c.requires.stitches c.requires.taken Right _ c.get-tile.ensures (omega (arith, ints))
 
 pub returns-then-square-tile : goal.returns-then-square-tile
 returns-then-square-tile c =
-    let end = ap (λ (t : Tile). t.area.xlo) c.get-tile.ensures in
-    let test = c.if-square-tile.true in
-    let inside = c.requires.inside in
-    rw c.get-tile.ensures (owner_taken _ _ _
-    (next_left c.args.store.now c.args.id c.requires.partition c.requires.stitches c.requires.taken (omega (arith, ints))))
+    stitch_taken c.args.store.now c.args.id c.requires.partition c.requires.stitches c.requires.taken Left _ c.get-tile.ensures (omega (arith, ints))
 
 pub returns-then-tile-square-2 : goal.returns-then-tile-square-2
 returns-then-tile-square-2 c =
-    let end = ap (λ (t : Tile). t.area.yhi) c.get-tile.ensures in
-    let test = c.if-tile-square-2.true in
-    let inside = c.requires.inside in
-    rw c.get-tile.ensures (owner_taken _ _ _
-    (next_above c.args.store.now c.args.id c.requires.partition c.requires.stitches c.requires.taken (omega (arith, ints))))
+    stitch_taken c.args.store.now c.args.id c.requires.partition c.requires.stitches c.requires.taken Above _ c.get-tile.ensures (omega (arith, ints))
 
 pub returns-then-square-tile-2 : goal.returns-then-square-tile-2
 returns-then-square-tile-2 c =
-    let end = ap (λ (t : Tile). t.area.ylo) c.get-tile.ensures in
-    let test = c.if-square-tile-2.true in
-    let inside = c.requires.inside in
-    rw c.get-tile.ensures (owner_taken _ _ _
-    (next_below c.args.store.now c.args.id c.requires.partition c.requires.stitches c.requires.taken (omega (arith, ints))))
+    stitch_taken c.args.store.now c.args.id c.requires.partition c.requires.stitches c.requires.taken Below _ c.get-tile.ensures (omega (arith, ints))
 
 pub returns : goal.returns
 returns c =
@@ -44,8 +28,4 @@ returns c =
     let right_end = ap (λ (t : Tile). t.area.yhi) tile in
     let low = ap (λ (t : Tile). t.area.xlo) tile in
     let high = ap (λ (t : Tile). t.area.xhi) tile in
-    let right = c.if-tile-square.false in
-    let left = c.if-square-tile.false in
-    let after = c.if-tile-square-2.false in
-    let before = c.if-square-tile-2.false in
     omega (arith, ints)

@@ -1,7 +1,7 @@
-use Rattle.std.proofs.Common.{◌+◌, ℕ, List, map, subst, arith}
+use Rattle.std.proofs.Common.{ℕ, List, map, subst, arith}
 use Rattle.std.proofs.lemmas.List.{take_all}
 use Rattle.std.specs.Prelude.{slice_index}
-use Rattle.tree_merges.specs.MemberPairs.{AddsPairs}
+use Rattle.tree_merges.specs.steps.MemberPairs.{AddsPairs}
 use Rattle.tree_merges.proofs.JoinLaws.{Pair, adds_next}
 use Rattle.tree_merges.proofs.marking.join_members.Goals as goal
 
@@ -9,12 +9,12 @@ pub loop-tile-preserved : goal.loop-tile-preserved
 loop-tile-preserved c = record {
   len = omega (arith, c.join.ensures.len, c.loop-tile.invariant.len);
   joined =
-      adds_next {X = ℕ} (λ tile. (slice_index c.args.numbers.now (c.args.start + tile), c.args.region)) c.args.tiles.now c.loop-tile.tile-index 0
+      adds_next {X = ℕ} (λ tile. (slice_index c.args.numbers.now tile, c.args.region)) c.args.tiles.now c.loop-tile.tile-index 0
       c.args.classes.now c.loop-tile.classes c.join.new.self c.loop-tile-test.true c.loop-tile.invariant.joined c.join.ensures.divides;
 }
 
 pub returns-clause-joined : goal.returns-clause-joined
 returns-clause-joined c =
     subst (λ (tiles : List ℕ). AddsPairs c.args.classes.now c.loop-tile.classes
-    (map {B = Pair} (λ tile. (slice_index c.args.numbers.now (c.args.start + tile), c.args.region)) tiles))
+    (map {B = Pair} (λ tile. (slice_index c.args.numbers.now tile, c.args.region)) tiles))
     (take_all c.loop-tile.tile-index c.args.tiles.now (omega arith)) c.loop-tile.invariant.joined

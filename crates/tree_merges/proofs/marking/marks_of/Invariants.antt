@@ -1,7 +1,7 @@
 use Rattle.std.proofs.Common.{◌≡◌, ◌+◌, length, map, take}
 use Rattle.partition.specs.Divides.{Divides, IsPair}
 use Rattle.piece_groups.specs.MemberMarks.{region_position}
-use Rattle.tree_merges.specs.MemberPairs.{pairs_from}
+use Rattle.tree_merges.specs.steps.MemberPairs.{pairs_from}
 use Rattle.tree_merges.proofs.JoinLaws.{Pair}
 use Rattle.tree_merges.proofs.marking.marks_of.Given as goal
 
@@ -10,5 +10,5 @@ invariant-loop-index l = record {
   long : length l.classes ≡ length l.members.names.items + l.regions.count;
   divides : Divides l.classes
       (IsPair (map {B = Pair} (λ pair. (pair.0, region_position (length l.members.names.items) l.regions.tiles pair.1))
-      (pairs_from l.members.numbers.items l.pieces.starts.items 0 (take l.index l.pieces.stacks.items))));
+      (pairs_from l.members.numbers.items 0 (take l.index l.pieces))));
 }

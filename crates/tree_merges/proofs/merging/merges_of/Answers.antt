@@ -7,8 +7,8 @@ use Rattle.library_trees.specs.NamedCells.{named_tree_at}
 use Rattle.offences.specs.declared.plane_stacks.PlaneStack.{PlaneStack}
 use Rattle.piece_groups.specs.Laws.{MarkedGroupsAreRecorded}
 use Rattle.tile_members.specs.TileMembers.{AreTileMembers}
-use Rattle.tree_merges.specs.MarkedMerges.{AreMarkedMerges}
-use Rattle.tree_merges.specs.Pieces.{ArePieceRegions, ArePieces}
+use Rattle.tree_merges.specs.steps.MarkedMerges.{AreMarkedMerges}
+use Rattle.tree_merges.specs.steps.Pieces.{ArePieceRegions, ArePieces}
 use Rattle.tree_merges.specs.Relations.{records_in}
 use Rattle.tree_merges.proofs.CellMerges.{few_parts, meeting_pieces, merges_of_cell, records_below}
 use Rattle.tree_merges.proofs.NumberedMembers.{members_are_numbered}
@@ -19,11 +19,11 @@ regions_of_pieces-requires g c =
     let library = c.args.library.now in
     let cell = c.args.cell.0 in
     let tech : c.tech-tech.result.now ≡ library.tech = c.tech-tech.ensures in
-    let pieces : ArePieces library.tech c.args.pieces.stacks.items =
-    meeting_pieces library.tech (tree_at (seen library) cell) c.args.tiles.items c.args.pieces c.requires.clean
+    let pieces : ArePieces library.tech c.args.pieces.items =
+    meeting_pieces library.tech (tree_at (seen library) cell) c.args.tiles.items c.args.pieces.items c.requires.clean
     (few_parts library c.lawful.ensures cell c.requires.cell) c.requires.pieces in
     subst (λ (stacks : List PlaneStack). ArePieces c.tech-tech.result.now stacks) (sym c.as_slice.ensures.value)
-    (subst (λ (raw : RawTech). ArePieces raw c.args.pieces.stacks.items) (sym tech) pieces)
+    (subst (λ (raw : RawTech). ArePieces raw c.args.pieces.items) (sym tech) pieces)
 
 pub members_of-requires-clause-tiles : goal.members_of-requires-clause-tiles
 members_of-requires-clause-tiles g c = c.requires.pieces.are_tiles
@@ -33,21 +33,21 @@ merges_of_members-requires-clause-pieces g c =
     let library = c.args.library.now in
     let cell = c.args.cell.0 in
     let tech : c.tech-tech.result.now ≡ library.tech = c.tech-tech.ensures in
-    subst (λ (raw : RawTech). ArePieces raw c.args.pieces.stacks.items) (sym tech)
-    (meeting_pieces library.tech (tree_at (seen library) cell) c.args.tiles.items c.args.pieces c.requires.clean
+    subst (λ (raw : RawTech). ArePieces raw c.args.pieces.items) (sym tech)
+    (meeting_pieces library.tech (tree_at (seen library) cell) c.args.tiles.items c.args.pieces.items c.requires.clean
     (few_parts library c.lawful.ensures cell c.requires.cell) c.requires.pieces)
 
 pub merges_of_members-requires-clause-numbered : goal.merges_of_members-requires-clause-numbered
 merges_of_members-requires-clause-numbered g c =
     let library = c.args.library.now in
     let cell = c.args.cell.0 in
-    let pieces = c.args.pieces in
+    let pieces = c.args.pieces.items in
     let tiles = c.args.tiles.items in
     let regions = c.in_ok-regions.regions in
     let members = c.in_ok-members.members in
     let tech : c.tech-tech.result.now ≡ library.tech = c.tech-tech.ensures in
-    let are_regions : ArePieceRegions library.tech pieces.stacks.items regions =
-    subst (λ (raw : RawTech). ArePieceRegions raw pieces.stacks.items regions) tech
+    let are_regions : ArePieceRegions library.tech pieces regions =
+    subst (λ (raw : RawTech). ArePieceRegions raw pieces regions) tech
     (subst (λ (stacks : List PlaneStack). ArePieceRegions c.tech-tech.result.now stacks regions) c.as_slice.ensures.value c.in_ok-regions.ensures) in
     let are_members : AreTileMembers library.tech (named_tree_at (seen library) cell) tiles members.names.items members.numbers.items =
     c.in_ok-members.ensures.members in
@@ -59,13 +59,13 @@ pub returns-clause-merges : goal.returns-clause-merges
 returns-clause-merges g c =
     let library = c.args.library.now in
     let cell = c.args.cell.0 in
-    let pieces = c.args.pieces in
+    let pieces = c.args.pieces.items in
     let tiles = c.args.tiles.items in
     let regions = c.in_ok-regions.regions in
     let members = c.in_ok-members.members in
     let tech : c.tech-tech.result.now ≡ library.tech = c.tech-tech.ensures in
-    let are_regions : ArePieceRegions library.tech pieces.stacks.items regions =
-    subst (λ (raw : RawTech). ArePieceRegions raw pieces.stacks.items regions) tech
+    let are_regions : ArePieceRegions library.tech pieces regions =
+    subst (λ (raw : RawTech). ArePieceRegions raw pieces regions) tech
     (subst (λ (stacks : List PlaneStack). ArePieceRegions c.tech-tech.result.now stacks regions) c.as_slice.ensures.value c.in_ok-regions.ensures) in
     let are_members : AreTileMembers library.tech (named_tree_at (seen library) cell) tiles members.names.items members.numbers.items =
     c.in_ok-members.ensures.members in

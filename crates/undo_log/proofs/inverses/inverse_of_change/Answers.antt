@@ -8,7 +8,7 @@ use Rattle.cell_library.specs.Views.{CellView, LibraryView, view_at}
 use Rattle.undo_log.specs.declared.changes.Change.{Change}
 use Rattle.undo_log.specs.declared.changes.Change.TheVariants.{AddLabel, DeleteUse, DropLabel, InsertUse, MoveUse, Repaint, SetGrid, SetLabels}
 use Rattle.undo_log.specs.Inverses.{CanBeMade, TakesBack, changed}
-use Rattle.undo_log.specs.Makings.{AddsLast, PutsBack}
+use Rattle.undo_log.specs.steps.Makings.{AddsLast, PutsBack}
 use Rattle.undo_log.proofs.CellLaws.{cell_here, count_kept}
 use Rattle.undo_log.proofs.ChangeLaws.{deletion_taken_back, drop_taken_back, grid_taken_back, insertion_taken_back, label_taken_back}
 use Rattle.undo_log.proofs.ChangeLaws.{labels_taken_back, move_taken_back, remade, repaint_taken_back}

@@ -18,7 +18,7 @@ use Rattle.edit_script.specs.Edits.{applied, grid_of}
 use Rattle.undo_log.specs.declared.changes.Change.{Change}
 use Rattle.undo_log.specs.declared.changes.Change.TheVariants.{DeleteUse, DropLabel, MoveUse}
 use Rattle.undo_log.specs.Inverses.{TakesBack}
-use Rattle.undo_log.specs.Makings.{Accepts, BringsAgain, GivesGrid, OfUse, PutsBack}
+use Rattle.undo_log.specs.steps.Makings.{Accepts, BringsAgain, GivesGrid, OfUse, PutsBack}
 use Rattle.undo_log.proofs.EditLaws.{arraying_refused, arraying_taken_back, deleting_refused, deleting_taken_back, erasing_refused, erasing_taken_back}
 use Rattle.undo_log.proofs.EditLaws.{labelling_taken_back, moving_taken_back, painting_refused, painting_taken_back, placing_taken_back}
 use Rattle.undo_log.proofs.EditLaws.{unlabelling_taken_back}

@@ -1,6 +1,6 @@
 use Rattle.std.proofs.Common.{subst, sym, inl, inr}
 use Rattle.std.proofs.lemmas.Result.{on_ok_weaker}
-use Rattle.cell_library.specs.AddedCells.{AreCellsAdded, TreeRefusesAll, contents_with, new_views}
+use Rattle.cell_library.specs.steps.AddedCells.{AreCellsAdded, TreeRefusesAll, contents_with, new_views}
 use Rattle.cell_library.specs.Additions.{AddAllIsRefused, CanBeAdded}
 use Rattle.cell_library.specs.Libraries.{LibraryParts, seen, edits_of}
 use Rattle.cell_library.specs.Refusals.{EditIsRefused, HasFaultOrLacksMemory}

@@ -6,7 +6,7 @@ use Rattle.cell_library.proofs.EditLaws.{kept_lawful, seen_cells}
 use Rattle.std.specs.Prelude.{false}
 use Rattle.cell_tree.specs.Trees.{cell_at}
 use Rattle.cell_library.specs.declared.faults.LibFault.TheVariants.{NoUse}
-use Rattle.cell_library.specs.CellEdits.{IsDeletedIn}
+use Rattle.cell_library.specs.steps.CellEdits.{IsDeletedIn}
 use Rattle.cell_library.specs.Edits.{without_use}
 use Rattle.cell_library.specs.Refusals.{EditIsRefused, FirstOf, NothingElse, DeleteIsRefused, has_id}
 use Rattle.cell_library.proofs.UseEdits.{delete_fault, deleted_seen, deleted_lawful, deleted_unrefused}

@@ -2,7 +2,7 @@ use Rattle.std.proofs.Common.{◌<◌, length, sym, subst, inl, inr}
 use Rattle.std.proofs.lemmas.Result.{on_ok_weaker}
 use Rattle.cell_library.specs.Contents.{held_at, without_last}
 use Rattle.cell_library.specs.Libraries.{LibraryParts, seen, edits_of}
-use Rattle.cell_library.specs.OwnRestorations.{IsRelabelledIn}
+use Rattle.cell_library.specs.steps.OwnRestorations.{IsRelabelledIn}
 use Rattle.cell_library.specs.Refusals.{EditIsRefused, NothingElse}
 use Rattle.cell_library.specs.Restorations.{without_last_label}
 use Rattle.cell_library.proofs.BoxSteps.{upright_labels}

@@ -3,7 +3,7 @@ use Rattle.std.proofs.lemmas.Result.{on_ok_weaker, on_err_weaker}
 use Rattle.cell_library.specs.Libraries.{LibraryParts, seen, edits_of}
 use Rattle.cell_library.proofs.FaultLaws.{ok_or_err, both_err, answers_memory}
 use Rattle.cell_library.proofs.EditLaws.{refused_same, refused_lawful, seen_cells}
-use Rattle.cell_library.specs.CellEdits.{IsErasedIn}
+use Rattle.cell_library.specs.steps.CellEdits.{IsErasedIn}
 use Rattle.cell_library.specs.Contents.{IsRepainted}
 use Rattle.cell_library.specs.Edits.{erased}
 use Rattle.cell_library.specs.Refusals.{AreaIsRefused, EditIsRefused, EraseIsRefused, HasFaultOrLacksMemory, NothingElse}

@@ -4,7 +4,7 @@ use Rattle.cell_library.specs.Libraries.{LibraryParts, seen, edits_of}
 use Rattle.cell_library.proofs.FaultLaws.{ok_or_err, both_err, answers_memory}
 use Rattle.cell_library.proofs.EditLaws.{kept_lawful, seen_cells}
 use Rattle.std.specs.Prelude.{IfSome}
-use Rattle.cell_library.specs.CellEdits.{IsLabelledIn, BoxIsRefused}
+use Rattle.cell_library.specs.steps.CellEdits.{IsLabelledIn, BoxIsRefused}
 use Rattle.cell_library.specs.Edits.{labelled}
 use Rattle.cell_library.specs.Refusals.{LabelAreaIsRefused, EditIsRefused, LabelIsRefused, HasFaultOrLacksMemory}
 use Rattle.cell_library.proofs.OwnEdits.{label_fault, labelled_seen, labelled_lawful, labelled_unrefused}

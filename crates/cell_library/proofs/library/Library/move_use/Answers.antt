@@ -9,7 +9,7 @@ use mir.Val.{of_z, to_z}
 use mir.Syntax.{w64}
 use Rattle.cell_tree.specs.Trees.{cell_at}
 use Rattle.cell_library.specs.declared.faults.LibFault.TheVariants.{NoUse}
-use Rattle.cell_library.specs.CellEdits.{IsMovedIn, ShiftIsRefused}
+use Rattle.cell_library.specs.steps.CellEdits.{IsMovedIn, ShiftIsRefused}
 use Rattle.cell_library.specs.Edits.{moved}
 use Rattle.cell_library.specs.Refusals.{EditIsRefused, FirstOf, MoveIsRefused, has_id}
 use Rattle.cell_library.proofs.MoveEdits.{move_fault, moved_seen, moved_lawful, moved_unrefused}

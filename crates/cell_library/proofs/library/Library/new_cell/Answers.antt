@@ -6,7 +6,7 @@ use Rattle.std.specs.Prelude.{IsSome, ◌≤◌}
 use Rattle.cell_library.specs.declared.faults.LibFault.TheVariants.{CellExists, TooMany}
 use Rattle.cell_library.specs.declared.limits.LibraryLimit.TheVariants.{Cells}
 use Rattle.cell_library.specs.declared.limits.TheConstants.{MOST_CELLS}
-use Rattle.cell_library.specs.CellEdits.{IsCellAdded}
+use Rattle.cell_library.specs.steps.CellEdits.{IsCellAdded}
 use Rattle.cell_library.specs.Contents.{position_of}
 use Rattle.cell_library.specs.Refusals.{EditIsRefused, FirstOf, NothingElse, NewCellIsRefused, HasFaultOrLacksMemory}
 use Rattle.cell_library.proofs.NewCells.{new_fault, added_seen, added_lawful, added_unrefused, kept_all}

@@ -4,7 +4,7 @@ use Rattle.cell_library.specs.Libraries.{LibraryParts, seen, edits_of}
 use Rattle.cell_library.proofs.FaultLaws.{ok_or_err, answers_memory}
 use Rattle.cell_library.proofs.EditLaws.{kept_lawful}
 use Rattle.cell_tree.specs.Trees.{cell_at}
-use Rattle.cell_library.specs.CellEdits.{IsPlacedIn, TreeRefusesUse}
+use Rattle.cell_library.specs.steps.CellEdits.{IsPlacedIn, TreeRefusesUse}
 use Rattle.cell_library.specs.Refusals.{EditIsRefused, PlacingIsRefused, PlaceIsRefused, HasFaultOrLacksMemory}
 use Rattle.cell_library.proofs.UseEdits.{place_fault, placed_view, placed_lawful, placed_unrefused}
 use Rattle.cell_library.proofs.library.Library.place.Goals as goal

@@ -6,7 +6,7 @@ use Rattle.cell_library.proofs.EditLaws.{kept_lawful, seen_cells}
 use Rattle.std.specs.Prelude.{false}
 use Rattle.cell_tree.specs.Trees.{cell_at}
 use Rattle.cell_library.specs.declared.faults.LibFault.TheVariants.{NoUse}
-use Rattle.cell_library.specs.CellEdits.{IsArrayedIn, GridIsRefused}
+use Rattle.cell_library.specs.steps.CellEdits.{IsArrayedIn, GridIsRefused}
 use Rattle.cell_library.specs.Edits.{with_grid}
 use Rattle.cell_library.specs.Refusals.{EditIsRefused, FirstOf, ArrayIsRefused, has_id}
 use Rattle.cell_library.proofs.MoveEdits.{array_fault, arrayed_seen, arrayed_lawful, arrayed_unrefused}

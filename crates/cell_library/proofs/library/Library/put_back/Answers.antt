@@ -4,7 +4,7 @@ use Rattle.cell_paint.specs.Paints.{IsSoundPaint}
 use Rattle.cell_paint.specs.Pieces.{with_pieces, CanStandIn}
 use Rattle.cell_library.specs.Contents.{IsRepainted}
 use Rattle.cell_library.specs.Libraries.{LibraryParts, seen, edits_of}
-use Rattle.cell_library.specs.OwnRestorations.{IsPutBackIn}
+use Rattle.cell_library.specs.steps.OwnRestorations.{IsPutBackIn}
 use Rattle.cell_library.specs.Refusals.{EditIsRefused, HasFaultOrLacksMemory, NothingElse}
 use Rattle.cell_library.specs.LawfulViews.{IsLawfulView}
 use Rattle.cell_library.specs.Restorations.{repainted}

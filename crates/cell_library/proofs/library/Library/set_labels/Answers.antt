@@ -2,7 +2,7 @@ use Rattle.std.proofs.Common.{◌<◌, List, length, refl, sym, subst, inl, inr}
 use Rattle.std.proofs.lemmas.Result.{on_ok_weaker}
 use Rattle.tech_model.specs.declared.raw.Label.{Label}
 use Rattle.cell_library.specs.Libraries.{LibraryParts, seen, edits_of}
-use Rattle.cell_library.specs.OwnRestorations.{IsRelabelledIn}
+use Rattle.cell_library.specs.steps.OwnRestorations.{IsRelabelledIn}
 use Rattle.cell_library.specs.Refusals.{EditIsRefused, NothingElse}
 use Rattle.cell_library.specs.LawfulViews.{IsLawfulView}
 use Rattle.cell_library.specs.Restorations.{relabelled}

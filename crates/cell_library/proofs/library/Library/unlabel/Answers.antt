@@ -5,7 +5,7 @@ use Rattle.cell_library.proofs.FaultLaws.{ok_or_err, both_err, answers_only}
 use Rattle.cell_library.proofs.EditLaws.{kept_lawful, seen_cells}
 use Rattle.std.specs.Prelude.{false}
 use Rattle.cell_library.specs.declared.faults.LibFault.TheVariants.{NoLabel}
-use Rattle.cell_library.specs.CellEdits.{IsUnlabelledIn}
+use Rattle.cell_library.specs.steps.CellEdits.{IsUnlabelledIn}
 use Rattle.cell_library.specs.Contents.{held_at}
 use Rattle.cell_library.specs.Edits.{unlabelled}
 use Rattle.cell_library.specs.Refusals.{EditIsRefused, FirstOf, NothingElse, UnlabelIsRefused, has_text}

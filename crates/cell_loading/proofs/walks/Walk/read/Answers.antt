@@ -8,7 +8,7 @@ use Rattle.cell_bodies.specs.declared.bodies.CellBody.{CellBody}
 use Rattle.cell_library.specs.Libraries.{seen}
 use Rattle.cell_loading.specs.CellFiles.{file_gives}
 use Rattle.cell_loading.specs.Readings.{cell_files}
-use Rattle.cell_loading.specs.Walks.{names_left}
+use Rattle.cell_loading.specs.steps.Walks.{names_left}
 use Rattle.cell_loading.proofs.ReadingLaws.{stops_here}
 use Rattle.cell_loading.proofs.WalkLaws.{asked_for_cell, read_few, read_frames, read_goes_on, read_pushed, read_so_far}
 use Rattle.std.specs.Prelude.{Err}

@@ -4,9 +4,9 @@ use Rattle.geo_core.specs.declared.squares.Rect.{Rect}
 use Rattle.element_index.specs.declared.uses.UseElements.{UseElements}
 use Rattle.element_index.specs.Forests.{MeetsSome}
 use Rattle.element_index.specs.GivenNames.{element_ids, gives_again}
-use Rattle.element_index.proofs.IdLaws.{found_id, unknown_id}
 use Rattle.element_index.proofs.HoldLaws.{meeting_tells, unknown_tells}
 use Rattle.element_index.proofs.index.ElementIndex.gives_again.Goals as goal
+use Rattle.name_index.proofs.Positions.{stands_where_found, stands_nowhere}
 
 pub returns-in-Some : goal.returns-in-Some
 returns-in-Some c =
@@ -18,7 +18,7 @@ returns-in-Some c =
     let number = c.in-Some.number in
     let meets = subst (λ (area : Rect). IsTrue c.meets.result ↔ MeetsSome areas area) c.raised.ensures c.meets.ensures in
     meeting_tells ids uses areas c.self.invariant (element_ids used.id used.grid) id c.block-block.result.area number c.meets.result
-    (found_id ids id number (sym c.in-Some.ensures)) c.block-block.ensures meets
+    (stands_where_found ids id number (sym c.in-Some.ensures)) c.block-block.ensures meets
     ∙ ap (λ (now : List UseElements). gives_again now used) c.self.view_is
 
 pub returns-in-None : goal.returns-in-None
@@ -29,5 +29,5 @@ returns-in-None c =
     let id = c.block-block.result.id.now in
     let missing =
     unknown_tells ids uses c.self.inside.areas c.self.invariant (element_ids used.id used.grid) id c.block-block.result.area
-    (unknown_id ids id (sym c.in-None.ensures)) c.block-block.ensures in
+    (stands_nowhere ids id (sym c.in-None.ensures)) c.block-block.ensures in
     sym (subst (λ (now : List UseElements). gives_again now used ≡ false) c.self.view_is missing)

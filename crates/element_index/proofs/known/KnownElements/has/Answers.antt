@@ -6,9 +6,9 @@ use Rattle.element_index.specs.declared.uses.UseElements.{UseElements}
 use Rattle.element_index.specs.Forests.{MeetsSome}
 use Rattle.element_index.specs.GivenNames.{names_in, is_among}
 use Rattle.element_index.proofs.ForestLaws.{search_tells}
-use Rattle.element_index.proofs.IdLaws.{found_id, unknown_id}
 use Rattle.element_index.proofs.HoldLaws.{formless_tells, meeting_tells, one-any, unknown_tells}
 use Rattle.element_index.proofs.known.KnownElements.has.Goals as goal
+use Rattle.name_index.proofs.Positions.{stands_where_found, stands_nowhere}
 
 pub returns-in_default : goal.returns-in_default
 returns-in_default c =
@@ -24,7 +24,7 @@ returns-in_default-find c =
     let id = c.in-Some.block.id.now in
     let missing =
     unknown_tells ids uses c.self.inside.strips c.self.invariant.holds (name ∷ []) id c.in-Some.block.area
-    (unknown_id ids id (sym c.in_default-find.ensures)) c.in-Some.ensures.some in
+    (stands_nowhere ids id (sym c.in_default-find.ensures)) c.in-Some.ensures.some in
     sym (subst (λ (now : List UseElements). is_among name (names_in now) ≡ false) c.self.view_is (sym (one-any name (names_in uses)) ∙ missing))
 
 pub returns : goal.returns
@@ -40,6 +40,6 @@ returns c =
     let meets = subst (λ (area : Rect). IsTrue some ↔ MeetsSome strips area) c.raised.ensures told in
     c.is_some.ensures
     ∙ meeting_tells ids uses strips c.self.invariant.holds (name ∷ []) id c.in-Some.block.area number some
-    (found_id ids id number (sym c.in-Some-find.ensures)) c.in-Some.ensures.some meets
+    (stands_where_found ids id number (sym c.in-Some-find.ensures)) c.in-Some.ensures.some meets
     ∙ one-any name (names_in uses)
     ∙ ap (λ (now : List UseElements). is_among name (names_in now)) c.self.view_is

@@ -4,7 +4,7 @@ use Rattle.std.proofs.lemmas.Int.{ints, to_z-of_z}
 use Rattle.geo_strips.proofs.CoverageLaws.{on_ok, stored_max, stored_min}
 use Rattle.interact.specs.declared.counts.Counts.{Even}
 use Rattle.interact.specs.declared.counts.Fork.{Fork}
-use Rattle.interact.specs.Counts.{bounds_of, forks, shifted}
+use Rattle.interact.specs.steps.Counts.{bounds_of, forks, shifted}
 use Rattle.interact.proofs.CountLaws.{settle_all, settle_none, settle_stays, cut, left_before, right_before, fork_settled}
 use Rattle.interact.proofs.counts.Counts.+settle.Goals as goal
 

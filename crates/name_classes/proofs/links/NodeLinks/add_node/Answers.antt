@@ -3,8 +3,8 @@ use Rattle.std.proofs.lemmas.Option.{slice_get_read}
 use Rattle.finite_sets.specs.Lists.{In}
 use Rattle.finite_sets.proofs.Places.{In-slice_get, take-slice_get}
 use Rattle.ext_model.specs.RecordNames.{names_of}
-use Rattle.name_classes.specs.Paths.{IsEndFrom}
-use Rattle.name_classes.specs.Links.{IsGlobalName}
+use Rattle.name_classes.specs.steps.Paths.{IsEndFrom}
+use Rattle.name_classes.specs.steps.Links.{IsGlobalName}
 use Rattle.name_classes.proofs.LinkLaws.{Grown, node_name_of, global_name, none_added, alias_added}
 use Rattle.name_classes.proofs.links.NodeLinks.add_node.Goals as goal
 

@@ -6,7 +6,7 @@ use Rattle.std.proofs.lemmas.Option.{slice_get_read}
 use Rattle.std.proofs.lemmas.Map.Text.{btree_map_updates_str}
 use Rattle.finite_sets.proofs.Places.{take-slice_get}
 use Rattle.ext_model.specs.declared.records.UseRec.{UseRec}
-use Rattle.name_classes.specs.UseTables.{IsTableOf, number_of}
+use Rattle.name_classes.specs.steps.UseTables.{IsTableOf, number_of}
 use Rattle.name_classes.proofs.TableLaws.{table_push}
 use Rattle.name_classes.proofs.tables.UseTable.of.Goals as goal
 

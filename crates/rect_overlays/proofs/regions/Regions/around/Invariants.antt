@@ -1,5 +1,5 @@
 use Rattle.std.specs.List.{range_with_len}
-use Rattle.rect_overlays.specs.Regions.{IsWholeOf}
+use Rattle.rect_overlays.specs.steps.Regions.{IsWholeOf}
 use Rattle.rect_overlays.proofs.regions.Regions.around.Given as goal
 
 -- the rectangles so far that have squares are gathered

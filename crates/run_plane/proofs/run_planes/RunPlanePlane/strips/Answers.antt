@@ -7,7 +7,7 @@ use Rattle.geo_core.specs.Strips.{IsStrips}
 use Rattle.run_plane.specs.declared.rows.Row.{Row}
 use Rattle.run_plane.specs.Rows.{edge, number_at}
 use Rattle.run_plane.specs.Contents.{Contents}
-use Rattle.run_plane.specs.Listings.{AreBetween, IsInPieces}
+use Rattle.run_plane.specs.steps.Listings.{AreBetween, IsInPieces}
 use Rattle.run_plane.proofs.BoxLaws.{strip_near}
 use Rattle.run_plane.proofs.PlaneLaws.{strips_of_rows}
 use Rattle.run_plane.proofs.run_planes.RunPlanePlane.strips.Goals as goal

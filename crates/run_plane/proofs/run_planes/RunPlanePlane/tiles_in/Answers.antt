@@ -4,7 +4,7 @@ use Rattle.geo_core.specs.Planes.{AreTilesIn}
 use Rattle.run_plane.specs.declared.rows.Row.{Row}
 use Rattle.run_plane.specs.Rows.{number_at}
 use Rattle.run_plane.specs.Contents.{Contents}
-use Rattle.run_plane.specs.Listings.{AreBetween, AreTilesFrom}
+use Rattle.run_plane.specs.steps.Listings.{AreBetween, AreTilesFrom}
 use Rattle.run_plane.proofs.PlaneLaws.{tiles_of_rows}
 use Rattle.run_plane.proofs.run_planes.RunPlanePlane.tiles_in.Goals as goal
 

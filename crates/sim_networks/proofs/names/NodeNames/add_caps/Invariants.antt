@@ -1,5 +1,5 @@
 use Rattle.std.proofs.Common.{map, take}
-use Rattle.sim_networks.specs.Numbering.{AddsNames}
+use Rattle.sim_networks.specs.steps.Numbering.{AddsNames}
 use Rattle.sim_networks.proofs.names.NodeNames.add_caps.Given as goal
 
 abbrev pub invariant-loop-cap : goal.invariant-loop-cap

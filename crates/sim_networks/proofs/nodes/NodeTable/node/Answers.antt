@@ -1,11 +1,12 @@
 use Rattle.std.proofs.Common.{sym, ◌∙◌}
-use Rattle.sim_networks.proofs.NumberLaws.{found_nowhere, found_number, label_read}
+use Rattle.sim_networks.proofs.NumberLaws.{found_number, label_read}
 use Rattle.sim_networks.proofs.nodes.NodeTable.node.Goals as goal
+use Rattle.name_index.proofs.Positions.{stands_nowhere}
 
 pub returns-in_err-number : goal.returns-in_err-number
 returns-in_err-number c =
     rw c.from_residual.ensures (λ here.
-    found_nowhere c.args.self.now.names.index c.args.name.now (sym c.find.ensures ∙ c.in_err-number.was) here)
+    stands_nowhere c.args.self.now.names.index c.args.name.now (sym c.find.ensures ∙ c.in_err-number.was) here)
 
 pub returns : goal.returns
 returns c =

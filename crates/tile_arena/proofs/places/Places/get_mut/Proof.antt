@@ -50,7 +50,7 @@ use Rattle.tile_arena.specs.Places.{HasItem}
 use Rattle.tile_arena.specs.PlaceOwnership.{place, row_of, places_own}
 use Rattle.tile_arena.proofs.PlaceSteps.{PlacesRow, StartRow, Mark, size, Held, start_had, item_within, Others, take_place, put_place}
 use denote.Follow.{follows, Part, lends_Part}
-use Rattle.tile_arena.specs.PlaceLending.{with_held}
+use Rattle.tile_arena.specs.steps.PlaceLending.{with_held}
 use Rattle.tile_arena.specs.contracts.places.Places.get_mut.Key.{name as #self}
 use Rattle.tile_arena.proofs.places.Places.get_mut.Statement as stated
 use Rattle.tile_arena.proofs.places.Places.get_mut.Code as code

@@ -3,7 +3,7 @@ use Rattle.std.proofs.lemmas.Result.{IfOk-weaker}
 use Rattle.cell_library.specs.Libraries.{seen}
 use Rattle.library_trees.specs.NamedCells.{named_tree_at}
 use Rattle.tile_members.specs.TileLaws.{MembersHaveWholeTiles}
-use Rattle.tile_members.specs.KnownMembers.{IsOfMember}
+use Rattle.tile_members.specs.steps.KnownMembers.{IsOfMember}
 use Rattle.tile_members.specs.TileMembers.{HasTile}
 use Rattle.tile_members.proofs.FinderLaws.{finder_entered}
 use Rattle.tile_members.proofs.FoundTiles.{known_tile}

@@ -1,7 +1,7 @@
 use Rattle.std.proofs.Common.{drop}
 use Rattle.std.specs.HashMap.{get_by}
 use Rattle.std.specs.Str.{bytes_eq}
-use Rattle.tile_members.specs.MergeTables.{FindFirst}
+use Rattle.tile_members.specs.steps.MergeTables.{FindFirst}
 use Rattle.tile_members.proofs.groups.RecordGroups.of.Given as goal
 
 abbrev pub invariant-loop-number : goal.invariant-loop-number

@@ -2,7 +2,7 @@ use Rattle.std.proofs.Common.{◌≡◌, ◌++◌, ◌∷◌, [], ℕ, length, s
 use Rattle.std.specs.Prelude.{position}
 use Rattle.std.specs.Str.{bytes_eq}
 use Rattle.std.proofs.lemmas.Result.{IfOk-weaker}
-use Rattle.tile_members.specs.KnownMembers.{AddsName}
+use Rattle.tile_members.specs.steps.KnownMembers.{AddsName}
 use Rattle.tile_members.proofs.NewNames.{adds_found, adds_new, not_found}
 use Rattle.tile_members.proofs.known_members.KnownMembers.enter.Goals as goal
 

@@ -9,7 +9,7 @@ use Rattle.edit_script.specs.Edits.{applied}
 use Rattle.undo_log.specs.declared.changes.Change.{Change}
 use Rattle.undo_log.specs.declared.changes.Inverse.{Inverse}
 use Rattle.undo_log.specs.Inverses.{Inverses, TakesBack}
-use Rattle.undo_log.specs.Makings.{Accepts}
+use Rattle.undo_log.specs.steps.Makings.{Accepts}
 use Rattle.undo_log.proofs.LeadLaws.{edit_kept}
 use Rattle.undo_log.proofs.logs.Log.edit.Goals as goal
 

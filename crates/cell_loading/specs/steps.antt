@@ -1,0 +1,2 @@
+pub mod ReadCells
+pub mod Walks

@@ -1,0 +1,2 @@
+pub mod NodeNumbers
+pub mod Records

@@ -1,0 +1,3 @@
+pub mod Exts
+pub mod FetsOfRegions
+pub mod Joined

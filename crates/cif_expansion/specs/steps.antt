@@ -1,0 +1,3 @@
+pub mod CappedSizes
+pub mod Drawings
+pub mod WideRects

@@ -1,0 +1,9 @@
+pub mod Forests
+pub mod Goals
+pub mod Links
+pub mod NameOrder
+pub mod RankSteps
+pub mod Rooms
+pub mod Steps
+pub mod UnderWay
+pub mod Walks

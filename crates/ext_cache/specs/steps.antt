@@ -1,0 +1,2 @@
+pub mod MadeRecords
+pub mod Undoing

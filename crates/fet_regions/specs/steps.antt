@@ -1,0 +1,4 @@
+pub mod Channels
+pub mod Lowest
+pub mod Roles
+pub mod Sizes

@@ -1,0 +1,3 @@
+pub mod ByteCounts
+pub mod Keys
+pub mod Paths

@@ -1,0 +1,2 @@
+pub mod RowEvents
+pub mod Sweeping

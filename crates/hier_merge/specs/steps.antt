@@ -1,0 +1,4 @@
+pub mod MeetingTiles
+pub mod PlanePieces
+pub mod Seams
+pub mod Visits

@@ -1,0 +1,4 @@
+pub mod Joins
+pub mod Links
+pub mod Paths
+pub mod UseTables

@@ -1,0 +1,2 @@
+pub mod LayerParts
+pub mod Pieces

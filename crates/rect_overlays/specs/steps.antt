@@ -1,0 +1,4 @@
+pub mod Cuts
+pub mod Regions
+pub mod Singles
+pub mod Splits

@@ -1,0 +1,9 @@
+pub mod Gathering
+pub mod Kinds
+pub mod Lowering
+pub mod Parts
+pub mod Passing
+pub mod Rounds
+pub mod Spreading
+pub mod Strongest
+pub mod Wired

@@ -1,0 +1,3 @@
+pub mod MarkedMerges
+pub mod MemberPairs
+pub mod Pieces
