@@ -12,7 +12,7 @@ use Rattle.finite_sets.proofs.Searches.{All-from_In, All-In}
 use Rattle.finite_sets.proofs.Places.{In-take, take_both}
 use Rattle.geo_core.specs.declared.squares.Rect.{Rect}
 use Rattle.geo_core.specs.declared.squares.Square.{Square}
-use Rattle.geo_core.specs.Areas.{AreDisjoint, IsNear}
+use Rattle.geo_core.specs.Areas.{AreDisjoint}
 use Rattle.geo_core.specs.Covering.{Covers}
 use Rattle.geo_core.specs.Images.{rect_image}
 use Rattle.geo_core.proofs.CoveringLaws.{covers_second}
