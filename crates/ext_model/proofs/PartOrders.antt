@@ -13,7 +13,8 @@ use Rattle.ext_model.specs.Paths.{path_text}
 use Rattle.ext_model.specs.NameParts.{element_cmp, path_length, AreWhole, PathsCompareByParts}
 use Rattle.ext_model.proofs.PathOrders.{name_kind-behind, slashes_in-behind, length-behind, path_text_some}
 
-ordering_then-assoc : (a b c : Ordering) → ordering_then (ordering_then a b) c ≡ ordering_then a (ordering_then b c)
+-- of three answers the first that decides
+pub ordering_then-assoc : (a b c : Ordering) → ordering_then (ordering_then a b) c ≡ ordering_then a (ordering_then b c)
 ordering_then-assoc Less b c = refl
 ordering_then-assoc Equal b c = refl
 ordering_then-assoc Greater b c = refl

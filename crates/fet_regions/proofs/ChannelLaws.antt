@@ -3,7 +3,7 @@ use Rattle.std.proofs.Common.{arith, ◌≡◌, ◌≢◌, ℕ, ◌<◌, pos, Bo
 use Rattle.std.specs.Prelude.{slice_index}
 use Rattle.std.proofs.lemmas.Bool.Decides.{nat_tests}
 use Rattle.std.proofs.lemmas.Option.{get_or_from_slice_get}
-use Rattle.std.proofs.lemmas.Bool.{and_parts}
+use Rattle.std.proofs.lemmas.Bool.{and_from, and_parts}
 use Rattle.finite_sets.specs.Lists.{Lists}
 use Rattle.finite_sets.specs.Total.{sum_on, Total}
 use Rattle.finite_sets.proofs.Chains.{Chain-push, Chain-keeps}
@@ -33,9 +33,6 @@ differ_from_test m n test = grind (arith, nat_tests)
 
 test_from_differ : (m n : ℕ) → m ≢ n → not (eqb m n) ≡ true
 test_from_differ m n h = grind (arith, nat_tests)
-
-pass_both : (p q : Bool) → p ≡ true → q ≡ true → (p && q) ≡ true
-pass_both p q e f = (λ k. e k && f k)
 
 -- the tile is of the channel's type, and has its label
 abbrev pub is_of_channel : List RegionTile → List ℕ → ℕ → ℕ → ℕ → Bool
@@ -83,7 +80,7 @@ module _ (raw : RawTech) (layout : Layout) (tiles : List RegionTile) (contacts :
       record {
         index = i;
         lies = there.1;
-        passes = pass_both (eqb (tile_at tiles i).kind.0 kind) (eqb (slice_index labels i) label)
+        passes = and_from (eqb (tile_at tiles i).kind.0 kind) (eqb (slice_index labels i) label)
             (one_plane (tile_at tiles i).kind.0 kind (tile_kind i p there.1 ∙ sym e))
             (one_plane (slice_index labels i) label (sym ((labelled index i place p lies there.1).1 chain)));
       }
@@ -130,7 +127,7 @@ module _ (raw : RawTech) (layout : Layout) (tiles : List RegionTile) (contacts :
       record {
         index = i;
         lies = h.owned.lies;
-        passes = pass_both (is_terminal raw kind (tile_at tiles i).kind.0) (eqb (tile_at tiles i).region region)
+        passes = and_from (is_terminal raw kind (tile_at tiles i).kind.0) (eqb (tile_at tiles i).region region)
             (ap (is_terminal raw kind) (tile_kind i b h.owned.lies) ∙ h.listed)
             (one_plane (tile_at tiles i).region region
             (ap (λ (t : RegionTile). t.region) (get_or_from_slice_get tiles i h.owned.lies.tile no_tile h.owned.lies.there) ∙ h.owned.numbered));

@@ -1,7 +1,7 @@
 -- How many edges lead from some tiles to some tiles.
 use Rattle.std.proofs.Common.{◌≡◌, ◌≢◌, ℕ, ◌<◌, ℤ, pos, ◌+ℤ◌, ◌*ℤ◌, Bool, true, false, cond, eqb, ◌&&◌, List, [], ◌∷◌, length, inl, inr, sym, ◌∙◌, ap}
 use Rattle.std.proofs.Common.{subst, arith}
-use Rattle.std.proofs.lemmas.Bool.{and_parts}
+use Rattle.std.proofs.lemmas.Bool.{and_from, and_parts}
 use Rattle.std.proofs.lemmas.Int.{ints}
 use Rattle.std.proofs.lemmas.Option.{slice_get_within}
 use Rattle.finite_sets.specs.Lists.{In, Distinct, Lists}
@@ -44,9 +44,6 @@ pick g i (x ∷ xs) distinct (inr later) =
     none_plus : (z : ℤ) → pos 0 +ℤ z ≡ z
     none_plus z = omega (arith, ints)
 
-pass_both : (p q : Bool) → p ≡ true → q ≡ true → (p && q) ≡ true
-pass_both p q e f = (λ k. e k && f k)
-
 gate_splits : (test same : Bool) (inner shared : ℤ) → cond test (cond same inner (pos 0) +ℤ shared) (pos 0) ≡ cond same (one_if test *ℤ inner) (pos 0) +ℤ
     (one_if test *ℤ shared)
 gate_splits true true inner shared = omega (arith, ints)
@@ -86,7 +83,7 @@ module _ (layout : Layout) (tiles : List RegionTile) (from to : ℕ → Bool) (a
           slice_get_within tiles
               h.to.index h.to.lies.tile h.to.lies.there,
         );
-        inside = (pass_both (from h.from.index) (to h.to.index) h.from.passes h.to.passes, record { from = h.from.lies; to = h.to.lies; near = h.near });
+        inside = (and_from (from h.from.index) (to h.to.index) h.from.passes h.to.passes, record { from = h.from.lies; to = h.to.lies; near = h.near });
       })
       (Total-family Edges (λ e. pos 1) counted (pairs_of indices indices) pairs_listed.0
       (λ p q e in_p in_q.

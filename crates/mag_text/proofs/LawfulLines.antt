@@ -3,7 +3,7 @@ use Rattle.std.proofs.Common.{◌≡◌, ◌<◌, ℕ, ℤ, pos, negsuc, Bool, t
 use Rattle.std.specs.Prelude.{◌&&◌, codes, IfOk, IfSome, IsTrue}
 use Rattle.std.specs.Option.{ok_or, option_map}
 use Rattle.std.specs.Str.{bytes_eq}
-use Rattle.std.proofs.lemmas.Bool.{and_parts}
+use Rattle.std.proofs.lemmas.Bool.{and_from, and_parts}
 use Rattle.finite_sets.proofs.Searches.{position_from-below}
 use Rattle.geo_core.specs.declared.grids.Grid.{Grid}
 use Rattle.geo_core.specs.declared.squares.Rect.{Rect}
@@ -83,10 +83,6 @@ either_good : {A : Type 0} (P : A → Type 0) (test : Bool) (x y : Result A MagF
 either_good P true x y here there = here
 either_good P false x y here there = there
 
-both : (a b : Bool) → a ≡ true → b ≡ true → (a && b) ≡ true
-both true b first second = second
-both false b first second = first
-
 coordinate-good : (read : Result ℤ NumFault) → IfOk (coordinate_in read) (λ z. is_coordinate z ≡ true)
 coordinate-good read = then_any (λ z. is_coordinate z ≡ true) (number_in read) (λ z. if_in (is_coordinate z) z)
     (λ z. if_good (λ z. is_coordinate z ≡ true) (is_coordinate z) z Range (λ e. e))
@@ -120,8 +116,8 @@ rect-good words =
     then_good C P (coordinate_in words.1) _ (coordinate-good words.1) (λ b hb.
     then_good C P (coordinate_in words.2) _ (coordinate-good words.2) (λ c hc.
     then_good C P (coordinate_in words.3) _ (coordinate-good words.3) (λ d hd.
-    both (is_coordinate a && is_coordinate b && is_coordinate c) (is_coordinate d)
-    (both (is_coordinate a && is_coordinate b) (is_coordinate c) (both (is_coordinate a) (is_coordinate b) ha hb) hc) hd))))
+    and_from (is_coordinate a && is_coordinate b && is_coordinate c) (is_coordinate d)
+    (and_from (is_coordinate a && is_coordinate b) (is_coordinate c) (and_from (is_coordinate a) (is_coordinate b) ha hb) hc) hd))))
 
 painted-good : (words : Four) → IfOk (and_then (rect_in words) if_painted) IsPainted
 painted-good words = then_good (λ area. is_in_range area ≡ true) IsPainted (rect_in words) if_painted (rect-good words)
@@ -134,11 +130,11 @@ pub grid-is : (xlo xhi xsep ylo yhi ysep : ℤ) → is_index xlo ≡ true → is
     → is_grid (record { xlo = xlo; xhi = xhi; xsep = xsep; ylo = ylo; yhi = yhi; ysep = ysep }) ≡ true
 unfolding are_elements
 grid-is xlo xhi xsep ylo yhi ysep h1 h2 h3 h4 h5 h6 few =
-    both (are_elements xlo xhi ylo yhi) (are_displacements xsep ysep)
-    (both (are_indices xlo xhi ylo yhi) (are_few_elements xlo xhi ylo yhi)
-    (both (is_index xlo && is_index xhi && is_index ylo) (is_index yhi)
-    (both (is_index xlo && is_index xhi) (is_index ylo) (both (is_index xlo) (is_index xhi) h1 h2) h4) h5) few)
-    (both (is_displacement xsep) (is_displacement ysep) h3 h6)
+    and_from (are_elements xlo xhi ylo yhi) (are_displacements xsep ysep)
+    (and_from (are_indices xlo xhi ylo yhi) (are_few_elements xlo xhi ylo yhi)
+    (and_from (is_index xlo && is_index xhi && is_index ylo) (is_index yhi)
+    (and_from (is_index xlo && is_index xhi) (is_index ylo) (and_from (is_index xlo) (is_index xhi) h1 h2) h4) h5) few)
+    (and_from (is_displacement xsep) (is_displacement ysep) h3 h6)
 
 grid-good : (words : Six) → IfOk (grid_in words) (λ grid. IsTrue (is_grid grid))
 grid-good words =
@@ -164,7 +160,7 @@ six-good words =
     then_any P (number_in words.4) _ (λ e.
     then_good D P (displacement_in words.5) _ (displacement-good words.5) (λ f hf.
     if_good P (is_orientation a b d e) (a ∷ b ∷ c ∷ d ∷ e ∷ f ∷ []) NoOrientation
-    (λ is. both (are_displacements c f) (is_orientation a b d e) (both (is_displacement c) (is_displacement f) hc hf) is)))))))
+    (λ is. and_from (are_displacements c f) (is_orientation a b d e) (and_from (is_displacement c) (is_displacement f) hc hf) is)))))))
 
 found_layer : (raw : RawTech) (found : Option ℕ) (word : List ℕ) → layer_named raw word ≡ found
     → IfOk (ok_or (option_map layer_number found) NoLayer) (λ layer. layer.0 < length raw.layers)
@@ -189,7 +185,7 @@ place-good raw layer edges =
     then_good (λ l. IfSome l (λ l. l.0 < length raw.layers)) (IsGoodPlace raw) (label_layer_in raw layer) _ (label_layer-good raw layer) (λ l below.
     then_good (λ area. is_in_range area ≡ true) (IsGoodPlace raw) (rect_in edges) _ (rect-good edges) (λ area range.
     then_good (λ touched. IsTrue (is_label_area touched)) (IsGoodPlace raw) (if_touched area) _
-    (if_good (λ touched. IsTrue (is_label_area touched)) (has_sides area) area EmptyRect (λ sides. both (has_sides area) (is_in_range area) sides range))
+    (if_good (λ touched. IsTrue (is_label_area touched)) (has_sides area) area EmptyRect (λ sides. and_from (has_sides area) (is_in_range area) sides range))
     (λ touched is. (below, is))))
 
 label-good : (raw : RawTech) (layer : List ℕ) (edges : Four) (position : ℕ) (text : List ℕ) → IsTrue (is_position position) → IsTrue (is_label_text text)

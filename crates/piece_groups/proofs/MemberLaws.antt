@@ -29,12 +29,6 @@ pub member_cmp_total : IsTotalOrder member_cmp
 unfolding member_cmp
 member_cmp_total = on_total member_rank nat_list_cmp_total
 
--- of three answers the first that decides
-pub then_assoc : (a b c : Ordering) → ordering_then (ordering_then a b) c ≡ ordering_then a (ordering_then b c)
-then_assoc Less b c = refl
-then_assoc Equal b c = refl
-then_assoc Greater b c = refl
-
 -- The member is compared as its name is.
 abbrev pub IsRanked : Member → Type 0
 IsRanked member = member_rank member ≡ name_rank member.name.now

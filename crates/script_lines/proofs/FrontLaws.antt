@@ -4,6 +4,7 @@ use Rattle.std.proofs.Common.{List, [], ◌∷◌, ◌++◌, Some, None, take, d
 use Rattle.std.specs.Prelude.{◌&&◌, if◌then◌else◌}
 use Rattle.std.specs.List.{list_all}
 use Rattle.std.proofs.Math.Bool.{and-true}
+use Rattle.std.proofs.lemmas.Bool.{and_from}
 use Rattle.std.proofs.lemmas.List.{take_more_set, map-append}
 use Rattle.std.proofs.lemmas.List.Folds.{list_all-append}
 use Rattle.script_lines.specs.Arguments.{behind, behind_word, is_number, number_in}
@@ -25,9 +26,6 @@ drop-suc zero (w ∷ words) word more e = cc
 drop-suc (suc i) [] word more e = cc
 drop-suc (suc i) (w ∷ words) word more e = drop-suc i words word more e
 
-pub both : (a b : Bool) → a ≡ true → b ≡ true → (a && b) ≡ true
-both a b p q = cc
-
 pub second : (a b : Bool) → (a && b) ≡ true → b ≡ true
 second true b p = p
 second false b p = cc
@@ -43,10 +41,10 @@ second-fails false b p = refl
 begins-suc : (i : ℕ) (words : List (List ℕ)) (word : List ℕ) (more : List (List ℕ)) → begins_with_numbers i words ≡ true →
     drop i words ≡ word ∷ more → is_number word ≡ true → begins_with_numbers (suc i) words ≡ true
 begins-suc zero [] word more begun e good = cc
-begins-suc zero (w ∷ words) word more begun e good = both (is_number w) true (let same : w ≡ word = cc in ap is_number same ∙ good) refl
+begins-suc zero (w ∷ words) word more begun e good = and_from (is_number w) true (let same : w ≡ word = cc in ap is_number same ∙ good) refl
 begins-suc (suc i) [] word more begun e good = cc
 begins-suc (suc i) (w ∷ words) word more begun e good =
-    both (is_number w) (begins_with_numbers (suc i) words) (first (is_number w) (begins_with_numbers i words) begun)
+    and_from (is_number w) (begins_with_numbers (suc i) words) (first (is_number w) (begins_with_numbers i words) begun)
     (begins-suc i words word more (second (is_number w) (begins_with_numbers i words) begun) e good)
 
 -- one word more is taken off the line
@@ -99,7 +97,7 @@ all-next i words word more e = ap (list_all is_fitting) (take-next i words word 
 pub fit-some : (i : ℕ) (words : List (List ℕ)) (word : List ℕ) (more : List (List ℕ)) (v : ℤ) (fit : Bool) → drop i words ≡ word ∷ more →
     fitting (number_in word) ≡ Some v → fit ≡ list_all is_fitting (take i words) → fit ≡ list_all is_fitting (take (i + 1) words)
 fit-some i words word more v fit e here known =
-    let one : (is_fitting word && true) ≡ true = both (is_fitting word) true (some_fits (is_fitting word) (number_in word) v here).0 refl in
+    let one : (is_fitting word && true) ≡ true = and_from (is_fitting word) true (some_fits (is_fitting word) (number_in word) v here).0 refl in
     sym (all-next i words word more e ∙ ap (λ (b : Bool). list_all is_fitting (take i words) && b) one
     ∙ and-true (list_all is_fitting (take i words)) ∙ sym known)
 

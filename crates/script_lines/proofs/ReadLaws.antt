@@ -2,13 +2,14 @@
 use Rattle.std.proofs.Common.{◌≡◌, ◌≢◌, ◌∙◌, sym, ap, ℕ, ℤ, zero, suc, Bool, true, false, List}
 use Rattle.std.proofs.Common.{[], ◌∷◌, Result, Ok, Err, Option, Some, None, take, drop, map, replicate, refl}
 use Rattle.std.specs.Prelude.{MatchOption, IfOk, IfErr, ok_or, ◌&&◌, if◌then◌else◌}
+use Rattle.std.proofs.lemmas.Bool.{and_from}
 use Rattle.std.specs.List.{list_all}
 use Rattle.script_lines.specs.declared.faults.LineFault.{LineFault}
 use Rattle.script_lines.specs.declared.faults.LineFault.TheVariants.{BadForm, NumberRange}
 use Rattle.script_lines.specs.Arguments.{ArgumentKind, Number, Argument, Value, is_formed}
 use Rattle.script_lines.specs.Arguments.{is_in_range, argument_of, are_formed, are_in_range, arguments_of, read_words}
 use Rattle.script_lines.specs.Arguments.{is_number, number_in}
-use Rattle.script_lines.proofs.FrontLaws.{both, first, second, second-fails}
+use Rattle.script_lines.proofs.FrontLaws.{first, second, second-fails}
 use Rattle.script_lines.specs.steps.NextWords.{begins_with, begins_with_numbers, is_fitting}
 
 abbrev pub judged : Bool → Bool → List Argument → Result (List Argument) LineFault
@@ -113,7 +114,7 @@ formed-numbers zero [] begun none = refl
 formed-numbers zero (word ∷ words) begun none = cc
 formed-numbers (suc n) [] begun none = cc
 formed-numbers (suc n) (word ∷ words) begun none =
-    both (is_number word) (are_formed (replicate n Number) words) (first (is_number word) (begins_with_numbers n words) begun)
+    and_from (is_number word) (are_formed (replicate n Number) words) (first (is_number word) (begins_with_numbers n words) begun)
     (formed-numbers n words (second (is_number word) (begins_with_numbers n words) begun) none)
 
 range-numbers : (n : ℕ) (words : List (List ℕ)) → are_in_range (replicate n Number) words ≡ list_all is_fitting (take n words)

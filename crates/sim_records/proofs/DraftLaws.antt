@@ -95,13 +95,6 @@ pub adds_all : (fet : FetRec) (terminals : List TermRec) (k : ℕ) (old new : Si
 adds_all fet terminals k old new past was =
     was new (subst (λ (l : List TermRec). AddsSwitches (switches_among fet l) new new) (sym (drop_all k terminals past)) (adds_none new))
 
--- those of one more transistor
-pub adds_fet : (fets : List FetRec) (k : ℕ) (fet : FetRec) (tech : List ℕ) (mid new : SimDraft) → k < length fets → fet ≡ get_or fets k fet
-    → IsDraftOf tech (flat_map switches_of (take k fets)) mid → AddsSwitches (switches_of fet) mid new
-    → IsDraftOf tech (flat_map switches_of (take (k + 1) fets)) new
-adds_fet fets k fet tech mid new less is was more =
-    subst (λ (l : List SimFet). IsDraftOf tech l new) (add_images switches_of fets k fet less is) (more tech (flat_map switches_of (take k fets)) was)
-
 -- ---- the whole text
 
 lines_of_images : {X Y : Type 0} (f : Y → List ℕ) (g : X → Y) (xs : List X) → flat_map f (map g xs) ≡ flat_map (λ x. f (g x)) xs

@@ -15,7 +15,7 @@ ghost use Rattle.sim_records.specs.Drafts.{AddsSwitches, CountsAsFar, GoesOnBy, 
 use crate::caps::cap_of;
 use crate::limits::MOST_SWITCHES;
 use crate::switches::{length_of, letter_of, together, width_of};
-use ext_model::{Circuit, FetRec, NodeRec, TermRec};
+use ext_model::{FetRec, NodeRec, TermRec};
 use names_lists::Name;
 use sim_text::{
     LONGEST_TEXT, SimFault, SimLimit, append_alias, append_cap, append_fet, append_header,
@@ -227,35 +227,4 @@ impl SimDraft {
             switches,
         })
     }
-}
-
-// The draft with all transistors of a circuit.
-fn draft_of(alloc: Global, circuit: &Circuit) -> Result<SimDraft, AllocError>
-    requires { All HasLetterAndLengths circuit.now.fets }
-    ensures { IfOk result (IsDraftOf circuit.now.tech (flat_map switches_of circuit.now.fets)) }
-{
-    let mut draft = SimDraft::new(alloc, &circuit.tech)?;
-    for fet in circuit.fets.items() {
-        draft.add_fet(fet)?;
-    }
-    Ok(draft)
-}
-
-/// The sim text of a circuit, with no more memory than the text has. It takes time linear in the circuit and the text.
-///
-/// # Errors
-///
-/// `TooMany(Switches)` where the circuit has more than `MOST_SWITCHES`, else `TooLong` where its text is longer than `LONGEST_TEXT` bytes, or
-/// want of memory.
-pub fn sim_text_of(alloc: Global, circuit: &Circuit) -> Result<SimText, SimFault>
-    requires { All HasLetterAndLengths circuit.now.fets }
-    ensures text { IfOk result (λ text. text.bytes.items ≡ sim_text (sim_of circuit.now)) }
-    ensures switches { IfOk result (λ text. text.switches ≡ length (sim_of circuit.now).fets) }
-    ensures few { IfOk result (λ text. text.switches ≤ MOST_SWITCHES) }
-    ensures within { IfOk result (λ text. length text.bytes.items ≤ LONGEST_TEXT) }
-    ensures fault { IfErr result (λ fault. (fault ≡ SimFault.Memory) ⊎ (HasTooManySwitches fault circuit.now
-        ⊎ ((length (sim_of circuit.now).fets ≤ MOST_SWITCHES) × IsTooLong fault (sim_text (sim_of circuit.now))))) }
-{
-    let draft = draft_of(alloc, circuit)?;
-    draft.finish(circuit.nodes.items())
 }

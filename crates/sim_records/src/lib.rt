@@ -9,7 +9,7 @@ mod limits;
 mod records;
 mod switches;
 
-pub use drafts::{SimDraft, SimText, sim_text_of};
+pub use drafts::{SimDraft, SimText};
 pub use laws::sim_records_are_read_back;
 pub use limits::MOST_SWITCHES;
 pub use records::sim_of;

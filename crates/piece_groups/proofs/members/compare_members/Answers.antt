@@ -3,7 +3,7 @@ use Rattle.std.specs.Cmp.Lexicographic.{slice_cmp}
 use Rattle.std.specs.Ordering.{ordering_then}
 use Rattle.ext_model.specs.NameOrder.{kind_rank}
 use Rattle.piece_groups.specs.steps.Members.{member_cmp}
-use Rattle.piece_groups.proofs.MemberLaws.{then_assoc}
+use Rattle.ext_model.proofs.PartOrders.{ordering_then-assoc}
 use Rattle.piece_groups.proofs.members.compare_members.Goals as goal
 
 pub returns : goal.returns
@@ -23,4 +23,4 @@ returns c =
     let last : c.then_with.result ≡ ordering_then c.then-2.result bytes = search rules in
     let told : c.then_with.result ≡ ordering_then (ordering_then (ordering_then kinds slashes) lengths) bytes =
     last ∙ (λ i. ordering_then ((second ∙ (λ j. ordering_then ((first ∙ (λ k. ordering_then (by_kind k) (by_slashes k))) j) (by_lengths j))) i) bytes) in
-    told ∙ then_assoc (ordering_then kinds slashes) lengths bytes ∙ then_assoc kinds slashes (ordering_then lengths bytes)
+    told ∙ ordering_then-assoc (ordering_then kinds slashes) lengths bytes ∙ ordering_then-assoc kinds slashes (ordering_then lengths bytes)
