@@ -13,7 +13,7 @@ use Rattle.sim_records.specs.declared.limits.TheConstants.{MOST_SWITCHES}
 use Rattle.sim_records.specs.SimRecords.{HasTooManySwitches, sim_of}
 use Rattle.circuit_commands.specs.declared.circuits.Written.{Written}
 use Rattle.circuit_commands.specs.declared.circuits.Written.TheVariants.{Stored, Passed}
-use Rattle.circuit_commands.specs.steps.Given.{limit_passed}
+use Rattle.circuit_commands.specs.steps.FaultLimits.{fault_limit}
 use Rattle.circuit_commands.specs.Circuits.{IsSimWritten, bare_lines, counts_text}
 
 -- the line that tells of a sim file
@@ -41,9 +41,9 @@ sim_written name circuit nodes switches bare bytes written is text count few wit
 pub not_written : (name : List ℕ) (circuit : Circuit) (fault : SimFault) → (fault ≡ Memory → ⊥)
     → (fault ≡ Memory) ⊎ (HasTooManySwitches fault circuit
     ⊎ ((length (sim_of circuit).fets ≤ MOST_SWITCHES) × IsTooLong fault (sim_text (sim_of circuit))))
-    → IsSimWritten name circuit (Passed (limit_passed fault))
+    → IsSimWritten name circuit (Passed (fault_limit fault))
 not_written name circuit fault some (inl memory) = absurd (some memory)
 not_written name circuit fault some (inr (inl many)) =
-    subst (λ (f : SimFault). IsSimWritten name circuit (Passed (limit_passed f))) (sym many.0) (inl (refl, many.1))
+    subst (λ (f : SimFault). IsSimWritten name circuit (Passed (fault_limit f))) (sym many.0) (inl (refl, many.1))
 not_written name circuit fault some (inr (inr long)) =
-    subst (λ (f : SimFault). IsSimWritten name circuit (Passed (limit_passed f))) (sym long.1.0) (inr (refl, long.0, long.1.1))
+    subst (λ (f : SimFault). IsSimWritten name circuit (Passed (fault_limit f))) (sym long.1.0) (inr (refl, long.0, long.1.1))

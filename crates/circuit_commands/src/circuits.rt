@@ -1,8 +1,7 @@
 //! The files of circuits, and what is told of them.
-ghost use Rattle.std.specs.Prelude.{◌≡◌, ◌++◌, ◌∷◌, [], All, IfOk, IsOkUnless, OnOk, codes};
-ghost use Rattle.sim_records.specs.SimRecords.{HasLetterAndLengths};
+ghost use Rattle.std.specs.Prelude.{◌≡◌, ◌++◌, ◌∷◌, [], IfOk, IsOkUnless, OnOk, codes};
 ghost use Rattle.line_answers.specs.LineEffects.{reply};
-ghost use Rattle.circuit_commands.specs.Circuits.{IsFlatWritten, IsSimWritten, IsWritten, bare_line, bare_lines, bare_of};
+ghost use Rattle.circuit_commands.specs.Circuits.{IsFlatWritten, bare_line, bare_of};
 ghost use Rattle.circuit_commands.specs.Circuits.{counts_text, flat_reply, lines_of, stores_of};
 
 use crate::limits::{Limit, limit_word};
@@ -13,8 +12,7 @@ use line_answers::{
 };
 use names_lists::{List, Name};
 use session_model::{Answer, Halt, ReportLine, Store};
-use sim_records::{SimText, sim_text_of};
-use sim_text::SimFault;
+use sim_records::SimText;
 use std::alloc::{AllocError, Global};
 
 /// The files that a circuit is written into.
@@ -33,25 +31,8 @@ pub enum Written {
     Passed(Limit),
 }
 
-/// Writes the circuit of the cell of this name into a file of this kind.
-pub fn write_circuit(
-    alloc: Global,
-    file: CircuitFile,
-    name: &Name,
-    circuit: &Circuit,
-) -> Result<Written, Halt>
-    requires { All HasLetterAndLengths circuit.now.fets }
-    ensures written { IfOk result (IsWritten file name.now circuit.now) }
-    ensures memory { IsOkUnless result Halt.Memory }
-{
-    match file {
-        CircuitFile::Flat => write_flat_file(alloc, name, circuit),
-        CircuitFile::Sim => write_sim_file(alloc, name, circuit),
-    }
-}
-
-// Writes the flat file of a circuit.
-fn write_flat_file(alloc: Global, name: &Name, circuit: &Circuit) -> Result<Written, Halt>
+/// Writes the flat file of the circuit of the cell of this name.
+pub fn write_flat_file(alloc: Global, name: &Name, circuit: &Circuit) -> Result<Written, Halt>
     ensures written { IfOk result (IsFlatWritten name.now circuit.now) }
     ensures memory { IsOkUnless result Halt.Memory }
 {
@@ -64,23 +45,6 @@ fn write_flat_file(alloc: Global, name: &Name, circuit: &Circuit) -> Result<Writ
             flat_lines(alloc, name, circuit)?,
         ),
         Err(ExtFault::Memory) => Err(Halt::Memory),
-        Err(_) => Ok(Written::Passed(Limit::Text)),
-    }
-}
-
-/// Writes the sim file of a circuit.
-pub fn write_sim_file(alloc: Global, name: &Name, circuit: &Circuit) -> Result<Written, Halt>
-    requires { All HasLetterAndLengths circuit.now.fets }
-    ensures written { IfOk result (IsSimWritten name.now circuit.now) }
-    ensures memory { IsOkUnless result Halt.Memory }
-{
-    match sim_text_of(alloc, circuit) {
-        Ok(text) => {
-            let bare = bare_lines(alloc, circuit.fets.items())?;
-            store_sim(alloc, name, circuit.nodes.items().len(), bare, text)
-        }
-        Err(SimFault::Memory) => Err(Halt::Memory),
-        Err(SimFault::TooMany(_)) => Ok(Written::Passed(Limit::Switches)),
         Err(_) => Ok(Written::Passed(Limit::Text)),
     }
 }
@@ -165,17 +129,6 @@ fn counts(
     append_count(&mut text, b": ", nodes, b" nodes")?;
     append_count(&mut text, b" ", others, what)?;
     Ok(text)
-}
-
-// A line for each transistor without terminals.
-fn bare_lines(alloc: Global, fets: &[FetRec]) -> Result<Vec<ReportLine>, AllocError>
-    ensures { IfOk result (λ lines. lines.items ≡ bare_lines fets.now) }
-{
-    let mut lines = Vec::new(alloc);
-    for fet in fets {
-        add_bare(alloc, &mut lines, fet)?;
-    }
-    Ok(lines)
 }
 
 /// Adds the line of a transistor, where it has no terminals.

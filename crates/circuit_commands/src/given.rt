@@ -3,7 +3,8 @@ ghost use Rattle.std.specs.Prelude.{◌≡◌, ◌≢◌, List, IfOk, IsOkUnless
 ghost use Rattle.ext_model.specs.declared.records.FetRec.{FetRec as FlatFet};
 ghost use Rattle.flatten.specs.Sinks.{with_fets};
 ghost use Rattle.circuit_commands.specs.Circuits.{IsSimWritten};
-ghost use Rattle.circuit_commands.specs.steps.Given.{HasSimFets, limit_passed};
+ghost use Rattle.circuit_commands.specs.GivenFets.{HasSimFets};
+ghost use Rattle.circuit_commands.specs.steps.FaultLimits.{fault_limit};
 
 use crate::circuits::{Written, add_bare, store_sim};
 use crate::limits::Limit;
@@ -25,7 +26,7 @@ pub struct SimFets {
 
 impl FetSink for SimFets {
     ghost use Rattle.sim_records.specs.SimRecords.{HasLetterAndLengths};
-    ghost use Rattle.circuit_commands.specs.steps.Given.{HasSimFets};
+    ghost use Rattle.circuit_commands.specs.GivenFets.{HasSimFets};
 
     ghost fits = { HasLetterAndLengths };
 
@@ -46,8 +47,8 @@ impl FetSink for SimFets {
 }
 
 // The limit that a circuit passes, of which no sim text was made.
-fn limit_passed(fault: SimFault) -> Result<Limit, Halt>
-    ensures limit { IfOk result (λ limit. limit ≡ limit_passed fault) }
+fn fault_limit(fault: SimFault) -> Result<Limit, Halt>
+    ensures limit { IfOk result (λ limit. limit ≡ fault_limit fault) }
     ensures passed { IfOk result (λ limit. fault ≢ SimFault.Memory) }
     ensures memory { IsOkUnless result Halt.Memory }
 {
@@ -63,7 +64,7 @@ fn limit_passed(fault: SimFault) -> Result<Limit, Halt>
     }
 }
 
-/// Writes the sim file of a circuit whose transistors were given.
+/// Writes the sim file of the circuit of the cell of this name, whose transistors were given.
 pub fn write_given(
     alloc: Global,
     name: &Name,
@@ -85,6 +86,6 @@ pub fn write_given(
     } = circuit;
     match draft.finish(nodes.items()) {
         Ok(text) => store_sim(alloc, name, nodes.items().len(), bare, text),
-        Err(fault) => Ok(Written::Passed(limit_passed(fault)?)),
+        Err(fault) => Ok(Written::Passed(fault_limit(fault)?)),
     }
 }

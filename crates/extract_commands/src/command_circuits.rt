@@ -10,7 +10,10 @@ ghost use Rattle.extract_commands.specs.CommandCircuits.{CircuitMeans, IsWritten
 ghost use Rattle.workspace.specs.Extracting.{IsFreshBelow};
 ghost use Rattle.workspace.specs.Extractions.{RefusesUnclean};
 
-use circuit_commands::{CircuitFile, Limit, Written, write_circuit, written_alone};
+use circuit_commands::{
+    CircuitFile, Limit, Written, flat_transistor_has_letter_and_lengths, write_flat_file,
+    write_given, written_alone,
+};
 use ext_model::CellKey;
 use line_answers::{joined, refuse_no_cell, refuse_no_tech, told};
 use names_lists::Name;
@@ -18,6 +21,7 @@ use session_model::{Answer, Halt};
 use std::alloc::Global;
 use workspace::{
     Edited, Extracting, Extraction, Flattened, LayoutSession, extract_cell, flatten_kept,
+    flatten_kept_into,
 };
 
 /// `flat c` or `sim c`, by the file that is stored, the script's line of this number.
@@ -102,8 +106,49 @@ fn write_kept(
     ensures same { edited.new ≡ edited.old }
     ensures memory { IsOkUnless result Halt.Memory }
 {
+    match file {
+        CircuitFile::Flat => write_flat_kept(alloc, edited, cell, name),
+        CircuitFile::Sim => write_sim_kept(alloc, edited, cell, name),
+    }
+}
+
+// Writes its flat file.
+fn write_flat_kept(
+    alloc: Global,
+    edited: &mut Edited,
+    cell: CellKey,
+    name: &Name,
+) -> Result<Written, Halt>
+    requires agrees { Agrees edited.old.library edited.old.cache }
+    requires cell { cell.0 < length edited.old.library.contents }
+    requires fresh { IsFreshBelow edited.old.library edited.old.cache cell.0 }
+    ensures written { IfOk result (IsWrittenAt CircuitFile.Flat (seen edited.old.library) cell.0 name.now) }
+    ensures same { edited.new ≡ edited.old }
+    ensures memory { IsOkUnless result Halt.Memory }
+{
     match flatten_kept(alloc, edited, cell)? {
-        Flattened::Circuit(circuit) => write_circuit(alloc, file, name, &circuit),
+        Flattened::Circuit(circuit) => write_flat_file(alloc, name, &circuit),
+        Flattened::Passed(limit) => Ok(Written::Passed(Limit::Circuit(limit))),
+    }
+}
+
+// Writes its sim file. Its transistors are written as they are found, so that they are not all there at once.
+fn write_sim_kept(
+    alloc: Global,
+    edited: &mut Edited,
+    cell: CellKey,
+    name: &Name,
+) -> Result<Written, Halt>
+    requires agrees { Agrees edited.old.library edited.old.cache }
+    requires cell { cell.0 < length edited.old.library.contents }
+    requires fresh { IsFreshBelow edited.old.library edited.old.cache cell.0 }
+    ensures written { IfOk result (IsWrittenAt CircuitFile.Sim (seen edited.old.library) cell.0 name.now) }
+    ensures same { edited.new ≡ edited.old }
+    ensures memory { IsOkUnless result Halt.Memory }
+{
+    flat_transistor_has_letter_and_lengths();
+    match flatten_kept_into(alloc, edited, cell)? {
+        Flattened::Circuit(circuit) => write_given(alloc, name, circuit),
         Flattened::Passed(limit) => Ok(Written::Passed(Limit::Circuit(limit))),
     }
 }

@@ -2,10 +2,13 @@
 use Rattle.std.specs.Prelude.{ℕ, List, All}
 use Rattle.ext_model.specs.declared.circuits.Circuit.{Circuit}
 use Rattle.ext_model.specs.declared.records.CellExt.{CellExt}
+use Rattle.ext_model.specs.declared.records.FetRec.{FetRec}
 use Rattle.sim_records.specs.SimRecords.{HasLetterAndLengths}
 use Rattle.circuit_model.specs.declared.faults.FlatFault.TheVariants.{TooMany as FlatTooMany}
 use Rattle.circuit_model.specs.declared.limits.CircuitLimit.{CircuitLimit}
 use Rattle.circuit_model.specs.Refusals.{IsFlatFaultOf, IsFlatOf}
+use Rattle.flatten.specs.declared.sinks.GivenCircuit.{GivenCircuit}
+use Rattle.flatten.specs.Sinks.{IsGiven}
 use Rattle.cell_library.specs.Views.{LibraryView, view_at}
 use Rattle.network_laws.specs.TreeRecords.TreeCircuits.{IsFlatCircuit}
 use Rattle.network_laws.specs.TreeRecords.TreeRecords.{HasTreeRecords}
@@ -27,8 +30,19 @@ pub record PassesAt (library : LibraryView) (cell : ℕ) (limit : CircuitLimit) 
   pub are_records : HasTreeRecords library.tech exts (named_tree_at library cell)
   pub is_fault : IsFlatFaultOf exts (view_at library cell).name (FlatTooMany limit)
 
--- The circuit of the cell, with transistors of which sim records can be made; or the limit that it passes.
-abbrev pub IsFlattenedAt : LibraryView → ℕ → Flattened → Type 0
-IsFlattenedAt library cell (OneCircuit circuit) =
-    IsCircuitAt library cell circuit × All HasLetterAndLengths circuit.fets × CanBeSimulated circuit
-IsFlattenedAt library cell (TooMuch limit) = PassesAt library cell limit
+-- The circuit is that of the cell, its transistors are such that sim records can be made of them, and these fit a network.
+abbrev pub IsFitCircuitAt : LibraryView → ℕ → Circuit → Type 0
+IsFitCircuitAt library cell circuit = IsCircuitAt library cell circuit × All HasLetterAndLengths circuit.fets × CanBeSimulated circuit
+
+-- a circuit of the cell of which this holds, or the limit that it passes
+abbrev pub HasOrPasses : {C : Type 0} → (C → Type 0) → LibraryView → ℕ → Flattened C → Type 0
+HasOrPasses holds library cell (OneCircuit circuit) = holds circuit
+HasOrPasses holds library cell (TooMuch limit) = PassesAt library cell limit
+
+-- the circuit of the cell, or the limit that it passes
+abbrev pub IsFlattenedAt : LibraryView → ℕ → Flattened Circuit → Type 0
+IsFlattenedAt library cell flattened = HasOrPasses (IsFitCircuitAt library cell) library cell flattened
+
+-- the same where the transistors of the circuit are those that a sink was given
+abbrev pub IsGivenAt : {S : Type 0} → (S → List ℕ → List FetRec → Type 0) → LibraryView → ℕ → Flattened (GivenCircuit S) → Type 0
+IsGivenAt has library cell flattened = HasOrPasses (IsGiven has (IsFitCircuitAt library cell)) library cell flattened

@@ -2,6 +2,8 @@
 pub use Rattle.ext_cache.specs.Caches
 -- the lines that tell which squares offend
 pub use Rattle.square_lines.specs.Offending
+-- what the transistors of a circuit are given to
+pub use Rattle.flatten.specs.Sinks
 pub mod CellCircuits
 pub mod Extracting
 pub mod Extractions

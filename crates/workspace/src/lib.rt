@@ -15,7 +15,7 @@ mod cells;
 mod extractions;
 mod laws;
 
-pub use cell_circuits::{Flattened, flatten_kept};
+pub use cell_circuits::{Flattened, flatten_kept, flatten_kept_into};
 pub use cells::{Edited, LayoutSession, new_session};
 pub use ext_cache::Cache;
 pub use extractions::{Extracting, Extraction, extract_cell};

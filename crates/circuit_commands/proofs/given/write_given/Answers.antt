@@ -19,6 +19,6 @@ returns-in-Ok-clause-written c =
 pub returns-clause-written : goal.returns-clause-written
 returns-clause-written c fets has =
     let circuit = with_fets c.args.circuit fets in
-    subst (λ (limit : Limit). IsSimWritten c.args.name.now circuit (Passed limit)) (sym c.in_ok-limit_passed-in-Err.ensures.limit)
-    (not_written c.args.name.now circuit c.in-Err.fault c.in_ok-limit_passed-in-Err.ensures.passed
+    subst (λ (limit : Limit). IsSimWritten c.args.name.now circuit (Passed limit)) (sym c.in_ok-fault_limit-in-Err.ensures.limit)
+    (not_written c.args.name.now circuit c.in-Err.fault c.in_ok-fault_limit-in-Err.ensures.passed
     (c.in-Err.ensures.fault circuit (sym c.items.ensures) has.draft))

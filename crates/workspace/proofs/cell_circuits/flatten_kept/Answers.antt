@@ -1,92 +1,15 @@
-use Rattle.std.proofs.Common.{◌≡◌, ◌<◌, List, length, ap, sym, subst}
-use Rattle.std.specs.Prelude.{All, IfOk, IsSome}
-use Rattle.finite_sets.specs.Lists.{Distinct}
-use Rattle.ext_model.specs.declared.arrays.ArrayExt.{ArrayExt}
-use Rattle.ext_model.specs.declared.tables.CellKey.{CellKey}
-use Rattle.ext_loading.specs.PlainRecords.Plains.{AreArrayRecords, plains}
-use Rattle.cell_library.specs.Libraries.{LibraryParts, seen}
-use Rattle.ext_cache.specs.Caches.{Agrees, Records, record_in}
-use Rattle.library_trees.specs.NamedCells.{named_tree_at}
-use Rattle.network_laws.specs.TreeRecords.TreeRecords.{HasTreeRecords}
-use Rattle.workspace.specs.declared.cells.Edited.{Edited}
-use Rattle.workspace.specs.CellCircuits.{IsFlattenedAt}
-use Rattle.workspace.specs.Extracting.{IsFreshBelow}
-use Rattle.square_lines.proofs.HierMerge.CleanOrders.{numbers}
-use Rattle.workspace.proofs.KeptLaws.{are_records, order_kept, order_once, root_clean, tree_records}
+use Rattle.std.proofs.Common.{◌≡◌, ◌∙◌, sym, ap, subst, rules}
+use Rattle.flatten.specs.Sinks.{IsGiven, with_fets}
+use Rattle.cell_library.specs.Libraries.{seen}
+use Rattle.workspace.specs.CellCircuits.{IsFitCircuitAt}
 use Rattle.workspace.proofs.cell_circuits.flatten_kept.Goals as goal
 
-pub lend-requires-clause-kept : goal.lend-requires-clause-kept
-lend-requires-clause-kept c =
-    let library = c.reader-library.result in
-    let cache = c.args.edited.now.cache in
-    let back = sym c.reader-library.ensures in
-    let agrees = subst (λ (l : LibraryParts). Agrees l cache) back c.requires.agrees in
-    let there = subst (λ (l : LibraryParts). c.args.cell.0 < length l.contents) back c.requires.cell in
-    let fresh = subst (λ (l : LibraryParts). IsFreshBelow l cache c.args.cell.0) back c.requires.fresh in
-    subst (λ (order : List CellKey). All (λ (cell : CellKey). IsSome (record_in cache cell.0)) order) (sym c.as_slice.ensures.value)
-    (order_kept library c.lawful.ensures cache agrees c.args.cell.0 there fresh c.in_ok-order.order.items c.in_ok-order.ensures)
+pub flatten_kept_into-requires-clause-fit : goal.flatten_kept_into-requires-clause-fit
+flatten_kept_into-requires-clause-fit c nodes element fet flat lawful is = tt
 
-pub lend-requires-clause-once : goal.lend-requires-clause-once
-lend-requires-clause-once c =
-    let library = c.reader-library.result in
-    subst (λ (order : List CellKey). Distinct (numbers order)) (sym c.as_slice.ensures.value)
-    (order_once library c.lawful.ensures c.args.edited.now.cache
-    (subst (λ (l : LibraryParts). Agrees l c.args.edited.now.cache) (sym c.reader-library.ensures) c.requires.agrees) c.args.cell.0
-    (subst (λ (l : LibraryParts). c.args.cell.0 < length l.contents) (sym c.reader-library.ensures) c.requires.cell)
-    (subst (λ (l : LibraryParts). IsFreshBelow l c.args.edited.now.cache c.args.cell.0) (sym c.reader-library.ensures) c.requires.fresh)
-    c.in_ok-order.order.items c.in_ok-order.ensures)
-
-pub flatten_records-flattened-requires-clause-cell : goal.flatten_records-flattened-requires-clause-cell
-flatten_records-flattened-requires-clause-cell c =
-    subst (λ (l : LibraryParts). c.args.cell.0 < length l.contents) (sym c.reader-library.ensures) c.requires.cell
-
-pub flatten_records-flattened-requires-clause-clean : goal.flatten_records-flattened-requires-clause-clean
-flatten_records-flattened-requires-clause-clean c =
-    let library = c.reader-library.result in
-    let cache = c.args.edited.now.cache in
-    let back = sym c.reader-library.ensures in
-    let agrees = subst (λ (l : LibraryParts). Agrees l cache) back c.requires.agrees in
-    let there = subst (λ (l : LibraryParts). c.args.cell.0 < length l.contents) back c.requires.cell in
-    let fresh = subst (λ (l : LibraryParts). IsFreshBelow l cache c.args.cell.0) back c.requires.fresh in
-    root_clean library c.lawful.ensures cache agrees c.args.cell.0 there fresh
-
-pub flatten_records-flattened-requires-clause-records : goal.flatten_records-flattened-requires-clause-records
-flatten_records-flattened-requires-clause-records c =
-    let library = c.reader-library.result in
-    let cache = c.args.edited.now.cache in
-    let back = sym c.reader-library.ensures in
-    let agrees = subst (λ (l : LibraryParts). Agrees l cache) back c.requires.agrees in
-    let there = subst (λ (l : LibraryParts). c.args.cell.0 < length l.contents) back c.requires.cell in
-    let fresh = subst (λ (l : LibraryParts). IsFreshBelow l cache c.args.cell.0) back c.requires.fresh in
-    let copied = rw c.as_slice.ensures.value at c.in_ok-lent.ensures.records in
-    subst (λ (exts : List ArrayExt). AreArrayRecords exts) (sym c.as_slice-2.ensures.value)
-    (are_records library c.lawful.ensures cache agrees c.args.cell.0 there fresh c.in_ok-order.order.items c.in_ok-order.ensures
-    c.in_ok-lent.lent.exts.items copied)
-
-pub flatten_records-flattened-requires-clause-tree : goal.flatten_records-flattened-requires-clause-tree
-flatten_records-flattened-requires-clause-tree c =
-    let library = c.reader-library.result in
-    let cache = c.args.edited.now.cache in
-    let back = sym c.reader-library.ensures in
-    let agrees = subst (λ (l : LibraryParts). Agrees l cache) back c.requires.agrees in
-    let there = subst (λ (l : LibraryParts). c.args.cell.0 < length l.contents) back c.requires.cell in
-    let fresh = subst (λ (l : LibraryParts). IsFreshBelow l cache c.args.cell.0) back c.requires.fresh in
-    let copied = rw c.as_slice.ensures.value at c.in_ok-lent.ensures.records in
-    subst (λ (exts : List ArrayExt). HasTreeRecords library.tech (plains exts) (named_tree_at (seen library) c.args.cell.0)) (sym c.as_slice-2.ensures.value)
-    (tree_records library c.lawful.ensures cache agrees c.args.cell.0 there fresh c.in_ok-order.order.items c.in_ok-order.ensures
-    c.in_ok-lent.lent.exts.items copied
-    c.listed_records_are_of_the_tree.ensures)
-
-pub returns-clause-flattened : goal.returns-clause-flattened
-returns-clause-flattened c =
-    subst (λ (l : LibraryParts). IfOk c.flatten_records-flattened.result (IsFlattenedAt (seen l) c.args.cell.0)) c.reader-library.ensures
-    c.flatten_records-flattened.ensures.flattened
-
-pub take_back-requires : goal.take_back-requires
-take_back-requires c = (c.args.edited.now.cache, c.in_ok-lent.ensures.lent)
-
-pub returns-clause-same : goal.returns-clause-same
-returns-clause-same c =
-    let edited : Edited = c.args.edited.now in
-    let back : c.take_back.new.self ≡ edited.cache = c.take_back.ensures edited.cache c.in_ok-lent.ensures.lent in
-    ap (λ (cache : Records). record edited { cache = cache }) back
+pub returns-in-Circuit-clause-flattened : goal.returns-in-Circuit-clause-flattened
+returns-in-Circuit-clause-flattened c =
+    let library = seen c.args.edited.now.library in
+    let given = c.in-Circuit.given in
+    let is : IsGiven (λ sink tech fets. sink.fets.items ≡ fets) (IsFitCircuitAt library c.args.cell.0) given = search rules in
+    subst (IsFitCircuitAt library c.args.cell.0) (ap (with_fets given) (sym is.1.0) ∙ sym c.circuit_given.ensures) is.1.1

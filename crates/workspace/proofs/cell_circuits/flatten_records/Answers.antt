@@ -4,37 +4,45 @@ use Rattle.tech_model.specs.declared.raw.RawTech.{RawTech}
 use Rattle.circuit_model.specs.declared.faults.FlatFault.TheVariants.{TooMany as FlatTooMany}
 use Rattle.circuit_model.specs.Elements.{ext_of}
 use Rattle.circuit_model.specs.Refusals.{IsFlatFaultOf, IsFlatOf}
+use Rattle.flatten.specs.Sinks.{with_fets}
 use Rattle.ext_loading.specs.PlainRecords.Plains.{plains}
 use Rattle.ext_loading.proofs.PlainRecords.PlainLaws.{plains_are_records}
 use Rattle.cell_library.specs.Libraries.{seen}
 use Rattle.cell_library.specs.Views.{view_at}
 use Rattle.network_laws.specs.NetworkLaws.{FlatCircuitsHaveLetters}
-use Rattle.workspace.proofs.CellCircuitLaws.{flattened_is, no_other_fault, passes_limit, root_found}
+use Rattle.workspace.proofs.CellCircuitLaws.{fit_circuit_is, no_other_fault, passes_limit, root_found}
 use Rattle.workspace.proofs.cell_circuits.flatten_records.Goals as goal
 
-pub flatten-requires-clause-root : goal.flatten-requires-clause-root
-flatten-requires-clause-root c =
+pub flatten_into-requires-clause-root : goal.flatten_into-requires-clause-root
+flatten_into-requires-clause-root g c =
     let exts = plains c.args.exts.now in
     let found = root_found c.args.library.now c.lawful.ensures c.args.cell.0 c.requires.cell c.requires.clean exts
     (plains_are_records c.args.exts.now c.requires.records) c.requires.tree in
     subst (λ (name : List ℕ). IsSome (ext_of exts name)) (sym c.name_of.ensures) found
 
-pub returns-in-Ok-clause-flattened : goal.returns-in-Ok-clause-flattened
-returns-in-Ok-clause-flattened c =
+pub returns-in-Ok-clause-given : goal.returns-in-Ok-clause-given
+returns-in-Ok-clause-given g c =
     let library = c.args.library.now in
     let exts = plains c.args.exts.now in
-    let flat : IsFlatOf exts (view_at (seen library) c.args.cell.0).name c.in-Ok.circuit =
-    subst (λ (name : List ℕ). IsFlatOf exts name c.in-Ok.circuit) c.name_of.ensures c.in-Ok.ensures.meaning in
+    let given = c.in-Ok.ensures.meaning in
+    let circuit = with_fets c.in-Ok.circuit given.0 in
+    let flat : IsFlatOf exts (view_at (seen library) c.args.cell.0).name circuit =
+    subst (λ (name : List ℕ). IsFlatOf exts name circuit) c.name_of.ensures given.1.1 in
     let letters : FlatCircuitsHaveLetters library.tech =
-    subst (λ (raw : RawTech). FlatCircuitsHaveLetters raw) c.tech.ensures c.flat_circuits_have_letters.ensures in
-    flattened_is library c.lawful.ensures c.args.cell.0 c.requires.cell c.requires.clean exts (plains_are_records c.args.exts.now c.requires.records)
-    c.requires.tree
-    c.records_stand_for_the_flat_layout.ensures c.clean_cell_has_clean_tree.ensures c.chains_are_short.ensures
-    c.flat_transistors_have_letter_and_lengths.ensures c.flat_networks_fit.ensures
-    c.flat_networks_have_the_nodes.ensures letters c.in-Ok.circuit flat
+    subst (λ (raw : RawTech). FlatCircuitsHaveLetters raw) c.tech.ensures c.flat_circuits_have_letters.ensures in (
+      given.0,
+      (
+        given.1.0,
+        fit_circuit_is library c.lawful.ensures c.args.cell.0 c.requires.cell c.requires.clean exts
+            (plains_are_records c.args.exts.now c.requires.records) c.requires.tree
+            c.records_stand_for_the_flat_layout.ensures c.clean_cell_has_clean_tree.ensures c.chains_are_short.ensures
+            c.flat_transistors_have_letter_and_lengths.ensures c.flat_networks_fit.ensures
+            c.flat_networks_have_the_nodes.ensures letters circuit flat,
+      ),
+    )
 
-pub returns-in-Err-TooMany-clause-flattened : goal.returns-in-Err-TooMany-clause-flattened
-returns-in-Err-TooMany-clause-flattened c =
+pub returns-in-Err-TooMany-clause-given : goal.returns-in-Err-TooMany-clause-given
+returns-in-Err-TooMany-clause-given g c =
     let library = c.args.library.now in
     let exts = plains c.args.exts.now in
     let told : IsFlatFaultOf exts c.name_of.result.now (FlatTooMany c.in-Err-TooMany.limit) = search rules in
@@ -43,7 +51,7 @@ returns-in-Err-TooMany-clause-flattened c =
     c.requires.tree c.in-Err-TooMany.limit fault
 
 pub unreachable-requires : goal.unreachable-requires
-unreachable-requires c =
+unreachable-requires g c =
     let library = c.args.library.now in
     let exts = plains c.args.exts.now in
     let told : IsFlatFaultOf exts c.name_of.result.now c.in-Err.field-0 = search rules in
