@@ -55,12 +55,7 @@ fn fault_limit(fault: SimFault) -> Result<Limit, Halt>
     match fault {
         SimFault::Memory => Err(Halt::Memory),
         SimFault::TooMany(_) => Ok(Limit::Switches),
-        SimFault::Header => Ok(Limit::Text),
-        SimFault::BadLine => Ok(Limit::Text),
-        SimFault::Letter => Ok(Limit::Text),
-        SimFault::Range => Ok(Limit::Text),
-        SimFault::Name => Ok(Limit::Text),
-        SimFault::TooLong => Ok(Limit::Text),
+        _ => Ok(Limit::Text),
     }
 }
 

@@ -1,4 +1,4 @@
-//! Commands that write circuits: `ext2sim`, and what `flat` and `sim` do once there is a circuit.
+//! `ext2sim`, and the files of circuits that it, `flat` and `sim` write.
 #![tactic(auto)]
 
 mod circuits;
@@ -7,7 +7,6 @@ mod given;
 mod limits;
 mod refusals;
 
-pub use circuit_laws::flat_transistor_has_letter_and_lengths;
 pub use circuits::{CircuitFile, Written, write_flat_file, written_alone};
 pub use command_ext2sim::ext2sim;
 pub use given::{SimFets, write_given};

@@ -10,10 +10,8 @@ ghost use Rattle.extract_commands.specs.CommandCircuits.{CircuitMeans, IsWritten
 ghost use Rattle.workspace.specs.Extracting.{IsFreshBelow};
 ghost use Rattle.workspace.specs.Extractions.{RefusesUnclean};
 
-use circuit_commands::{
-    CircuitFile, Limit, Written, flat_transistor_has_letter_and_lengths, write_flat_file,
-    write_given, written_alone,
-};
+use circuit_commands::{CircuitFile, Limit, Written, write_flat_file, write_given, written_alone};
+use circuit_laws::flat_transistor_has_letter_and_lengths;
 use ext_model::CellKey;
 use line_answers::{joined, refuse_no_cell, refuse_no_tech, told};
 use names_lists::Name;

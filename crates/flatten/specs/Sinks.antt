@@ -23,6 +23,6 @@ GivesFets has nodes more old new =
 abbrev pub with_fets : {S : Type 0} → GivenCircuit S → List FetRec → Circuit
 with_fets given fets = record { tech = given.tech; classes = given.classes; nodes = given.nodes; fets = fets }
 
--- with the transistors that the sink was given the circuit has this meaning
+-- with some transistors of which the sink says that it was given them the circuit has this meaning
 abbrev pub IsGiven : {S : Type 0} → (S → List ℕ → List FetRec → Type 0) → (Circuit → Type 0) → GivenCircuit S → Type 0
 IsGiven has meaning given = (fets : List FetRec) × (has given.sink given.tech fets × meaning (with_fets given fets))

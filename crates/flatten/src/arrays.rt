@@ -4,7 +4,7 @@ ghost use Rattle.circuit_model.specs.Elements.{AreRecords, ext_of};
 ghost use Rattle.circuit_model.specs.Refusals.{IsFlatOf, IsFlatFaultOf, flat_fault};
 ghost use Rattle.plain_records.specs.Plains.{plains, AreArrayRecords};
 ghost use Rattle.plain_records.specs.Thin.{thins};
-ghost use Rattle.plain_records.specs.Reached.{AreReached, HasNoReachFault, AreCalled, AreExpanded, IsExpandedAt};
+ghost use Rattle.plain_records.specs.Reached.{AreReached, HasNoReachFault, AreCalled, IsExpandedAt};
 ghost use Rattle.flatten.specs.Sinks.{AllFit, IsGiven, with_fets};
 ghost use Rattle.flatten.specs.steps.Stages.{IsFaultAt};
 
@@ -80,7 +80,14 @@ fn plain_records(
     Ok(expanded(alloc, exts, order.items(), records, true)?)
 }
 
-/// The flat circuit of the tree of records whose root is this cell's, as `flatten` makes it, with its transistors given to a sink.
+/// The flat circuit of the tree of records whose root is this cell's, with its transistors given to a sink, in order. It takes time near-linear
+/// in the uses of all records, and in the names, merges and transistors of all elements.
+///
+/// The records are lawful, no two are of one cell, and one is the root's. What they say is said of their plain forms, in which each element
+/// is a use and each merge a record of its own. They are refused where they have a fault at or below the root: the first use, depth first,
+/// that leads to no record (`NoCell`) or back (`Cycle`); then the first number past its limit, of the longest chain, elements, records of
+/// nodes, bytes of names and records of merges (`TooMany`); then the first cell, in the order of elements, whose number of classes is not the
+/// root's (`Classes`); then the first path, by element and merge, that leads to no node (`NoPath`). Beside that `Memory` alone refuses.
 pub fn flatten_into<S: FetSink>(
     alloc: Global,
     exts: &[ArrayExt],
@@ -114,21 +121,4 @@ pub fn circuit_given(given: GivenCircuit<AllFets>) -> Circuit
         nodes,
         fets: List::of(fets),
     }
-}
-
-/// The flat circuit of the tree of records whose root is this cell's. It takes time near-linear in the uses of all records, and in the
-/// names, merges and transistors of all elements.
-///
-/// The records are lawful, no two are of one cell, and one is the root's. What they say is said of their plain forms, in which each element
-/// is a use and each merge a record of its own. They are refused where they have a fault at or below the root: the first use, depth first,
-/// that leads to no record (`NoCell`) or back (`Cycle`); then the first number past its limit, of the longest chain, elements, records of
-/// nodes, bytes of names and records of merges (`TooMany`); then the first cell, in the order of elements, whose number of classes is not the
-/// root's (`Classes`); then the first path, by element and merge, that leads to no node (`NoPath`). Beside that `Memory` alone refuses.
-pub fn flatten(alloc: Global, exts: &[ArrayExt], root: &Name) -> Result<Circuit, FlatFault>
-    requires records { AreArrayRecords exts.now }
-    requires root { IsSome (ext_of (plains exts.now) root.now) }
-    ensures meaning { IfOk result (λ circuit. IsFlatOf (plains exts.now) root.now circuit) }
-    ensures fault { IfErr result (λ fault. (fault ≡ FlatFault.Memory) ⊎ IsFlatFaultOf (plains exts.now) root.now fault) }
-{
-    Ok(circuit_given(flatten_into(alloc, exts, root)?))
 }

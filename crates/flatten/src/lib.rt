@@ -62,5 +62,5 @@ mod sinks;
 mod spots;
 mod sums;
 
-pub use arrays::{circuit_given, flatten, flatten_into};
+pub use arrays::{circuit_given, flatten_into};
 pub use sinks::{AllFets, FetSink, GivenCircuit};

@@ -11,7 +11,7 @@ pub trait FetSink: Drop {
     /// What is asked of a transistor that is given.
     ghost fits: { FlatFet → Type 0 };
 
-    /// It was given these transistors, in this order, for a circuit in the technology of that name.
+    /// What it says of these transistors, given in this order, of a circuit in the technology of that name.
     ghost has: { Self → List ℕ → List FlatFet → Type 0 };
 
     /// One that was given none yet.

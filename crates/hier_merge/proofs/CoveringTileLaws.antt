@@ -1,5 +1,5 @@
 -- The tiles that cover the pieces at which the parts of a cell meet.
-use Rattle.std.proofs.Common.{◌≡◌, ◌≢◌, ◌⊎◌, ◌<◌, ◌+◌, ℕ, suc, List, [], ◌∷◌, length, map, inl, inr, refl, sym, ap, subst, ◌∙◌, arith}
+use Rattle.std.proofs.Common.{◌≡◌, ◌≢◌, ◌⊎◌, ◌<◌, ℕ, suc, List, [], ◌∷◌, length, map, inl, inr, refl, sym, ap, subst, ◌∙◌, arith}
 use Rattle.std.specs.Prelude.{Some, slice_get, All}
 use Rattle.std.specs.Int.{bit_at}
 use Rattle.std.proofs.lemmas.Bool.{cases_Bool, cases_eq, false≢true}
@@ -198,6 +198,8 @@ module _ (raw : RawTech) (tree : CellTree) (formed : IsWellFormed raw) (typed : 
     covering_tiles = record {
       some = has.some;
       each = covering;
+      all = λ number tile square there on inside covers.
+          has.all number tile square (omega arith) (slice_get_within tiles number tile there) there on inside covers;
       every = λ entry listed.
           let below : entry.part < count = omega (arith, is.within entry listed, length-map-range_with_len (set_of_tiles raw tiles) 0 count) in
           let kind : kind_in piece.kinds entry.part ≡ entry.kind.0 = kind_in-listed piece.kinds is.ordered entry listed in

@@ -1,13 +1,11 @@
 -- The tiles that are found where the parts of a cell meet, and the pieces that are found of them.
-use Rattle.std.proofs.Common.{◌≡◌, ◌≤◌, ◌<◌, ◌+◌, ℕ, zero, suc, List, length, inl, inr, refl, sym, ap, ◌∙◌, arith}
+use Rattle.std.proofs.Common.{◌≡◌, ◌≤◌, ◌<◌, ℕ, List, length, inl, inr, refl, ◌∙◌, arith}
 use Rattle.std.specs.Prelude.{All, Some, slice_get}
-use Rattle.std.proofs.lemmas.List.Sorted.{IsPermutation-refl}
 use Rattle.std.proofs.lemmas.Option.{slice_get_within, slice_get-get_or}
 use Rattle.finite_sets.specs.Lists.{In}
 use Rattle.finite_sets.proofs.Searches.{All-from_In, All-In}
 use Rattle.finite_sets.proofs.Places.{In-slice_get, slice_get-below}
 use Rattle.geo_core.specs.declared.squares.Rect.{Rect}
-use Rattle.geo_core.specs.Areas.{IsNear}
 use Rattle.tech_model.specs.declared.raw.RawTech.{RawTech}
 use Rattle.tech_model.specs.Rules.{KeepsRules}
 use Rattle.tech_model.specs.WellFormed.{IsWellFormed}
@@ -44,7 +42,7 @@ module _ (raw : RawTech) (tree : CellTree) (formed : IsWellFormed raw) (rules : 
   of_parts = tiles_are_of_parts raw tree are.areas tiles are.visits are.near
 
   met : MeetAndMake raw tree tiles
-  met = meet_and_make raw tree tiles tiles are (IsPermutation-refl tiles)
+  met = meet_and_make raw tree tiles are
 
   have_types : HaveTypes raw (parts_of_tiles raw tiles count)
   have_types =

@@ -1,13 +1,8 @@
 -- The squares in which tiles of a cell's parts are found have all places at which the parts meet.
-use Rattle.std.proofs.Common.{◌≡◌, ℕ, Bool, List, length, inl, inr, refl, sym, ap, subst, ◌∙◌}
-use Rattle.std.specs.Prelude.{IsPermutation}
-use Rattle.std.specs.Int.{bit_at}
+use Rattle.std.proofs.Common.{Bool, List, length, inl, inr, sym, subst, ◌∙◌}
 use Rattle.std.specs.List.{list_any}
-use Rattle.std.proofs.Math.Path.{fun_ext}
 use Rattle.std.proofs.lemmas.Bool.{cases_Bool, false≢true}
-use Rattle.std.proofs.lemmas.List.Sorted.{IsPermutation-sym}
 use Rattle.finite_sets.specs.Lists.{In}
-use Rattle.finite_sets.proofs.Members.{In-permutation}
 use Rattle.finite_sets.proofs.Searches.{list_any-In, list_any-source}
 use Rattle.geo_core.specs.declared.squares.Rect.{Rect}
 use Rattle.geo_core.specs.declared.squares.Square.{Square}
@@ -15,21 +10,16 @@ use Rattle.geo_core.specs.Covering.{Covers, is_covered}
 use Rattle.geo_core.specs.Strips.{IsInUnion, IsStrips}
 use Rattle.geo_core.proofs.CoveringLaws.{Covers-is_covered, is_covered-Covers, covers_widened}
 use Rattle.tech_model.specs.declared.raw.RawTech.{RawTech}
-use Rattle.layout_model.specs.Places.{Place}
 use Rattle.layout_model.specs.CellTrees.{CellTree}
 use Rattle.layout_model.specs.FlatSets.{parts_in}
 use Rattle.interact.specs.NearBoxes.{IsShared}
 use Rattle.offences.specs.Offences.{SetLayout}
-use Rattle.offences.proofs.TileLaws.{bit_kept, union_bit}
-use Rattle.offences.proofs.UnionLaws.{same_sets}
 use Rattle.hierarchy_model.specs.Restrictions.{HoldsMeetings, IsRestriction}
 use Rattle.meeting_laws.specs.PartLayouts.{HoldsAllMeetings, Passes}
 use Rattle.cell_library.specs.declared.part_tiles.PartTile.{PartTile}
 use Rattle.cell_library.specs.ElementBoxes.{HoldParts}
-use Rattle.cell_library.specs.PartTiles.{set_from, set_of_tiles}
 use Rattle.cell_library.proofs.PartLaws.{parts_have_boxes}
 use Rattle.hier_merge.specs.steps.MeetingTiles.{AreMeetingTiles}
-use Rattle.hier_merge.proofs.NumberedParts.{numbered}
 use Rattle.hier_merge.proofs.MeetingBoxes.{both_share, has_part, meetings_held, of_strips, parts_of_tiles, visits_restrict}
 
 -- ---- the squares
@@ -89,28 +79,6 @@ module _ (boxes areas : List Rect) (are : IsStrips (IsShared boxes) areas) where
     ];
   }
 
--- ---- tiles in another order
-
-module _ (raw : RawTech) (tiles sorted : List PartTile) (moved : IsPermutation tiles sorted) (part : ℕ) (place : Place) where
-  -- what one tile of a list adds is in what all make
-  from_to : (one other : List PartTile) → ((tile : PartTile) → In tile one → In tile other) → (i : ℕ)
-      → bit_at (set_of_tiles raw one part place) i ≡ 1 → bit_at (set_of_tiles raw other part place) i ≡ 1
-  from_to one other there i bit =
-      let has = union_bit (λ ts. set_of_tiles raw ts part place) (λ tile. set_from raw part tile place) refl (λ t ts. refl) one i bit in
-      bit_kept (λ ts. set_of_tiles raw ts part place) (λ tile. set_from raw part tile place) refl (λ t ts. refl) other i has.thing
-      (there has.thing has.listed) has.bit
-
-  -- in any order they make the same
-  same_made : set_of_tiles raw tiles part place ≡ set_of_tiles raw sorted part place
-  same_made = same_sets (set_of_tiles raw tiles part place) (set_of_tiles raw sorted part place)
-      (from_to tiles sorted (λ tile. In-permutation tile tiles sorted moved))
-      (from_to sorted tiles (λ tile. In-permutation tile sorted tiles (IsPermutation-sym tiles sorted moved)))
-
-same_parts : (raw : RawTech) (tiles sorted : List PartTile) → IsPermutation tiles sorted → (count : ℕ)
-    → parts_of_tiles raw tiles count ≡ parts_of_tiles raw sorted count
-same_parts raw tiles sorted moved count =
-    ap (λ (make : ℕ → SetLayout). numbered make count) (fun_ext (λ part. fun_ext (λ place. same_made raw tiles sorted moved part place)))
-
 -- ---- both
 
 -- A cell's parts, restricted to squares that have all places at which they meet: there the tiles make them.
@@ -119,13 +87,11 @@ pub record MeetAndMake (raw : RawTech) (tree : CellTree) (tiles : List PartTile)
   pub holds : HoldsAllMeetings (Passes (lies_in areas)) (parts_in raw tree)
   pub restricted : IsRestriction (Passes (lies_in areas)) (parts_in raw tree) (parts_of_tiles raw tiles (length (parts_in raw tree)))
 
-pub meet_and_make : (raw : RawTech) (tree : CellTree) (tiles sorted : List PartTile) → AreMeetingTiles raw tree tiles → IsPermutation tiles sorted
-    → MeetAndMake raw tree sorted
-meet_and_make raw tree tiles sorted are moved = record {
+pub meet_and_make : (raw : RawTech) (tree : CellTree) (tiles : List PartTile) → AreMeetingTiles raw tree tiles → MeetAndMake raw tree tiles
+meet_and_make raw tree tiles are = record {
   areas = are.areas;
   holds = all_meetings are.boxes are.areas are.are_areas (parts_in raw tree) are.hold;
   restricted = restricted_there are.boxes are.areas are.are_areas (parts_in raw tree)
-      (parts_of_tiles raw sorted (length (parts_in raw tree)))
-      (subst (IsRestriction (IsShared are.boxes) (parts_in raw tree)) (same_parts raw tiles sorted moved (length (parts_in raw tree)))
-      (visits_restrict (IsShared are.boxes) raw tree are.areas tiles are.are_areas are.visits));
+      (parts_of_tiles raw tiles (length (parts_in raw tree)))
+      (visits_restrict (IsShared are.boxes) raw tree are.areas tiles are.are_areas are.visits);
 }

@@ -1,5 +1,5 @@
 -- Tiles of a plane by their numbers: where they stand among all tiles, and which of them cover a piece.
-use Rattle.std.proofs.Common.{◌≡◌, ◌≢◌, ◌≤◌, ◌<◌, ◌⊎◌, ◌+◌, ◌-◌, ℕ, zero, suc, Bool, cond, List, [], ◌∷◌, ◌++◌, length, map, take, drop, inl, inr, refl, sym, ap, subst, ◌∙◌, arith}
+use Rattle.std.proofs.Common.{◌≡◌, ◌≢◌, ◌≤◌, ◌<◌, ◌⊎◌, ◌+◌, ◌-◌, ℕ, zero, suc, Bool, cond, List, [], ◌∷◌, length, map, take, drop, inl, inr, refl, sym, ap, subst, ◌∙◌, arith}
 use Rattle.std.proofs.Common.{get_or, ne_eqb}
 use Rattle.std.specs.Prelude.{Some, slice_get, slice_index, All, IsPermutation}
 use Rattle.std.specs.List.Sorted.{IsSortedByKey}
@@ -10,12 +10,11 @@ use Rattle.std.proofs.lemmas.List.{length-map}
 use Rattle.std.proofs.lemmas.List.Sorted.{IsPermutation-sym}
 use Rattle.std.proofs.lemmas.Option.{slice_get_within, get_or_from_slice_get}
 use Rattle.finite_sets.specs.Lists.{In}
-use Rattle.finite_sets.proofs.Members.{In-append_cases, In-map, In-map_source, In-permutation, In-some}
+use Rattle.finite_sets.proofs.Members.{In-map, In-map_source, In-permutation, In-some}
 use Rattle.finite_sets.proofs.Orders.{IsSortedByKey-pairs, nat_cmp-not_less}
 use Rattle.finite_sets.proofs.Pairs.{AllPairs-from_Pairwise, Pairwise-from_AllPairs, Pairwise-map}
-use Rattle.finite_sets.proofs.Places.{In-slice_get, slice_get-In, slice_get-below, slice_get-map_there, slice_get-one}
+use Rattle.finite_sets.proofs.Places.{In-slice_get, slice_get-In, slice_get-below, slice_get-map_there}
 use Rattle.finite_sets.proofs.Searches.{All-from_In, All-In}
-use Rattle.geo_core.specs.declared.squares.Square.{Square}
 use Rattle.geo_core.specs.Areas.{IsNear}
 use Rattle.geo_core.specs.Covering.{Covers}
 use Rattle.tech_model.specs.declared.raw.RawTech.{RawTech}
@@ -25,21 +24,21 @@ use Rattle.offences.specs.PartSets.{AreInPartOrder, no_tile, tile_at}
 use Rattle.offences.specs.TypedStacks.{HasMembers}
 use Rattle.cell_library.specs.declared.part_tiles.PartTile.{PartTile}
 use Rattle.hier_merge.specs.declared.plane_tiles.NumberedTile.{NumberedTile}
-use Rattle.hier_merge.specs.steps.PlanePieces.{HasTiles, IsTileOf}
+use Rattle.hier_merge.specs.steps.PlanePieces.{HasTiles}
 use Rattle.hier_merge.specs.steps.Seams.{IsSeam, numbered_on, renumbered}
 use Rattle.hier_merge.specs.steps.Visits.{set_tile, tiles_on}
 
 -- ---- places of a part of a list
 
 -- what stands at a place of what is left of a list stands that much further on in the list
-pub get_drop : (start : ℕ) (tiles : List PartTile) (k : ℕ) → slice_get (drop start tiles) k ≡ slice_get tiles (start + k)
+get_drop : (start : ℕ) (tiles : List PartTile) (k : ℕ) → slice_get (drop start tiles) k ≡ slice_get tiles (start + k)
 get_drop zero tiles k = ap (slice_get tiles) (let at : k ≡ 0 + k = omega arith in at)
 get_drop (suc start) [] k = refl
 get_drop (suc start) (tile ∷ tiles) k =
     get_drop start tiles k ∙ ap (slice_get (tile ∷ tiles)) (let at : suc (start + k) ≡ suc start + k = omega arith in at)
 
 -- at one of the first places stands what stands there in the list
-pub get_take : (count : ℕ) (tiles : List PartTile) (k : ℕ) → k < count → slice_get (take count tiles) k ≡ slice_get tiles k
+get_take : (count : ℕ) (tiles : List PartTile) (k : ℕ) → k < count → slice_get (take count tiles) k ≡ slice_get tiles k
 get_take zero tiles k below = absurd (omega (arith, below))
 get_take (suc count) [] k below = refl
 get_take (suc count) (tile ∷ tiles) zero below = refl
@@ -96,7 +95,7 @@ module _ (raw : RawTech) (plane : ℕ) where
       ]
 
   -- A numbered tile is the one that stands so far behind the first number, and lies on the plane.
-  pub record IsNumbered (number : ℕ) (tiles : List PartTile) (entry : NumberedTile) : Type 0 where
+  pub record HasItsNumber (number : ℕ) (tiles : List PartTile) (entry : NumberedTile) : Type 0 where
     pub place : ℕ
     pub tile : PartTile
     pub there : slice_get tiles place ≡ Some tile
@@ -105,10 +104,10 @@ module _ (raw : RawTech) (plane : ℕ) where
     pub is : entry.tile ≡ set_tile raw tile
 
   pub numbered_source : (number : ℕ) (tiles : List PartTile) (entry : NumberedTile) → In entry (numbered_on raw plane number tiles)
-      → IsNumbered number tiles entry
+      → HasItsNumber number tiles entry
   numbered_source number [] entry among = absurd among
   numbered_source number (tile ∷ tiles) entry among =
-      let later : In entry (numbered_on raw plane (suc number) tiles) → IsNumbered number (tile ∷ tiles) entry = λ more.
+      let later : In entry (numbered_on raw plane (suc number) tiles) → HasItsNumber number (tile ∷ tiles) entry = λ more.
       (let from = numbered_source (suc number) tiles entry more in
       record {
         place = suc from.place;
@@ -175,7 +174,7 @@ has_tiles raw plane tiles start next sorted piece moved has =
     let group = take (next - start) (drop start tiles) in
     let numbers = map (λ (e : NumberedTile). e.number) sorted in
     let here = map (λ (e : NumberedTile). e.tile) sorted in
-    let entry_at : (k : ℕ) → k < length here → (entry : NumberedTile) × (slice_get sorted k ≡ Some entry) × IsNumbered raw plane start group entry = λ k below.
+    let entry_at : (k : ℕ) → k < length here → (entry : NumberedTile) × (slice_get sorted k ≡ Some entry) × HasItsNumber raw plane start group entry = λ k below.
     (let at = slice_get-below sorted k (omega (arith, below, length-map sorted (λ (e : NumberedTile). e.tile))) in (
       at.0,
       at.1,

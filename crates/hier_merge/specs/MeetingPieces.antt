@@ -30,10 +30,12 @@ pub record CoversPiece (tiles : List PartTile) (piece : PlaneStack) (member : �
   pub listed : In entry piece.stack.kinds
   pub part : entry.part ≡ tile.part
 
--- The piece has members, each is the number of a tile that covers it, and each part that has material there has such a tile.
+-- The piece has members: the numbers of the tiles of its plane that cover it, of which each part that has material there has one.
 pub record HasCoveringTiles (tiles : List PartTile) (piece : PlaneStack) : Type 0 where
   pub some : piece.stack.members ≢ []
   pub each : (member : ℕ) → In member piece.stack.members → CoversPiece tiles piece member
+  pub all : (number : ℕ) (tile : PartTile) (square : Square) → slice_get tiles number ≡ Some tile → tile.plane ≡ piece.plane
+      → Covers piece.stack.area square → Covers tile.area square → In number piece.stack.members
   pub every : (entry : PartKind) → In entry piece.stack.kinds
       → (member : ℕ) × In member piece.stack.members × (covers : CoversPiece tiles piece member) × (covers.tile.part ≡ entry.part)
 
@@ -43,8 +45,8 @@ pub record CoversSomePiece (stacks : List PlaneStack) (number : ℕ) : Type 0 wh
   pub listed : In piece stacks
   pub is_member : In number piece.stack.members
 
--- These are the tiles of the parts of a cell in squares that have each place at which the parts meet, and the pieces that they make, plane by
--- plane.
+-- The pieces are, plane by plane, those that the parts of a cell make in squares that have each place at which the parts meet; the tiles are part
+-- tiles of the cell, each of which covers some piece.
 pub record AreMeetingPieces (raw : RawTech) (tree : CellTree) (tiles : List PartTile) (stacks : List PlaneStack) : Type 0 where
   pub within : Square → Bool
   pub others : List SetLayout

@@ -3,8 +3,8 @@
 //! # How the proof goes
 //!
 //! Parts meet only where the boxes that hold them, each grown by one, overlap (`MeetingBoxes`), and those areas lie near
-//! (`NearAreas`). Visits of them hand out tiles that make the parts there and nothing elsewhere (`VisitLaws`), in whichever order they
-//! are taken, and where parts meet decides which places offend (`MeetingSquares`).
+//! (`NearAreas`). Visits of them hand out tiles that make the parts there and nothing elsewhere (`VisitLaws`), and where parts meet
+//! decides which places offend (`MeetingSquares`).
 //!
 //! The areas lie apart, so between the visits of two of them is a seam, over which no two tiles share a square (`SeamLaws`). The pieces
 //! that the tiles before a seam make of each plane and those that the tiles behind it make are together the pieces of all tiles

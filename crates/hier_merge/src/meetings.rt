@@ -93,7 +93,7 @@ fn pieces_of(
     Ok(pieces)
 }
 
-// Adds the pieces of a plane.
+// Adds the pieces of a plane, and what offends of them.
 fn add_plane(
     alloc: Global,
     tech: &Tech,

@@ -48,7 +48,8 @@ pub fn plane_pieces(
     Ok(PlanePieces { stacks, offending })
 }
 
-// Adds the pieces that the tiles from one number on and below another make on the plane. They are put in the order of their parts first.
+// Adds the pieces that the tiles from one number on and below another make on the plane. The tiles are put in the order of their
+// parts first.
 fn add_pieces(
     alloc: Global,
     tech: &Tech,

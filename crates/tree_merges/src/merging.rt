@@ -1,5 +1,5 @@
 //! The rows of the merges of a clean cell.
-ghost use Rattle.std.specs.Prelude.{◌≤◌, ◌+◌, ◌<◌, ℕ, List, All, IfOk, length};
+ghost use Rattle.std.specs.Prelude.{◌≤◌, ◌+◌, ◌<◌, List, All, IfOk, length};
 ghost use Rattle.finite_sets.specs.Lists.{Distinct};
 ghost use Rattle.ext_model.specs.declared.records.MergeRec.{MergeRec};
 ghost use Rattle.ext_model.specs.Rows.{AreRowsOf};

@@ -21,7 +21,7 @@ use Rattle.library_trees.specs.Laws.{AreChainsShort, CleanCellHasCleanTree}
 use Rattle.library_trees.specs.NamedCells.{named_tree_at}
 use Rattle.workspace.proofs.CellNames.{tree_named}
 use Rattle.network_laws.specs.NetworkLaws.{FlatCircuitsHaveLetters, FlatNetworksFit, FlatNetworksHaveTheNodes}
-use Rattle.workspace.specs.CellCircuits.{IsCircuitAt, IsFitCircuitAt, PassesAt}
+use Rattle.workspace.specs.CellCircuits.{IsCircuitAt, IsSimulableCircuitAt, PassesAt}
 use Rattle.workspace.proofs.StandingLaws.{few_elements}
 
 module _ (library : LibraryParts) (lawful : IsLawfulLibrary library) (cell : ℕ) (there : cell < length library.contents)
@@ -50,10 +50,10 @@ module _ (library : LibraryParts) (lawful : IsLawfulLibrary library) (cell : ℕ
   }
 
   -- sim records can be made of it, and a network of these
-  pub fit_circuit_is : RecordsStandForTheFlatLayout → CleanCellHasCleanTree library cell → AreChainsShort library → FlatTransistorsHaveLetterAndLengths
+  pub simulable_is : RecordsStandForTheFlatLayout → CleanCellHasCleanTree library cell → AreChainsShort library → FlatTransistorsHaveLetterAndLengths
       → FlatNetworksFit → FlatNetworksHaveTheNodes → FlatCircuitsHaveLetters library.tech → (circuit : Circuit)
-      → IsFlatOf exts (view_at (seen library) cell).name circuit → IsFitCircuitAt (seen library) cell circuit
-  fit_circuit_is stand cleans short lengths fit have letters circuit flat =
+      → IsFlatOf exts (view_at (seen library) cell).name circuit → IsSimulableCircuitAt (seen library) cell circuit
+  simulable_is stand cleans short lengths fit have letters circuit flat =
       let is = circuit_is stand cleans short circuit flat in (
         is,
         lengths exts (view_at (seen library) cell).name circuit are flat,

@@ -24,25 +24,26 @@ pub record IsCircuitAt (library : LibraryView) (cell : ℕ) (circuit : Circuit) 
   pub is_flat : IsFlatOf exts (view_at library cell).name circuit
   pub is_circuit : IsFlatCircuit library.tech (named_tree_at library cell) circuit
 
--- The cell has too many nodes for a circuit, or too long names: the records of the cell and of all below it say so.
+-- The cell passes a limit of circuits: the records of the cell and of all below it say so.
 pub record PassesAt (library : LibraryView) (cell : ℕ) (limit : CircuitLimit) : Type 0 where
   pub exts : List CellExt
   pub are_records : HasTreeRecords library.tech exts (named_tree_at library cell)
   pub is_fault : IsFlatFaultOf exts (view_at library cell).name (FlatTooMany limit)
 
--- The circuit is that of the cell, its transistors are such that sim records can be made of them, and these fit a network.
-abbrev pub IsFitCircuitAt : LibraryView → ℕ → Circuit → Type 0
-IsFitCircuitAt library cell circuit = IsCircuitAt library cell circuit × All HasLetterAndLengths circuit.fets × CanBeSimulated circuit
+-- The circuit is that of the cell, sim records can be made of its transistors, and the network of these, unless there are too many switches, has
+-- the nodes of the circuit.
+abbrev pub IsSimulableCircuitAt : LibraryView → ℕ → Circuit → Type 0
+IsSimulableCircuitAt library cell circuit = IsCircuitAt library cell circuit × All HasLetterAndLengths circuit.fets × CanBeSimulated circuit
 
--- a circuit of the cell of which this holds, or the limit that it passes
+-- what was flattened is something of which this holds, or the limit that the cell passes
 abbrev pub HasOrPasses : {C : Type 0} → (C → Type 0) → LibraryView → ℕ → Flattened C → Type 0
 HasOrPasses holds library cell (OneCircuit circuit) = holds circuit
 HasOrPasses holds library cell (TooMuch limit) = PassesAt library cell limit
 
--- the circuit of the cell, or the limit that it passes
+-- the circuit of the cell, of which sim records can be made and simulated; or the limit that it passes
 abbrev pub IsFlattenedAt : LibraryView → ℕ → Flattened Circuit → Type 0
-IsFlattenedAt library cell flattened = HasOrPasses (IsFitCircuitAt library cell) library cell flattened
+IsFlattenedAt library cell flattened = HasOrPasses (IsSimulableCircuitAt library cell) library cell flattened
 
--- the same where the transistors of the circuit are those that a sink was given
+-- the same with some transistors of which the sink says that it was given them
 abbrev pub IsGivenAt : {S : Type 0} → (S → List ℕ → List FetRec → Type 0) → LibraryView → ℕ → Flattened (GivenCircuit S) → Type 0
-IsGivenAt has library cell flattened = HasOrPasses (IsGiven has (IsFitCircuitAt library cell)) library cell flattened
+IsGivenAt has library cell flattened = HasOrPasses (IsGiven has (IsSimulableCircuitAt library cell)) library cell flattened

@@ -15,14 +15,14 @@ use cell_library::Reader;
 use circuit_laws::flat_transistors_have_letter_and_lengths;
 use circuit_model::{CircuitLimit, FlatFault};
 use ext_model::{ArrayExt, CellKey, Circuit};
-use flatten::{FetSink, GivenCircuit, circuit_given, flatten_into};
+use flatten::{AllFets, FetSink, GivenCircuit, circuit_given, flatten_into};
 use library_trees::{chains_are_short, clean_cell_has_clean_tree, listed_records_are_of_the_tree};
 use network_laws::{flat_circuits_have_letters, flat_networks_fit, flat_networks_have_the_nodes};
 use session_model::Halt;
 use std::alloc::Global;
 use tree_circuits::{records_stand_for_the_flat_layout, tree_records_have_no_other_fault};
 
-/// The circuit of a cell, or the limit that it passes.
+/// What a cell was flattened to, or the limit that it passes.
 #[derive(Debug, Drop)]
 pub enum Flattened<C> {
     Circuit(C),
@@ -42,7 +42,7 @@ pub fn flatten_kept(
     ensures same { edited.new ≡ edited.old }
     ensures memory { IsOkUnless result Halt.Memory }
 {
-    match flatten_kept_into(alloc, edited, cell)? {
+    match flatten_kept_into::<AllFets>(alloc, edited, cell)? {
         Flattened::Circuit(given) => Ok(Flattened::Circuit(circuit_given(given))),
         Flattened::Passed(limit) => Ok(Flattened::Passed(limit)),
     }

@@ -29,8 +29,8 @@ pub record HaveTypedParts (raw : RawTech) (tiles : List PartTile) : Type 0 where
 abbrev pub plane_stack : ℕ → TypedStack → PlaneStack
 plane_stack plane stack = record { plane = plane; stack = stack }
 
--- The tile with the number lies on the plane, in a list of tiles from one number on and below another, and covers the piece.
-pub record IsTileOf (tiles : List PartTile) (start next plane : ℕ) (piece : TypedStack) (number : ℕ) : Type 0 where
+-- The number, from one on and below another, is that of a tile that lies on the plane and covers the piece.
+pub record IsTileOfPiece (tiles : List PartTile) (start next plane : ℕ) (piece : TypedStack) (number : ℕ) : Type 0 where
   pub from : start ≤ number
   pub below : number < next
   pub tile : PartTile
@@ -38,14 +38,15 @@ pub record IsTileOf (tiles : List PartTile) (start next plane : ℕ) (piece : Ty
   pub on : tile.plane ≡ plane
   pub covers : (square : Square) → Covers piece.area square → Covers tile.area square
 
--- The members of the piece are the numbers of such tiles, and of each that covers a square of it.
+-- The piece has members: the numbers of all such tiles, which cover it where they cover a square of it.
 pub record HasTiles (tiles : List PartTile) (start next plane : ℕ) (piece : TypedStack) : Type 0 where
   pub some : piece.members ≢ []
-  pub each : (number : ℕ) → In number piece.members → IsTileOf tiles start next plane piece number
+  pub each : (number : ℕ) → In number piece.members → IsTileOfPiece tiles start next plane piece number
   pub all : (number : ℕ) (tile : PartTile) (square : Square) → start ≤ number → number < next → slice_get tiles number ≡ Some tile → tile.plane ≡ plane
       → Covers piece.area square → Covers tile.area square → In number piece.members
 
--- These are the pieces that the tiles of the plane make, and the strips of what offends of them.
+-- Where what the tiles make of each part has types, these are the pieces that the tiles of the plane make; and of whatever parts they are the
+-- pieces, the strips are those of what offends of these.
 pub record HasPlanePieces (raw : RawTech) (tiles : List PartTile) (plane : ℕ) (found : List TypedStack) (strips : List Rect) : Type 0 where
   pub stand : StandForTiles raw plane (tiles_on raw plane tiles) found
   pub members : All (HasTiles tiles 0 (length tiles) plane) found

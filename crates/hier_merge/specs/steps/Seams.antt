@@ -32,7 +32,7 @@ pub record AreTilePieces (raw : RawTech) (plane : ℕ) (tiles : List SetTile) (f
   pub stand : StandForTiles raw plane tiles found
   pub lie : (piece : TypedStack) → In piece found → (square : Square) → Covers piece.area square → IsOnTile tiles square
 
--- The tile of a part with its number among all tiles, and as a rectangle with a set.
+-- those of the tiles that lie on the plane, where the first has this number and each has the next one
 abbrev pub numbered_on : RawTech → ℕ → ℕ → List PartTile → List NumberedTile
 numbered_on raw plane number [] = []
 numbered_on raw plane number (tile ∷ tiles) =

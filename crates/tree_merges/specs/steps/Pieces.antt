@@ -1,5 +1,5 @@
 -- Pieces of the planes of a cell, with their regions and with the members that have the tiles which cover them.
-use Rattle.std.specs.Prelude.{◌≡◌, ◌+◌, ◌<◌, ◌≤◌, ℕ, List, length, slice_index, All, AllPairs}
+use Rattle.std.specs.Prelude.{◌≡◌, ◌<◌, ◌≤◌, ℕ, List, length, All, AllPairs}
 use Rattle.tech_model.specs.declared.raw.RawTech.{RawTech}
 use Rattle.tech_model.specs.Types.{connects}
 use Rattle.layout_model.specs.RegionTiles.{AreRegions}

@@ -2,13 +2,13 @@ use Rattle.std.proofs.Common.{rules}
 use Rattle.std.proofs.lemmas.Result.{IfOk-weaker}
 use Rattle.cell_library.specs.Libraries.{seen}
 use Rattle.circuit_commands.specs.declared.circuits.CircuitFile.TheVariants.{Flat}
-use Rattle.workspace.specs.CellCircuits.{IsFitCircuitAt}
+use Rattle.workspace.specs.CellCircuits.{IsSimulableCircuitAt}
 use Rattle.extract_commands.proofs.CircuitLaws.{written_at}
 use Rattle.extract_commands.proofs.command_circuits.write_flat_kept.Goals as goal
 
 pub returns-in-Circuit-clause-written : goal.returns-in-Circuit-clause-written
 returns-in-Circuit-clause-written c =
-    let flat : IsFitCircuitAt (seen c.args.edited.now.library) c.args.cell.0 c.in-Circuit.circuit = search rules in
+    let flat : IsSimulableCircuitAt (seen c.args.edited.now.library) c.args.cell.0 c.in-Circuit.circuit = search rules in
     IfOk-weaker c.write_flat_file.result _ _
     (λ written is. written_at Flat (seen c.args.edited.now.library) c.args.cell.0 c.args.name.now c.in-Circuit.circuit written flat.0 is)
     c.write_flat_file.ensures.written

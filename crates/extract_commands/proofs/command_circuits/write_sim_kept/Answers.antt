@@ -4,7 +4,7 @@ use Rattle.cell_library.specs.Libraries.{seen}
 use Rattle.workspace.specs.Sinks.{IsGiven, with_fets}
 use Rattle.circuit_commands.specs.GivenFets.{HasSimFets}
 use Rattle.circuit_commands.specs.declared.circuits.CircuitFile.TheVariants.{Sim}
-use Rattle.workspace.specs.CellCircuits.{IsFitCircuitAt}
+use Rattle.workspace.specs.CellCircuits.{IsSimulableCircuitAt}
 use Rattle.extract_commands.proofs.CircuitLaws.{written_at}
 use Rattle.extract_commands.proofs.command_circuits.write_sim_kept.Goals as goal
 
@@ -15,7 +15,7 @@ pub returns-in-Circuit-clause-written : goal.returns-in-Circuit-clause-written
 returns-in-Circuit-clause-written c =
     let library = seen c.args.edited.now.library in
     let circuit = c.in-Circuit.circuit in
-    let given : IsGiven HasSimFets (IsFitCircuitAt library c.args.cell.0) circuit = search rules in
+    let given : IsGiven HasSimFets (IsSimulableCircuitAt library c.args.cell.0) circuit = search rules in
     IfOk-weaker c.write_given.result _ _
     (λ written is. written_at Sim library c.args.cell.0 c.args.name.now (with_fets circuit given.0) written given.1.1.0 (is given.0 given.1.0))
     c.write_given.ensures.written

@@ -1,4 +1,4 @@
-use Rattle.std.proofs.Common.{◌≡◌, ◌<◌, ◌-◌, ℕ, List, length, map, take, drop, refl, sym, ap, subst, ◌∙◌, arith, rules}
+use Rattle.std.proofs.Common.{◌≡◌, ◌<◌, ◌-◌, ℕ, List, length, map, take, drop, sym, ap, subst, ◌∙◌, arith, rules}
 use Rattle.std.specs.Prelude.{All, IsPermutation}
 use Rattle.std.proofs.lemmas.List.{length-map}
 use Rattle.std.proofs.lemmas.List.Sorted.{IsPermutation-map, answers_always}
@@ -14,7 +14,7 @@ use Rattle.offences.specs.PartSets.{AreInPartOrder}
 use Rattle.offences.specs.TypedStacks.{HasMembers, StandForTiles}
 use Rattle.hier_merge.specs.declared.plane_tiles.NumberedTile.{NumberedTile}
 use Rattle.hier_merge.specs.steps.PlanePieces.{HasTiles}
-use Rattle.hier_merge.specs.steps.Seams.{AreTilePieces, numbered_on, renumbered}
+use Rattle.hier_merge.specs.steps.Seams.{numbered_on, renumbered}
 use Rattle.hier_merge.specs.steps.Visits.{tiles_on}
 use Rattle.hier_merge.proofs.JoinedPieces.{pieces_moved, pieces_renumbered}
 use Rattle.hier_merge.proofs.NumberedTiles.{has_tiles, near_numbered, sorted_numbered, without_numbers}

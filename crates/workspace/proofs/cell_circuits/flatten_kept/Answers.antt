@@ -1,7 +1,7 @@
 use Rattle.std.proofs.Common.{◌≡◌, ◌∙◌, sym, ap, subst, rules}
 use Rattle.flatten.specs.Sinks.{IsGiven, with_fets}
 use Rattle.cell_library.specs.Libraries.{seen}
-use Rattle.workspace.specs.CellCircuits.{IsFitCircuitAt}
+use Rattle.workspace.specs.CellCircuits.{IsSimulableCircuitAt}
 use Rattle.workspace.proofs.cell_circuits.flatten_kept.Goals as goal
 
 pub flatten_kept_into-requires-clause-fit : goal.flatten_kept_into-requires-clause-fit
@@ -11,5 +11,5 @@ pub returns-in-Circuit-clause-flattened : goal.returns-in-Circuit-clause-flatten
 returns-in-Circuit-clause-flattened c =
     let library = seen c.args.edited.now.library in
     let given = c.in-Circuit.given in
-    let is : IsGiven (λ sink tech fets. sink.fets.items ≡ fets) (IsFitCircuitAt library c.args.cell.0) given = search rules in
-    subst (IsFitCircuitAt library c.args.cell.0) (ap (with_fets given) (sym is.1.0) ∙ sym c.circuit_given.ensures) is.1.1
+    let is : IsGiven (λ sink tech fets. sink.fets.items ≡ fets) (IsSimulableCircuitAt library c.args.cell.0) given = search rules in
+    subst (IsSimulableCircuitAt library c.args.cell.0) (ap (with_fets given) (sym is.1.0) ∙ sym c.circuit_given.ensures) is.1.1

@@ -10,7 +10,7 @@ use Rattle.ext_loading.proofs.PlainRecords.PlainLaws.{plains_are_records}
 use Rattle.cell_library.specs.Libraries.{seen}
 use Rattle.cell_library.specs.Views.{view_at}
 use Rattle.network_laws.specs.NetworkLaws.{FlatCircuitsHaveLetters}
-use Rattle.workspace.proofs.CellCircuitLaws.{fit_circuit_is, no_other_fault, passes_limit, root_found}
+use Rattle.workspace.proofs.CellCircuitLaws.{simulable_is, no_other_fault, passes_limit, root_found}
 use Rattle.workspace.proofs.cell_circuits.flatten_records.Goals as goal
 
 pub flatten_into-requires-clause-root : goal.flatten_into-requires-clause-root
@@ -33,7 +33,7 @@ returns-in-Ok-clause-given g c =
       given.0,
       (
         given.1.0,
-        fit_circuit_is library c.lawful.ensures c.args.cell.0 c.requires.cell c.requires.clean exts
+        simulable_is library c.lawful.ensures c.args.cell.0 c.requires.cell c.requires.clean exts
             (plains_are_records c.args.exts.now c.requires.records) c.requires.tree
             c.records_stand_for_the_flat_layout.ensures c.clean_cell_has_clean_tree.ensures c.chains_are_short.ensures
             c.flat_transistors_have_letter_and_lengths.ensures c.flat_networks_fit.ensures
