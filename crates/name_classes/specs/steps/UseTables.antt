@@ -1,8 +1,7 @@
 -- Tables of uses by the names of their elements.
 use Rattle.std.specs.Prelude.{◌≡◌, ℕ, Option, Some, None, List, length, slice_get}
-use Rattle.std.specs.Ordering.{nat_cmp}
-use Rattle.std.specs.Cmp.Lexicographic.{slice_cmp}
-use Rattle.std.specs.BTreeMap.{get_by}
+use Rattle.std.specs.Str.{bytes_eq}
+use Rattle.std.specs.HashMap.{get_by}
 use Rattle.finite_sets.specs.Lists.{In}
 use Rattle.ext_model.specs.declared.records.UseRec.{UseRec}
 use Rattle.ext_model.specs.declared.records.CellExt.{CellExt}
@@ -10,7 +9,7 @@ use Rattle.name_classes.specs.declared.tables.UseTable.{UseTable}
 
 -- the number under an element's name
 abbrev pub number_of : UseTable → List ℕ → Option ℕ
-number_of table id = get_by (λ key. slice_cmp nat_cmp id key.now) table.numbers
+number_of table id = get_by (λ key. bytes_eq id key.now) table.numbers
 
 -- The use with this number has this name.
 pub record HasUseAt (uses : List UseRec) (number : ℕ) (id : List ℕ) : Type 0 where

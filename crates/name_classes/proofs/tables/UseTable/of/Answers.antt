@@ -3,7 +3,7 @@ use Rattle.std.specs.Prelude.{Some}
 use Rattle.std.specs.Str.{bytes_eq}
 use Rattle.std.proofs.lemmas.List.{length-take-le}
 use Rattle.std.proofs.lemmas.Option.{slice_get_read}
-use Rattle.std.proofs.lemmas.Map.Text.{btree_map_updates_str}
+use Rattle.std.proofs.lemmas.Map.Text.{hash_map_updates_str}
 use Rattle.finite_sets.proofs.Places.{take-slice_get}
 use Rattle.ext_model.specs.declared.records.UseRec.{UseRec}
 use Rattle.name_classes.specs.steps.UseTables.{IsTableOf, number_of}
@@ -19,7 +19,7 @@ loop-number-preserved c =
     let so_many : length (take number uses) ≡ number = length-take-le number uses (omega arith) in
     let reads : (id : List ℕ) → number_of (record { numbers = c.insert.new.self }) id
     ≡ cond (bytes_eq used.id id) (Some number) (number_of (record { numbers = c.loop-number.numbers }) id) =
-    λ id. btree_map_updates_str c.bytes.result.now c.loop-number.numbers c.insert.new.self (Some number) c.in_ok-insert.ensures.updates id
+    λ id. hash_map_updates_str c.bytes.result.now c.loop-number.numbers c.insert.new.self (Some number) c.in_ok-insert.ensures.updates id
     ∙ ap (λ (key : List ℕ). cond (bytes_eq key id) (Some number) (number_of (record { numbers = c.loop-number.numbers }) id)) c.bytes.ensures in
     let P : List UseRec → Type 0 = λ xs. IsTableOf xs (record { numbers = c.insert.new.self }) in
     subst P (sym (take-slice_get uses number used here))
