@@ -4,6 +4,7 @@ ghost use Rattle.script_lines.specs.Forms.{IsFormed};
 ghost use Rattle.session_model.specs.Effects.{AnswersAlone};
 ghost use Rattle.line_answers.specs.LineEffects.{IsOfInside};
 ghost use Rattle.line_answers.specs.Refusals.{refusal_line};
+ghost use Rattle.library_answers.specs.Refusals.{edit_refusal};
 ghost use Rattle.workspace.specs.KeptSessions.{IsSession, state_of};
 ghost use Rattle.library_commands.specs.CommandEdits.{EditMeans, nothing_to_edit};
 
@@ -39,8 +40,17 @@ pub fn edit(
     {
         Ok(()) => Ok(told(alloc, ok(alloc)?)),
         Err(EditFault::Memory) => Err(Halt::Memory),
-        Err(fault) => refuse_edit(alloc, number, &fault),
+        Err(fault) => refused(alloc, number, fault),
     }
+}
+
+// The answer where an edit is refused for some other reason than want of memory. The fault is let go.
+fn refused(alloc: Global, number: usize, fault: EditFault) -> Result<Answer, Halt>
+    ensures lines { IfOk result (λ answer. answer.lines.items ≡ refusal_line number (edit_refusal fault) ∷ []) }
+    ensures stores { IfOk result (λ answer. answer.stores.items ≡ []) }
+    ensures memory { IsOkUnless result Halt.Memory }
+{
+    refuse_edit(alloc, number, &fault)
 }
 
 // The answer to a command that edits where no technology was read yet.

@@ -5,6 +5,8 @@ ghost use Rattle.session_model.specs.Causes.{HasCauses, kinds_of};
 ghost use Rattle.session_model.specs.Effects.{Answers};
 ghost use Rattle.tech_file.specs.Reading.{technology_of};
 ghost use Rattle.line_answers.specs.LineEffects.{IsOfInside};
+ghost use Rattle.line_answers.specs.Refusals.{refusal_line};
+ghost use Rattle.library_answers.specs.Refusals.{tech_refusal};
 ghost use Rattle.workspace.specs.KeptSessions.{IsSession, state_of};
 ghost use Rattle.library_commands.specs.CommandTech.{TechMeans, tech_effect};
 
@@ -78,6 +80,15 @@ fn accept_tech(
                 fault: TechFault::Memory,
             },
         ) => Err(Halt::Memory),
-        Err(at) => refuse_tech(alloc, number, &file, &at),
+        Err(at) => refused(alloc, number, &file, at),
     }
+}
+
+// The answer where the text of the file has a fault, which is let go.
+fn refused(alloc: Global, number: usize, file: &Name, at: TechAt) -> Result<Answer, Halt>
+    ensures lines { IfOk result (λ answer. answer.lines.items ≡ refusal_line number (tech_refusal file.now at) ∷ []) }
+    ensures stores { IfOk result (λ answer. answer.stores.items ≡ []) }
+    ensures memory { IsOkUnless result Halt.Memory }
+{
+    refuse_tech(alloc, number, file, &at)
 }

@@ -68,7 +68,7 @@ pub returns-in-Err-clause-effect : goal.returns-in-Err-clause-effect
 returns-in-Err-clause-effect c =
     let state : state_of c.args.session.now ≡ Some (edited_state c.in-Some.edited) = search rules in
     let refused : ApplyIsRefused (editing_of c.in-Some.edited.library c.in-Some.edited.current) c.args.command.now c.in-Err.fault = search rules in
-    both_ok c.refuse_edit.result _ _ _
+    both_ok c.refused.result _ _ _
     (λ answer lines stores. subst
     (λ (s : State). AnswersAlone (EditMeans c.args.number s c.args.command.now)
     (Some (workspace_of c.apply.new.library c.apply.new.current c.in-Some.edited.cache c.apply.new.self)) answer)
@@ -76,7 +76,7 @@ returns-in-Err-clause-effect c =
     (edit_refused c.args.number c.in-Some.edited.library c.apply.new.library c.in-Some.edited.current c.apply.new.current c.in-Some.edited.cache
     c.in-Some.edited.log c.apply.new.self c.args.command.now c.in-Err.fault answer c.in-Err.ensures.same c.in-Err.ensures.kept c.in-Err.ensures.log refused
     lines stores))
-    c.refuse_edit.ensures.lines c.refuse_edit.ensures.stores
+    c.refused.ensures.lines c.refused.ensures.stores
 
 pub returns-in-Err-clause-kept : goal.returns-in-Err-clause-kept
 returns-in-Err-clause-kept c =

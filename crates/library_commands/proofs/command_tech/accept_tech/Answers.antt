@@ -1,10 +1,12 @@
-use Rattle.std.proofs.Common.{◌≡◌, [], ◌∷◌, Ok, Err, None, sym, subst, rules}
+use Rattle.std.proofs.Common.{◌≡◌, List, [], ◌∷◌, Ok, Err, None, refl, sym, subst, rules}
+use Rattle.std.proofs.lemmas.Result.{IfOk-weaker}
+use Rattle.session_model.specs.declared.report.ReportLine.{ReportLine}
 use Rattle.tech_file.specs.Reading.{technology_of}
 use Rattle.cell_library.specs.Libraries.{seen}
 use Rattle.workspace.specs.Caches.{Agrees}
 use Rattle.workspace.proofs.RecordLaws.{agrees_none}
 use Rattle.library_answers.specs.Replies.{tech_text}
-use Rattle.line_answers.specs.LineEffects.{reply}
+use Rattle.line_answers.specs.LineEffects.{IsOfInside, reply}
 use Rattle.line_answers.proofs.AnswerLaws.{both_ok}
 use Rattle.workspace.specs.KeptSessions.{state_of}
 use Rattle.library_commands.proofs.TechLaws.{tech_accepted, tech_text_refused}
@@ -30,7 +32,12 @@ pub returns-clause-effect : goal.returns-clause-effect
 returns-clause-effect c =
     let is : technology_of c.args.text.now ≡ Err c.in-Err.at = search rules in
     let none : state_of c.args.session.now ≡ None = search rules in
-    both_ok c.refuse_tech.result _ _ _
+    both_ok c.refused.result _ _ _
     (λ answer lines stores. tech_text_refused c.args.number c.args.file (technology_of c.args.text.now) c.in-Err.at (state_of c.args.session.now) answer is none
     lines stores)
-    c.refuse_tech.ensures.lines c.refuse_tech.ensures.stores
+    c.refused.ensures.lines c.refused.ensures.stores
+
+pub returns-clause-inside : goal.returns-clause-inside
+returns-clause-inside c =
+    IfOk-weaker c.refused.result _ _
+    (λ answer lines. subst (λ (all : List ReportLine). IsOfInside all) (sym lines) (record { present = refl; fits = refl })) c.refused.ensures.lines
