@@ -2,7 +2,7 @@
 use Rattle.std.proofs.Common.{◌≡◌, ℕ, ◌<◌, ◌≤◌, ◌∙◌, inl, inr, List, [], ◌∷◌, ◌++◌, length, Some, None, refl, sym, ap, subst, Option, arith}
 use Rattle.std.proofs.lemmas.Bool.Decides.{nat_tests}
 use Rattle.std.proofs.lemmas.List.{append-nil}
-use Rattle.std.specs.Prelude.{nat_lt, if◌then◌else◌, is_some, Bool, MatchBool, MatchOption, true, false, Err}
+use Rattle.std.specs.Prelude.{nat_lt, if◌then◌else◌, is_some, Bool, IsErrOf, MatchBool, MatchOption, true, false, Err}
 use Rattle.text_scan.specs.Lines.{lines_of}
 use Rattle.outside_io.specs.Files.{Files}
 use Rattle.outside_io.specs.ToldBytes.{ToldBytes}
@@ -270,3 +270,17 @@ pub calm_read : (T : Type 0) (h : Halt) (status : Status) (P : Type 0) → Unles
 calm_read T halt.ReadFault status P calm is other = absurd (other is)
 calm_read T halt.WriteFault status P calm is other = calm
 calm_read T halt.Memory status P calm is other = calm
+
+-- what a read that failed comes from is where the status tells of one
+pub read_told : (T : Type 0) (h : Halt) (status : Status) (P : Type 0) → (IsErrOf {T = T} (Err h) halt.ReadFault → P) → status ≡ status_of h
+    → status ≡ ReadFault → P
+read_told T halt.ReadFault status P comes is told = comes refl
+read_told T halt.WriteFault status P comes is told = let no : ⊥ = cc in absurd no
+read_told T halt.Memory status P comes is told = let no : ⊥ = cc in absurd no
+
+-- and so of a write
+pub write_told : (T : Type 0) (h : Halt) (status : Status) (P : Type 0) → (IsErrOf {T = T} (Err h) halt.WriteFault → P) → status ≡ status_of h
+    → status ≡ WriteFault → P
+write_told T halt.ReadFault status P comes is told = let no : ⊥ = cc in absurd no
+write_told T halt.WriteFault status P comes is told = comes refl
+write_told T halt.Memory status P comes is told = let no : ⊥ = cc in absurd no

@@ -11,7 +11,7 @@ use Rattle.magex_top.specs.declared.status.Status.TheVariants.{Done, Told, Write
 use Rattle.library_commands.specs.Workspace.KeptSessions.{state_of}
 use Rattle.magex_top.specs.Sessions.{RunState}
 use Rattle.magex_top.specs.Statuses.{status_of}
-use Rattle.magex_top.proofs.RunLaws.{begins_from_first, calm_read, calm_write, reached_from_first, session_from_first}
+use Rattle.magex_top.proofs.RunLaws.{begins_from_first, calm_read, calm_write, read_told, reached_from_first, session_from_first, write_told}
 use Rattle.magex_top.proofs.top_call.run_script.Goals as goal
 
 told_status : (told holds : Bool) → holds ≡ told → holds ≡ true → Told ≡ (if told then Told else Done)
@@ -80,6 +80,12 @@ returns-clause-beginning g c before files told files_told =
     reached_from_first c.args.asked first c.args.text.now files Fails Others before (g.K.Sink.written c.run_lines.new.report)
     (g.F.Shelf.files c.run_lines.new.shelf) (λ i. record { session = c.new_session.ensures.state i; budget = c.args.asked.budget })
     (λ (is, rose). (status_is c.in-Err.halt c.from.result c.from.ensures (cc), rose)) (c.in-Err.ensures.progress before files told files_told)
+
+pub returns-clause-read_fault : goal.returns-clause-read_fault
+returns-clause-read_fault g c = read_told Bool c.in-Err.halt c.from.result _ c.in-Err.ensures.causes.read_fault c.from.ensures
+
+pub returns-clause-write_fault : goal.returns-clause-write_fault
+returns-clause-write_fault g c = write_told Bool c.in-Err.halt c.from.result _ c.in-Err.ensures.causes.write_fault c.from.ensures
 
 pub returns-clause-calm_report : goal.returns-clause-calm_report
 returns-clause-calm_report g c = calm_write Bool c.in-Err.halt c.from.result _ c.in-Err.ensures.causes.calm_report c.from.ensures
