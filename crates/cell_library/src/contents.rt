@@ -17,18 +17,35 @@ use std::marker::Model;
 use tech_model::{Label, LayerId, Tech};
 
 /// What a cell has of its own: its name, its paint, and its labels in order of arrival.
-#[derive(Drop)]
 pub struct Content {
     pub name: Name,
     pub paint: CellPaint,
     pub labels: Vec<Label>,
 }
 
+impl Drop for Content {
+    fn drop(self) {
+        let Content {
+            name: _,
+            paint: _,
+            labels: _,
+        } = self;
+    }
+}
+
 /// The contents of cells in order of arrival, each found by its name. Contracts see them as a list.
-#[derive(Drop)]
 pub struct Contents {
     alloc: Global,
     entries: IndexMap<Vec<u8>, Content>,
+}
+
+impl Drop for Contents {
+    fn drop(self) {
+        let Contents {
+            alloc: _,
+            entries: _,
+        } = self;
+    }
 }
 
 impl Model for Contents {

@@ -48,13 +48,24 @@ use tech_model::{Label, LayerId, Tech};
 /// A cell's key is its position: cells never leave. The library is lawful at any time, as `lawful` says. Keys and layers that are handed
 /// in are the library's, cell names are plain, ids of uses and labels are of their forms, and the indices of a grid fit 32 bits with
 /// sign. An edit is all or nothing, and takes its memory first. It raises the stamps of its cell and of all above it, and no others.
-#[derive(Drop)]
 pub struct Library {
     alloc: Global,
     tech: Tech,
     scale: Option<(u32, u32)>,
     contents: Contents,
     tree: CellTree,
+}
+
+impl Drop for Library {
+    fn drop(self) {
+        let Library {
+            alloc: _,
+            tech: _,
+            scale: _,
+            contents: _,
+            tree: _,
+        } = self;
+    }
 }
 
 impl Model for Library {

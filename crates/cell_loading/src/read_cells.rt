@@ -13,11 +13,20 @@ use std::marker::Model;
 
 /// Cells in the order in which their files were read. Contracts see them as the list of their names and bodies. A look-up of a name takes
 /// the same time however many there are.
-#[derive(Drop)]
 pub struct ReadCells {
     alloc: Global,
     entries: Vec<(Name, CellBody)>,
     names: HashSet<Vec<u8>>,
+}
+
+impl Drop for ReadCells {
+    fn drop(self) {
+        let ReadCells {
+            alloc: _,
+            entries: _,
+            names: _,
+        } = self;
+    }
 }
 
 impl Model for ReadCells {

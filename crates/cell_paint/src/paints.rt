@@ -41,11 +41,20 @@ pub const PAINT_RANGE: Rect = Rect {
 /// Each plane has types of its own and space alone, all paint lies from `-PAINT_EDGE` to `PAINT_EDGE`, and where one
 /// image of a contact stands, all of them stand. A call that is handed a technology asks for the one that the
 /// paint was made for, which it knows by its tile types.
-#[derive(Drop)]
 pub struct CellPaint {
     alloc: Global,
     kinds: List<TypeRec>,
     planes: Vec<PaintPlane>,
+}
+
+impl Drop for CellPaint {
+    fn drop(self) {
+        let CellPaint {
+            alloc: _,
+            kinds: _,
+            planes: _,
+        } = self;
+    }
 }
 
 impl Model for CellPaint {

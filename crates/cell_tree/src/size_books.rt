@@ -20,7 +20,6 @@ use crate::trials::try_size;
 use std::alloc::{AllocError, Global};
 
 /// What is kept of all cells beside the cells.
-#[derive(Drop)]
 pub struct SizeBook {
     /// The size of each cell.
     pub sizes: Vec<Size>,
@@ -34,6 +33,19 @@ pub struct SizeBook {
     pub order: Vec<usize>,
     /// How many edits there were.
     pub edits: u64,
+}
+
+impl Drop for SizeBook {
+    fn drop(self) {
+        let SizeBook {
+            sizes: _,
+            next: _,
+            stamps: _,
+            seen: _,
+            order: _,
+            edits: _,
+        } = self;
+    }
 }
 
 impl SizeBook {

@@ -36,11 +36,20 @@ use use_orders::below;
 /// edit that last changed it or a cell below it. `lawful` says what holds of each tree.
 ///
 /// An edit looks at the cell, at all above it and at their uses, and at no other cell.
-#[derive(Drop)]
 pub struct CellTree {
     alloc: Global,
     cells: Vec<TreeCell>,
     book: SizeBook,
+}
+
+impl Drop for CellTree {
+    fn drop(self) {
+        let CellTree {
+            alloc: _,
+            cells: _,
+            book: _,
+        } = self;
+    }
 }
 
 impl Model for CellTree {

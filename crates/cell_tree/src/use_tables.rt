@@ -20,9 +20,14 @@ pub struct UseBody {
 }
 
 /// Uses in order of arrival, each under its id. Contracts see the uses with their ids, and for how many more there is room.
-#[derive(Drop)]
 pub struct UseTable {
     entries: IndexMap<Vec<u8>, UseBody>,
+}
+
+impl Drop for UseTable {
+    fn drop(self) {
+        let UseTable { entries: _ } = self;
+    }
 }
 
 impl Model for UseTable {

@@ -36,11 +36,21 @@ pub struct CifSymbol {
 }
 
 /// What a CIF text says. Contracts see it as a record of its parts.
-#[derive(Debug, Drop)]
+#[derive(Debug)]
 pub struct Cif {
     layers: List<Name>,
     symbols: List<CifSymbol>,
     top: List<CifItem>,
+}
+
+impl Drop for Cif {
+    fn drop(self) {
+        let Cif {
+            layers: _,
+            symbols: _,
+            top: _,
+        } = self;
+    }
 }
 
 impl Model for Cif {

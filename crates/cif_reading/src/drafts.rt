@@ -35,7 +35,6 @@ pub struct Opened {
 }
 
 /// A CIF text as far as its commands are read. Contracts see it as a record of its parts.
-#[derive(Drop)]
 pub struct CifDraft {
     alloc: Global,
     layer: Option<Name>,
@@ -45,6 +44,21 @@ pub struct CifDraft {
     defined: SymbolList,
     outer: Vec<CifItem>,
     has_ended: bool,
+}
+
+impl Drop for CifDraft {
+    fn drop(self) {
+        let CifDraft {
+            alloc: _,
+            layer: _,
+            opened: _,
+            inner: _,
+            names: _,
+            defined: _,
+            outer: _,
+            has_ended: _,
+        } = self;
+    }
 }
 
 impl Model for CifDraft {
@@ -153,10 +167,14 @@ impl CifDraft {
         ensures { result ≡ parts_of self }
     {
         let CifDraft {
+            alloc: _,
+            layer: _,
+            opened: _,
+            inner: _,
             names,
             defined,
             outer,
-            ..
+            has_ended: _,
         } = self;
         Cif::of(names.into_list(), defined.into_list(), List::of(outer))
     }

@@ -16,11 +16,20 @@ use std::marker::Model;
 ///
 /// A use is one rectangle of squares, however many elements it has. Time and memory are as told below where no use gives a name
 /// again.
-#[derive(Drop)]
 pub struct ElementIndex {
     ids: NameIndex,
     uses: Vec<UseElements>,
     areas: Forest,
+}
+
+impl Drop for ElementIndex {
+    fn drop(self) {
+        let ElementIndex {
+            ids: _,
+            uses: _,
+            areas: _,
+        } = self;
+    }
 }
 
 impl Model for ElementIndex {

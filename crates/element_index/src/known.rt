@@ -16,12 +16,21 @@ use std::alloc::{AllocError, Global};
 use std::marker::Model;
 
 /// Uses, whose elements are known by their names, one by one and in rows. Contracts see it as the list of the uses.
-#[derive(Drop)]
 pub struct KnownElements {
     ids: NameIndex,
     uses: Vec<UseElements>,
     // of the squares of all names, so that a row of names lies in one of them
     strips: RectTree,
+}
+
+impl Drop for KnownElements {
+    fn drop(self) {
+        let KnownElements {
+            ids: _,
+            uses: _,
+            strips: _,
+        } = self;
+    }
 }
 
 impl Model for KnownElements {

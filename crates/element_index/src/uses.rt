@@ -12,10 +12,16 @@ use geo_core::{Grid, Rect};
 use names_lists::Name;
 
 /// What a use says of the names of its elements: its id, and the grid of an array.
-#[derive(Debug, Drop)]
+#[derive(Debug)]
 pub struct UseElements {
     pub id: Name,
     pub grid: Option<Grid>,
+}
+
+impl Drop for UseElements {
+    fn drop(self) {
+        let UseElements { id: _, grid: _ } = self;
+    }
 }
 
 /// The squares of names that have one id.

@@ -47,12 +47,21 @@ pub struct TreeElement {
 }
 
 /// The elements of a tree, and the uses that lead to them.
-#[derive(Debug, Drop)]
+#[derive(Debug)]
 pub struct ElementTree {
     /// The branches of each record, one for each of its uses.
     pub branches: List<List<Branch>>,
     /// The elements, depth first in the order of uses; the root is the first.
     pub elements: List<TreeElement>,
+}
+
+impl Drop for ElementTree {
+    fn drop(self) {
+        let ElementTree {
+            branches: _,
+            elements: _,
+        } = self;
+    }
 }
 
 // The root's own element.

@@ -11,11 +11,20 @@ use std::marker::Model;
 
 /// The records of cells, each with its serial and with the stamp that the cell had when the record was made; and how many records were
 /// made so far. Contracts see the entries as a finite map from the numbers of keys.
-#[derive(Drop)]
 pub struct Cache {
     alloc: Global,
     table: ExtTable,
     made: u64,
+}
+
+impl Drop for Cache {
+    fn drop(self) {
+        let Cache {
+            alloc: _,
+            table: _,
+            made: _,
+        } = self;
+    }
 }
 
 impl Model for Cache {

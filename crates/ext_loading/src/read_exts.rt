@@ -13,10 +13,15 @@ use use_orders::UseGraph;
 
 /// Records in the order in which their files were read, no two of one cell. Contracts see them as a list. A look-up of a cell takes the
 /// same time however many there are.
-#[derive(Drop)]
 pub struct ReadExts {
     exts: Vec<ArrayExt>,
     cells: NameIndex,
+}
+
+impl Drop for ReadExts {
+    fn drop(self) {
+        let ReadExts { exts: _, cells: _ } = self;
+    }
 }
 
 impl Model for ReadExts {

@@ -8,10 +8,21 @@ use names_lists::{List, Name};
 ///
 /// It is in the technology of that name, and `classes` are the values of its classes, in milliohms per square. Nodes stand in
 /// the name order of their names; transistors by the element that has them, in the order of elements, and then as there.
-#[derive(Debug, Drop)]
+#[derive(Debug)]
 pub struct Circuit {
     pub tech: Name,
     pub classes: List<u64>,
     pub nodes: List<NodeRec>,
     pub fets: List<FetRec>,
+}
+
+impl Drop for Circuit {
+    fn drop(self) {
+        let Circuit {
+            tech: _,
+            classes: _,
+            nodes: _,
+            fets: _,
+        } = self;
+    }
 }

@@ -8,18 +8,28 @@ use std::alloc::{AllocError, Global};
 ///
 /// `cell` is the child's cell, and `id` the element's name, with its indices where the use is an array. The six numbers are
 /// `a b c d e f` of `x' = a*x + b*y + c` and `y' = d*x + e*y + f`, from the child's coordinates to the cell's, in lambda.
-#[derive(Debug, Drop)]
+#[derive(Debug)]
 pub struct UseRec {
     pub cell: Name,
     pub id: Name,
     pub six: [i64; 6],
 }
 
+impl Drop for UseRec {
+    fn drop(self) {
+        let UseRec {
+            cell: _,
+            id: _,
+            six: _,
+        } = self;
+    }
+}
+
 /// A node.
 ///
 /// It has its preferred name and its other names in name order, its capacitance in attofarads, its least place in lambda with
 /// the name of the type there, and for each class its area in square lambda and its perimeter in lambda.
-#[derive(Debug, Drop)]
+#[derive(Debug)]
 pub struct NodeRec {
     pub name: Name,
     pub aliases: List<Name>,
@@ -28,6 +38,20 @@ pub struct NodeRec {
     pub y: i64,
     pub kind: Name,
     pub measures: List<(i128, i128)>,
+}
+
+impl Drop for NodeRec {
+    fn drop(self) {
+        let NodeRec {
+            name: _,
+            aliases: _,
+            cap: _,
+            x: _,
+            y: _,
+            kind: _,
+            measures: _,
+        } = self;
+    }
 }
 
 /// A node beside the channel of a transistor, and a length in lambda: of a terminal how much of the channel's outline it
@@ -42,7 +66,7 @@ pub struct TermRec {
 ///
 /// It has its name in the technology, its point in lambda, which is its least place, the area of its channel in square lambda,
 /// the perimeter in lambda, the name of its substrate, its gate, and its terminals in the order of their nodes' least places.
-#[derive(Debug, Drop)]
+#[derive(Debug)]
 pub struct FetRec {
     pub kind: Name,
     pub x: i64,
@@ -52,6 +76,21 @@ pub struct FetRec {
     pub substrate: Name,
     pub gate: TermRec,
     pub terminals: List<TermRec>,
+}
+
+impl Drop for FetRec {
+    fn drop(self) {
+        let FetRec {
+            kind: _,
+            x: _,
+            y: _,
+            area: _,
+            perimeter: _,
+            substrate: _,
+            gate: _,
+            terminals: _,
+        } = self;
+    }
 }
 
 /// Two nodes of the cell and the cells below it that are one, each by its path from the cell.

@@ -35,7 +35,6 @@ use std::alloc::{AllocError, Global};
 use std::marker::Model;
 
 /// A record as far as its lines are read. Contracts see it as a record of its parts.
-#[derive(Drop)]
 pub struct ExtDraft {
     alloc: Global,
     seen: Seen,
@@ -50,6 +49,26 @@ pub struct ExtDraft {
     owners: Vec<usize>,
     transistors: Vec<FetRec>,
     joins: Vec<MergeRow>,
+}
+
+impl Drop for ExtDraft {
+    fn drop(self) {
+        let ExtDraft {
+            alloc: _,
+            seen: _,
+            begun: _,
+            version: _,
+            tech: _,
+            classes: _,
+            arrays: _,
+            given: _,
+            nodes: _,
+            names: _,
+            owners: _,
+            transistors: _,
+            joins: _,
+        } = self;
+    }
 }
 
 impl Model for ExtDraft {
@@ -374,14 +393,29 @@ impl ExtDraft {
     pub fn into_record(self, cell: Name) -> ArrayExt
         ensures { result ≡ record_of cell self }
     {
+        let ExtDraft {
+            alloc: _,
+            seen: _,
+            begun: _,
+            version: _,
+            tech,
+            classes,
+            arrays,
+            given: _,
+            nodes,
+            names: _,
+            owners: _,
+            transistors,
+            joins,
+        } = self;
         ArrayExt {
             cell,
-            tech: self.tech,
-            classes: self.classes,
-            uses: List::of(self.arrays),
-            nodes: List::of(self.nodes),
-            fets: List::of(self.transistors),
-            merges: List::of(self.joins),
+            tech,
+            classes,
+            uses: List::of(arrays),
+            nodes: List::of(nodes),
+            fets: List::of(transistors),
+            merges: List::of(joins),
         }
     }
 }

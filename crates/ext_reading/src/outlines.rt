@@ -17,11 +17,20 @@ use std::alloc::{AllocError, Global};
 use text_scan::{Words, lines, words};
 
 /// The uses whose elements paths may begin with, those without a grid and all of them, and the number of the last line.
-#[derive(Drop)]
 pub struct Outline {
     pub singles: KnownElements,
     pub all: KnownElements,
     pub last: usize,
+}
+
+impl Drop for Outline {
+    fn drop(self) {
+        let Outline {
+            singles: _,
+            all: _,
+            last: _,
+        } = self;
+    }
 }
 
 impl Outline {

@@ -25,7 +25,6 @@ use tech_model::{Label, LayerId, Tech};
 use text_scan::words;
 
 /// A cell as far as its lines are read. Contracts see it as a record of its parts.
-#[derive(Drop)]
 pub struct MagDraft {
     alloc: Global,
     section: Section,
@@ -34,6 +33,20 @@ pub struct MagDraft {
     table: UseTable,
     marks: Vec<Label>,
     numbers: (u32, u32),
+}
+
+impl Drop for MagDraft {
+    fn drop(self) {
+        let MagDraft {
+            alloc: _,
+            section: _,
+            pending: _,
+            rects: _,
+            table: _,
+            marks: _,
+            numbers: _,
+        } = self;
+    }
 }
 
 impl Model for MagDraft {

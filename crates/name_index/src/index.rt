@@ -9,10 +9,15 @@ use std::alloc::{AllocError, Global};
 use std::marker::Model;
 
 /// Names, each once and in the order of arrival. Contracts see them as a list.
-#[derive(Drop)]
 pub struct NameIndex {
     alloc: Global,
     names: IndexSet<Vec<u8>>,
+}
+
+impl Drop for NameIndex {
+    fn drop(self) {
+        let NameIndex { alloc: _, names: _ } = self;
+    }
 }
 
 impl Model for NameIndex {

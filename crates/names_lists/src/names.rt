@@ -10,9 +10,15 @@ use std::marker::Model;
 /// A name of a cell, a node, a layer or a file. Contracts see it as the list of its bytes.
 ///
 /// A name of at most 16 bytes, as most are, stands in the value itself and takes no memory beside.
-#[derive(Debug, Drop)]
+#[derive(Debug)]
 pub struct Name {
     text: SmallVec<u8, 16>,
+}
+
+impl Drop for Name {
+    fn drop(self) {
+        let Name { text: _ } = self;
+    }
 }
 
 impl Model for Name {

@@ -3,7 +3,7 @@
 use names_lists::{List, Name};
 
 /// A transistor between two nodes.
-#[derive(Debug, Drop)]
+#[derive(Debug)]
 pub struct SimFet {
     /// The letter of its kind: e, n, p or d in a text that is read.
     pub letter: u8,
@@ -14,8 +14,20 @@ pub struct SimFet {
     pub numbers: [i128; 4],
 }
 
+impl Drop for SimFet {
+    fn drop(self) {
+        let SimFet {
+            letter: _,
+            gate: _,
+            source: _,
+            drain: _,
+            numbers: _,
+        } = self;
+    }
+}
+
 /// A circuit as a sim text spells it, each list in the order of its lines.
-#[derive(Debug, Drop)]
+#[derive(Debug)]
 pub struct SimFile {
     /// The technology's name.
     pub tech: Name,
@@ -24,6 +36,17 @@ pub struct SimFile {
     pub caps: List<(Name, i128)>,
     /// Nodes, each with another name that it has.
     pub aliases: List<(Name, Name)>,
+}
+
+impl Drop for SimFile {
+    fn drop(self) {
+        let SimFile {
+            tech: _,
+            fets: _,
+            caps: _,
+            aliases: _,
+        } = self;
+    }
 }
 
 /// What a line says.

@@ -12,13 +12,24 @@ use std::marker::Model;
 use text_form::{LineReader, read_text};
 
 /// A circuit as far as its lines are read. Contracts see it as the circuit.
-#[derive(Drop)]
 struct SimDraft {
     alloc: Global,
     tech_name: Name,
     transistors: Vec<SimFet>,
     capacitances: Vec<(Name, i128)>,
     other_names: Vec<(Name, Name)>,
+}
+
+impl Drop for SimDraft {
+    fn drop(self) {
+        let SimDraft {
+            alloc: _,
+            tech_name: _,
+            transistors: _,
+            capacitances: _,
+            other_names: _,
+        } = self;
+    }
 }
 
 impl Model for SimDraft {

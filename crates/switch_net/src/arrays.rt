@@ -26,7 +26,7 @@ pub struct Strengths {
 
 /// All arrays of a network: the switches sorted by their nodes, the nodes that are marked and those
 /// that are forced, the strengths, the states after a step and the nodes that the step changed.
-#[derive(Debug, Drop)]
+#[derive(Debug)]
 pub struct Work {
     pub adjacency: Adjacency,
     pub marks: NodeSet,
@@ -34,6 +34,19 @@ pub struct Work {
     pub strengths: Strengths,
     pub next: List<Level>,
     pub changed: List<u32>,
+}
+
+impl Drop for Work {
+    fn drop(self) {
+        let Work {
+            adjacency: _,
+            marks: _,
+            forced: _,
+            strengths: _,
+            next: _,
+            changed: _,
+        } = self;
+    }
 }
 
 impl Work {

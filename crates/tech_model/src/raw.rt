@@ -34,10 +34,19 @@ pub struct Label {
 /// A layer: its name and then its aliases, and its images, the one on its own plane first.
 ///
 /// A layer with one image is an atom or composed. One with more is a contact.
-#[derive(Debug, Drop)]
+#[derive(Debug)]
 pub struct LayerRec {
     pub names: List<Name>,
     pub images: List<TypeId>,
+}
+
+impl Drop for LayerRec {
+    fn drop(self) {
+        let LayerRec {
+            names: _,
+            images: _,
+        } = self;
+    }
 }
 
 /// A tile type: its plane, the layer that it is an image of, and its set.
@@ -62,7 +71,7 @@ pub struct ClassRec {
 
 /// A transistor type: the tile type of its channel, the types of its terminals, its name and the name of
 /// its substrate.
-#[derive(Debug, Drop)]
+#[derive(Debug)]
 pub struct FetRule {
     pub kind: TypeId,
     pub terminals: List<TypeId>,
@@ -70,11 +79,22 @@ pub struct FetRule {
     pub substrate: Name,
 }
 
+impl Drop for FetRule {
+    fn drop(self) {
+        let FetRule {
+            kind: _,
+            terminals: _,
+            name: _,
+            substrate: _,
+        } = self;
+    }
+}
+
 /// The lists of a technology file, in its order.
 ///
 /// Planes count from 0. A pair says that its two types connect: each pair stands once, where a `connect`
 /// line first gave it, and so does each type in a list of a class or of terminals.
-#[derive(Debug, Drop)]
+#[derive(Debug)]
 pub struct RawTech {
     pub name: Name,
     pub planes: List<Name>,
@@ -83,6 +103,20 @@ pub struct RawTech {
     pub pairs: List<(TypeId, TypeId)>,
     pub classes: List<ClassRec>,
     pub fets: List<FetRule>,
+}
+
+impl Drop for RawTech {
+    fn drop(self) {
+        let RawTech {
+            name: _,
+            planes: _,
+            layers: _,
+            types: _,
+            pairs: _,
+            classes: _,
+            fets: _,
+        } = self;
+    }
 }
 
 /// Whether the type is one of those.

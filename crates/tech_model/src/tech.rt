@@ -17,9 +17,14 @@ use std::alloc::Global;
 use std::marker::Model;
 
 /// A technology whose lists fit together and that keeps the rules. Contracts see it as its lists.
-#[derive(Drop)]
 pub struct Tech {
     lists: Indexed,
+}
+
+impl Drop for Tech {
+    fn drop(self) {
+        let Tech { lists: _ } = self;
+    }
 }
 
 impl Model for Tech {

@@ -43,11 +43,20 @@ fn is_edit(command: &Command) -> bool
 ///
 /// Between two calls the library may get new cells, if these use no cell from before, and nothing else. A log that is new or was forgotten fits
 /// every library.
-#[derive(Drop)]
 pub struct Log {
     alloc: Global,
     done: Trail,
     undone: Trail,
+}
+
+impl Drop for Log {
+    fn drop(self) {
+        let Log {
+            alloc: _,
+            done: _,
+            undone: _,
+        } = self;
+    }
 }
 
 impl Model for Log {
