@@ -28,6 +28,7 @@ mod type_lines;
 mod word_rules;
 
 /// A technology as far as the lines of its text were read.
+#[derive(Drop)]
 pub struct Draft {
     alloc: Global,
     index: LayerIndex,
@@ -42,26 +43,6 @@ pub struct Draft {
     used: Vec<TypeId>,
     results: Vec<TypeId>,
     capped: Vec<usize>,
-}
-
-impl Drop for Draft {
-    fn drop(self) {
-        let Draft {
-            alloc: _,
-            index: _,
-            name: _,
-            planes: _,
-            layers: _,
-            types: _,
-            pairs: _,
-            classes: _,
-            fets: _,
-            residues: _,
-            used: _,
-            results: _,
-            capped: _,
-        } = self;
-    }
 }
 
 impl Model for Draft {
@@ -164,19 +145,13 @@ impl Draft {
         ensures { result ≡ record self.raw { types = types.items } }
     {
         let Draft {
-            alloc: _,
-            index: _,
             name,
             planes,
             layers,
-            types: _,
             pairs,
             classes,
             fets,
-            residues: _,
-            used: _,
-            results: _,
-            capped: _,
+            ..
         } = self;
         RawTech {
             name,
