@@ -1,4 +1,4 @@
-//! Tests of the public calls on orders of uses, arenas, and the records of cells: tables worked by hand.
+//! Tests of the public calls on orders of uses, arenas, the records of cells, and files and devices: tables worked by hand.
 #![tactic(auto)]
 
 #[cfg(test)]
@@ -7,6 +7,8 @@ mod arena_calls;
 mod arena_many;
 #[cfg(test)]
 mod order_questions;
+#[cfg(test)]
+mod outside_calls;
 #[cfg(test)]
 mod record_copies;
 #[cfg(test)]

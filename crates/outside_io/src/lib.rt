@@ -20,8 +20,6 @@ mod limits;
 mod memory;
 mod outside;
 mod system;
-#[cfg(test)]
-mod tests;
 mod whole;
 
 pub use faultless::{FaultlessShelf, FaultlessSink, FaultlessSource};

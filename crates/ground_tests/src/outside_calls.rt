@@ -2,8 +2,11 @@
 
 ghost use Rattle.std.specs.Prelude.{◌≤◌, IfOk};
 
-use super::*;
 use names_lists::Name;
+use outside_io::{
+    Failed, FolderShelf, LONGEST_FILE, PutFault, ReaderSource, Shelf, ShelfFault, Sink, Source,
+    WriterSink,
+};
 use std::alloc::Global;
 use std::io::{ErrorKind, Read, Write};
 use std::test::Fail;
