@@ -1,11 +1,12 @@
 -- A library after an edit of one cell: it is lawful, and what is seen of it is what the edit says.
 use Rattle.std.proofs.Common.{◌≡◌, ◌<◌, ℕ, List, length, map, set, refl, sym, ap, subst, ◌∙◌, arith}
-use Rattle.std.specs.Prelude.{All}
+use Rattle.std.specs.Prelude.{All, Option}
 use Rattle.std.proofs.lemmas.List.{length-set, length-map, map-set}
 use Rattle.std.proofs.lemmas.List.Elements.{All-set}
 use Rattle.std.proofs.Math.Seq.{map-set_same}
 use Rattle.finite_sets.specs.Lists.{Distinct}
 use Rattle.cell_paint.specs.Paints.{layout_of}
+use Rattle.tech_model.specs.declared.raw.RawTech.{RawTech}
 use Rattle.cell_tree.specs.declared.use_tables.UseBody.{UseBody}
 use Rattle.cell_tree.specs.Sizes.{CellState}
 use Rattle.cell_tree.specs.Trees.{Tree, IsLawfulTree, IsEdited, cell_at}
@@ -16,6 +17,10 @@ use Rattle.cell_library.specs.OwnBoxes.{OwnBoxIs}
 use Rattle.cell_library.specs.Seen.{cell_view, cell_views}
 use Rattle.cell_library.specs.Views.{CellView, changed_at}
 use Rattle.cell_library.proofs.ViewLaws.{cell_changed, states_changed, unchanged_seen, uses_at}
+
+-- a cell that is seen is among those that are kept
+pub here : {kept told : LibraryParts} {cell : ℕ} → kept ≡ told → cell < length told.contents → cell < length kept.contents
+here {kept} {told} {cell} is below = subst (λ (l : LibraryParts). cell < length l.contents) (sym is) below
 
 -- the uses are lists for as many cells as there are contents
 pub uses_long : (library : LibraryParts) → IsLawfulLibrary library → length (uses_in library.tree.cells) ≡ length library.contents
@@ -113,6 +118,6 @@ refused_lawful library contents tree cell lawful below repainted still =
     kept_lawful (record { tech = library.tech; scale = library.scale; contents = contents; tree = library.tree }) contents tree now refl still
 
 -- a library of which the cells are seen to be these
-pub seen_cells : (library : LibraryParts) (contents : List Held) (tree : Tree) (cells : List CellView) → cells_seen contents tree ≡ cells
-    → seen (record { tech = library.tech; scale = library.scale; contents = contents; tree = tree }) ≡ record (seen library) { cells = cells }
-seen_cells library contents tree cells is = λ i. record { tech = library.tech; scale = library.scale; cells = is i }
+pub seen_cells : (tech : RawTech) (scale : Option (ℕ × ℕ)) (contents : List Held) (tree : Tree) (cells : List CellView) → cells_seen contents tree ≡ cells
+    → seen (record { tech = tech; scale = scale; contents = contents; tree = tree }) ≡ record { tech = tech; scale = scale; cells = cells }
+seen_cells tech scale contents tree cells is = λ i. record { tech = tech; scale = scale; cells = is i }

@@ -263,7 +263,7 @@ module _ (library : LibraryParts) (lawful : IsLawfulLibrary library) (cell : ℕ
       pub inserted_view : seen (record { tech = library.tech; scale = library.scale; contents = library.contents; tree = tree })
           ≡ with_use_at (seen library) cell at id used
       inserted_view =
-          seen_cells library library.contents tree
+          seen_cells library.tech library.scale library.contents tree
           (changed_at (cells_seen library.contents library.tree) cell (λ body. record body { uses = insert body.uses at (id, used) }))
           (uses_edit_seen library lawful cell below tree (with_inserted (cell_at library.tree.cells cell) at id used) (λ uses. insert uses at (id, used))
           done.edited refl)
@@ -292,7 +292,7 @@ module _ (library : LibraryParts) (lawful : IsLawfulLibrary library) (cell : ℕ
       pub regridded_view : seen (record { tech = library.tech; scale = library.scale; contents = library.contents; tree = tree })
           ≡ regridded (seen library) cell id grid
       regridded_view =
-          seen_cells library library.contents tree
+          seen_cells library.tech library.scale library.contents tree
           (changed_at (cells_seen library.contents library.tree) cell
           (λ body. record body { uses = with_use_changed (λ used. record used { grid = grid }) id body.uses }))
           (uses_edit_seen library lawful cell below tree (with_moved (cell_at library.tree.cells cell) done.k done.used.placed grid)

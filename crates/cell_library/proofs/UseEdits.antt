@@ -372,7 +372,7 @@ module _ (library : LibraryParts) (lawful : IsLawfulLibrary library) (cell : ℕ
     pub placed_view : seen (record { tech = library.tech; scale = library.scale; contents = library.contents; tree = tree })
         ≡ placed (seen library) cell child id six
     placed_view =
-        seen_cells library library.contents tree
+        seen_cells library.tech library.scale library.contents tree
         (changed_at (cells_seen library.contents library.tree) cell (λ body. record body { uses = body.uses ++ (id, single_use child done.transform) ∷ [] }))
         (uses_edit_seen library lawful cell below tree (with_placed (cell_at library.tree.cells cell) id (single_use child done.transform))
         (λ uses. uses ++ (id, single_use child done.transform) ∷ []) done.edited refl)

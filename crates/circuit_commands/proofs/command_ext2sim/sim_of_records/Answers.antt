@@ -10,7 +10,7 @@ use Rattle.line_answers.proofs.AnswerLaws.{both_ok}
 use Rattle.circuit_commands.proofs.CircuitInside.{written_inside}
 use Rattle.circuit_commands.proofs.TreeCommands.{refuses_records, writes_tree}
 use Rattle.circuit_commands.proofs.command_ext2sim.sim_of_records.Goals as goal
-use Rattle.circuit_commands.proofs.command_ext2sim.sim_of_records.Goals.{in-NoCell+in-Heap-1, in-NoCell+in-Inline-1, in-Cycle+in-Heap-1, in-Cycle+in-Inline-1, in-Classes+in-Heap-1, in-Classes+in-Inline-1, in-NoPath+in-Heap-1, in-NoPath+in-Inline-1, in-TooMany-1}
+use Rattle.circuit_commands.proofs.command_ext2sim.sim_of_records.Goals.{in-NoCell-1, in-Cycle-1, in-Classes-1, in-NoPath-1, in-TooMany-1}
 
 pub flatten_into-requires-clause-fit : goal.flatten_into-requires-clause-fit
 flatten_into-requires-clause-fit c = c.flat_transistor_has_letter_and_lengths.ensures
@@ -39,14 +39,10 @@ returns-in-Err-clause-effect c files read =
     let is : IsFlatFaultOf (plains c.args.exts.now) c.args.cell.now c.in-Err.fault = elim c.in-Err.ensures.fault [
       | inr is ↦ is
       | inl memory ↦ elim c.match-fault.branch [
-        | in-NoCell+in-Heap-1 w ↦ search rules
-        | in-NoCell+in-Inline-1 w ↦ search rules
-        | in-Cycle+in-Heap-1 w ↦ search rules
-        | in-Cycle+in-Inline-1 w ↦ search rules
-        | in-Classes+in-Heap-1 w ↦ search rules
-        | in-Classes+in-Inline-1 w ↦ search rules
-        | in-NoPath+in-Heap-1 w ↦ search rules
-        | in-NoPath+in-Inline-1 w ↦ search rules
+        | in-NoCell-1 w ↦ search rules
+        | in-Cycle-1 w ↦ search rules
+        | in-Classes-1 w ↦ search rules
+        | in-NoPath-1 w ↦ search rules
         | in-TooMany-1 w ↦ search rules
       ]
     ] in

@@ -1,15 +1,12 @@
-use Rattle.std.proofs.Common.{◌≡◌, ◌<◌, ℕ, length, refl, sym, subst, inl, inr}
+use Rattle.std.proofs.Common.{ℕ, length, refl, subst, sym, inl, inr}
 use Rattle.std.proofs.lemmas.Result.{on_ok_weaker, on_err_weaker}
 use Rattle.cell_paint.specs.Paints.{IsSoundPaint}
 use Rattle.cell_paint.specs.Pieces.{with_pieces, CanStandIn}
-use Rattle.cell_library.specs.Contents.{IsRepainted}
-use Rattle.cell_library.specs.Libraries.{LibraryParts, seen, edits_of}
-use Rattle.cell_library.specs.steps.OwnRestorations.{IsPutBackIn}
-use Rattle.cell_library.specs.Refusals.{EditIsRefused, HasFaultOrLacksMemory, NothingElse}
 use Rattle.cell_library.specs.LawfulViews.{IsLawfulView}
+use Rattle.cell_library.specs.Libraries.{LibraryParts, seen}
 use Rattle.cell_library.specs.Restorations.{repainted}
 use Rattle.cell_library.specs.Views.{view_at}
-use Rattle.cell_library.proofs.EditLaws.{refused_same, refused_lawful, seen_cells}
+use Rattle.cell_library.proofs.EditLaws.{here, refused_same, refused_lawful, seen_cells}
 use Rattle.cell_library.proofs.FaultLaws.{ok_or_err, both_err, answers_memory}
 use Rattle.cell_library.proofs.OwnRestorations.{has_room, nothing_refused, put_seen, put_lawful, sound_here}
 use Rattle.cell_library.proofs.PaintEdits.{held_lawful, own_is}
@@ -17,115 +14,49 @@ use Rattle.cell_library.proofs.library.Library.put_back.Goals as goal
 
 pub put_back_cell-done-requires-clause-pieces : goal.put_back_cell-done-requires-clause-pieces
 put_back_cell-done-requires-clause-pieces c =
-    let library : LibraryParts = record {
-      tech = c.self.inside.tech;
-      scale = c.self.inside.scale;
-      contents = c.self.inside.contents;
-      tree = c.self.inside.tree;
-    } in
-    let below : c.args.cell.0 < length c.self.inside.contents = subst (λ (l : LibraryParts). c.args.cell.0 < length l.contents) (sym c.self.view_is)
-    c.requires.cell in
-    subst (λ (count : ℕ). CanStandIn c.args.area count c.args.pieces.now) (sym (held_lawful library c.self.invariant c.args.cell.0 below).planes)
+    subst (λ (count : ℕ). CanStandIn c.args.area count c.args.pieces.now)
+    (sym (held_lawful _ c.self.invariant _ (here c.self.view_is c.requires.cell)).planes)
     (subst (λ (l : LibraryParts). CanStandIn c.args.area (length l.tech.planes) c.args.pieces.now) (sym c.self.view_is) c.requires.pieces)
 
 pub put_back_cell-done-requires-clause-sound : goal.put_back_cell-done-requires-clause-sound
 put_back_cell-done-requires-clause-sound c =
-    let library : LibraryParts = record {
-      tech = c.self.inside.tech;
-      scale = c.self.inside.scale;
-      contents = c.self.inside.contents;
-      tree = c.self.inside.tree;
-    } in
-    let below : c.args.cell.0 < length c.self.inside.contents = subst (λ (l : LibraryParts). c.args.cell.0 < length l.contents) (sym c.self.view_is)
-    c.requires.cell in
-    sound_here library c.self.invariant c.args.cell.0 below c.args.area c.args.pieces.now
+    sound_here _ c.self.invariant _ (here c.self.view_is c.requires.cell) _ _
     (subst (λ (l : LibraryParts). IsSoundPaint l.tech.types (with_pieces c.args.area c.args.pieces.now (view_at (seen l) c.args.cell.0).own))
     (sym c.self.view_is) c.requires.sound)
 
 pub put_back_cell-done-requires-clause-room : goal.put_back_cell-done-requires-clause-room
 put_back_cell-done-requires-clause-room c =
-    let library : LibraryParts = record {
-      tech = c.self.inside.tech;
-      scale = c.self.inside.scale;
-      contents = c.self.inside.contents;
-      tree = c.self.inside.tree;
-    } in
-    let below : c.args.cell.0 < length c.self.inside.contents = subst (λ (l : LibraryParts). c.args.cell.0 < length l.contents) (sym c.self.view_is)
-    c.requires.cell in
-    has_room library c.self.invariant c.args.cell.0 below (λ body. record body { own = with_pieces c.args.area c.args.pieces.now body.own }) refl
+    has_room _ c.self.invariant _ (here c.self.view_is c.requires.cell)
+    (λ body. record body { own = with_pieces c.args.area c.args.pieces.now body.own }) refl
     (subst (λ (l : LibraryParts). IsLawfulView (repainted (seen l) c.args.cell.0 c.args.area c.args.pieces.now)) (sym c.self.view_is) c.requires.lawful)
 
 pub put_back_cell-done-requires-clause-own : goal.put_back_cell-done-requires-clause-own
-put_back_cell-done-requires-clause-own c =
-    let library : LibraryParts = record {
-      tech = c.self.inside.tech;
-      scale = c.self.inside.scale;
-      contents = c.self.inside.contents;
-      tree = c.self.inside.tree;
-    } in
-    let below : c.args.cell.0 < length c.self.inside.contents = subst (λ (l : LibraryParts). c.args.cell.0 < length l.contents) (sym c.self.view_is)
-    c.requires.cell in
-    own_is library c.self.invariant c.args.cell.0 below
+put_back_cell-done-requires-clause-own c = own_is _ c.self.invariant _ (here c.self.view_is c.requires.cell)
 
 pub invariant_of-self : goal.invariant_of-self
 invariant_of-self c =
-    let library : LibraryParts = record {
-      tech = c.self.inside.tech;
-      scale = c.self.inside.scale;
-      contents = c.self.inside.contents;
-      tree = c.self.inside.tree;
-    } in
-    let below : c.args.cell.0 < length c.self.inside.contents = subst (λ (l : LibraryParts). c.args.cell.0 < length l.contents) (sym c.self.view_is)
-    c.requires.cell in
+    let below = here c.self.view_is c.requires.cell in
     let step = c.put_back_cell-done in
-    elim (ok_or_err (IsPutBackIn c.args.area c.args.pieces.now c.args.cell.0 c.self.inside.contents step.new.contents c.self.inside.tree step.new.tree) _
-    step.result step.ensures.done (both_err _ _ step.result step.ensures.kept step.ensures.same)) [
-      | inl done ↦ put_lawful library c.self.invariant c.args.cell.0 below c.args.area c.args.pieces.now step.new.contents step.new.tree done
-          c.lawful.ensures
-      | inr kept ↦ refused_lawful library step.new.contents step.new.tree c.args.cell.0 c.self.invariant below kept.0 kept.1
+    elim (ok_or_err _ _ step.result step.ensures.done (both_err _ _ step.result step.ensures.kept step.ensures.same)) [
+      | inl done ↦ put_lawful _ c.self.invariant _ below _ _ _ _ done c.lawful.ensures
+      | inr kept ↦ refused_lawful _ _ _ _ c.self.invariant below kept.0 kept.1
     ]
 
 pub returns-clause-answers : goal.returns-clause-answers
 returns-clause-answers c =
-    let library : LibraryParts = record {
-      tech = c.self.inside.tech;
-      scale = c.self.inside.scale;
-      contents = c.self.inside.contents;
-      tree = c.self.inside.tree;
-    } in
     let step = c.put_back_cell-done in
-    rw (← c.self.view_is) (answers_memory (IsPutBackIn c.args.area c.args.pieces.now c.args.cell.0 c.self.inside.contents step.new.contents
-    c.self.inside.tree step.new.tree) (EditIsRefused (edits_of library) NothingElse)
-    (HasFaultOrLacksMemory (EditIsRefused (edits_of library) NothingElse)) step.result step.ensures.done
-    (λ done fault. nothing_refused (edits_of library) fault done.edits) step.ensures.fault (λ told fault. fault))
+    rw (← c.self.view_is) (answers_memory _ _ _ step.result step.ensures.done (λ done fault. nothing_refused _ fault done.edits) step.ensures.fault
+    (λ told fault. fault))
 
 pub returns-clause-put : goal.returns-clause-put
 returns-clause-put c =
-    let library : LibraryParts = record {
-      tech = c.self.inside.tech;
-      scale = c.self.inside.scale;
-      contents = c.self.inside.contents;
-      tree = c.self.inside.tree;
-    } in
-    let below : c.args.cell.0 < length c.self.inside.contents = subst (λ (l : LibraryParts). c.args.cell.0 < length l.contents) (sym c.self.view_is)
-    c.requires.cell in
+    let below = here c.self.view_is c.requires.cell in
     let step = c.put_back_cell-done in
-    rw (← c.self.view_is) (on_ok_weaker step.result (λ (done : IsPutBackIn c.args.area c.args.pieces.now c.args.cell.0 c.self.inside.contents
-    step.new.contents c.self.inside.tree step.new.tree).
-    seen_cells library step.new.contents step.new.tree (repainted (seen library) c.args.cell.0 c.args.area c.args.pieces.now).cells
-    (put_seen library c.self.invariant c.args.cell.0 below c.args.area c.args.pieces.now step.new.contents step.new.tree done c.lawful.ensures))
-    step.ensures.done)
+    rw (← c.self.view_is) (on_ok_weaker step.result (λ done. seen_cells _ _ step.new.contents step.new.tree _
+    (put_seen _ c.self.invariant _ below _ _ _ _ done c.lawful.ensures)) step.ensures.done)
 
 pub returns-clause-refused : goal.returns-clause-refused
 returns-clause-refused c =
-    let library : LibraryParts = record {
-      tech = c.self.inside.tech;
-      scale = c.self.inside.scale;
-      contents = c.self.inside.contents;
-      tree = c.self.inside.tree;
-    } in
     let step = c.put_back_cell-done in
-    rw (← c.self.view_is) (on_err_weaker step.result (λ (kept : IsRepainted c.self.inside.contents step.new.contents c.args.cell.0 (λ own. own)
-    × (step.new.tree ≡ c.self.inside.tree)).
-    refused_same library step.new.contents step.new.tree c.args.cell.0 c.self.invariant kept.0 kept.1) (both_err _ _ step.result step.ensures.kept
-    step.ensures.same))
+    rw (← c.self.view_is) (on_err_weaker step.result (λ kept. refused_same _ _ _ _ c.self.invariant kept.0 kept.1)
+    (both_err _ _ step.result step.ensures.kept step.ensures.same))
