@@ -3,3 +3,10 @@ mod SameNodes
 mod SameFets
 mod SameCircuits
 mod Writable
+mod LawfulElements
+mod FetSwitches
+mod FlatNames
+mod FewNodes
+mod FittingNetworks
+mod FlatLetters
+mod FlatNumbers

@@ -1,1 +1,4 @@
+-- what crates above name of those below
+pub use Rattle.tree_records.specs as TreeRecords
 pub mod CircuitLaws
+pub mod NetworkLaws

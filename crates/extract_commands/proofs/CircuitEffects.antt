@@ -4,13 +4,13 @@ use Rattle.session_model.specs.Effects.{Effect}
 use Rattle.ext_model.specs.declared.circuits.Circuit.{Circuit}
 use Rattle.circuit_model.specs.declared.limits.CircuitLimit.{CircuitLimit}
 use Rattle.cell_library.specs.Views.{LibraryView}
-use Rattle.square_lines.specs.HierMerge.UncleanCells.{IsCleanCell}
+use Rattle.library_answers.specs.HierMerge.UncleanCells.{IsCleanCell}
 use Rattle.circuit_commands.specs.declared.circuits.CircuitFile.{CircuitFile}
 use Rattle.circuit_commands.specs.declared.circuits.Written.{Written}
 use Rattle.circuit_commands.specs.declared.circuits.Written.TheVariants.{Passed, Stored}
 use Rattle.circuit_commands.specs.declared.limits.Limit.TheVariants.{Circuit as OfCircuit, Switches, Text}
 use Rattle.circuit_commands.specs.Circuits.{IsWritten, lines_of, stores_of}
-use Rattle.circuit_uniqueness.specs.Ext2simEffects.{WrittenCircuitsAreUnique}
+use Rattle.uniqueness.specs.Ext2simEffects.{WrittenCircuitsAreUnique}
 use Rattle.workspace.specs.declared.extractions.Extraction.{Extraction}
 use Rattle.workspace.specs.CellCircuits.{IsCircuitAt, PassesAt}
 use Rattle.workspace.specs.Extractions.{RefusesUnclean, with_clean}

@@ -6,9 +6,9 @@ use Rattle.circuit_model.specs.declared.limits.CircuitLimit.{CircuitLimit}
 use Rattle.cell_library.specs.Views.{LibraryView, view_at}
 use Rattle.library_trees.specs.NamedCells.{named_tree_at}
 use Rattle.library_trees.specs.TreeRecords.TreeRecords.{HasTreeRecords}
-use Rattle.record_uniqueness.specs.RecordUniqueness.{RecordsOfTreesAreUnique}
-use Rattle.square_lines.specs.HierMerge.UncleanCells.{IsCleanCell}
-use Rattle.circuit_uniqueness.specs.FlatCircuits.{AgreeBelow, FlatCircuitsAreUnique, FlatCircuitsHaveNoFault, FlatFaultsAreUnique}
+use Rattle.uniqueness.specs.RecordUniqueness.{RecordsOfTreesAreUnique}
+use Rattle.library_answers.specs.HierMerge.UncleanCells.{IsCleanCell}
+use Rattle.uniqueness.specs.FlatCircuits.{AgreeBelow, FlatCircuitsAreUnique, FlatCircuitsHaveNoFault, FlatFaultsAreUnique}
 use Rattle.extract_commands.specs.OneCircuits.{CellCircuitsAreUnique, CellCircuitsPassNoLimit, CellLimitsAreUnique}
 use Rattle.cell_library.specs.LawfulViews.{IsSoundView}
 use Rattle.extract_commands.proofs.ReachedRecords.{agree_below}

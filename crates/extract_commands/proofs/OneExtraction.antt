@@ -9,11 +9,11 @@ use Rattle.session_model.specs.declared.report.ReportLine.{ReportLine}
 use Rattle.session_model.specs.Effects.{Effect}
 use Rattle.cell_library.specs.Additions.{children_in}
 use Rattle.cell_library.specs.Views.{LibraryView, view_at}
-use Rattle.own_record_uniqueness.specs.OwnUniqueness.{UnattachedTextsAreUnique}
-use Rattle.square_lines.specs.HierMerge.UncleanCells.{IsCleanCell}
-use Rattle.library_uniqueness.specs.UncleanCells.{CleanCellsHaveNoneBelow, UncleanCellsBelowAreUnique}
+use Rattle.uniqueness.specs.OwnUniqueness.{UnattachedTextsAreUnique}
+use Rattle.library_answers.specs.HierMerge.UncleanCells.{IsCleanCell}
+use Rattle.uniqueness.specs.UncleanCells.{CleanCellsHaveNoneBelow, UncleanCellsBelowAreUnique}
 use Rattle.line_answers.specs.Refusals.{refusal_line}
-use Rattle.square_lines.specs.Offending.{offending_line}
+use Rattle.library_answers.specs.Offending.{offending_line}
 use Rattle.workspace.specs.Extractions.{MakesRecord, MakesRecords, ext_store, unattached_line, unclean_refusal}
 use Rattle.workspace.specs.States.{State}
 use Rattle.extract_commands.specs.OneExtractions.{ExtractedCellsAreNotRefused, ExtractionsAreUnique, UncleanRefusalsAreUnique}

@@ -16,8 +16,8 @@ use Rattle.library_trees.specs.TreeRecords.NamedTrees.NamedElements.{element_the
 use Rattle.library_trees.specs.TreeNames.CleanTrees.{IsCleanTree}
 use Rattle.library_trees.specs.TreeRecords.TreeRecords.{HasTreeRecords, HaveTreeRecords, use_records}
 use Rattle.library_trees.proofs.TreeNames.CleanTrees.{AreCleanTrees, clean_below, clean_first, clean_rest}
-use Rattle.record_uniqueness.specs.RecordUniqueness.{IsFoundInBoth, RecordsOfTreesAreUnique}
-use Rattle.circuit_uniqueness.specs.FlatCircuits.{AgreeBelow, UsesName}
+use Rattle.uniqueness.specs.RecordUniqueness.{IsFoundInBoth, RecordsOfTreesAreUnique}
+use Rattle.uniqueness.specs.FlatCircuits.{AgreeBelow, UsesName}
 
 -- the names of the cells that uses lead to
 abbrev used_names : List UseRec → List (List ℕ)

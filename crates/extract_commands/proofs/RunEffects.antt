@@ -9,12 +9,12 @@ use Rattle.ext_model.specs.declared.circuits.Circuit.{Circuit}
 use Rattle.circuit_model.specs.declared.limits.CircuitLimit.{CircuitLimit}
 use Rattle.cell_library.specs.Views.{LibraryView}
 use Rattle.line_answers.specs.Refusals.{refusal_line, too_many}
-use Rattle.square_lines.specs.HierMerge.UncleanCells.{IsCleanCell}
+use Rattle.library_answers.specs.HierMerge.UncleanCells.{IsCleanCell}
 use Rattle.circuit_commands.specs.Refusals.{circuit_limit_word}
 use Rattle.network_runs.specs.declared.network_runs.NetworkRun.{NetworkRun}
 use Rattle.network_runs.specs.NetworkRuns.{TellsCircuit}
 use Rattle.network_runs.specs.Simulations.{vec_file}
-use Rattle.simulation_uniqueness.specs.Simulations.{CircuitAnswersAreUnique}
+use Rattle.uniqueness.specs.Simulations.{CircuitAnswersAreUnique}
 use Rattle.workspace.specs.declared.extractions.Extraction.{Extraction}
 use Rattle.workspace.specs.Extractions.{with_clean}
 use Rattle.workspace.specs.States.{State}

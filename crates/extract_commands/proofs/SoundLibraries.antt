@@ -21,10 +21,10 @@ use Rattle.library_trees.specs.TreeRecords.NamedTrees.{NamedTree, own_body}
 use Rattle.library_trees.specs.TreeNames.CleanTrees.{IsCleanTree}
 use Rattle.library_trees.proofs.CleanTrees.{clean_tree}
 use Rattle.library_trees.proofs.WholeTrees.{named_tree_unfolds}
-use Rattle.library_record_uniqueness.proofs.OneRecord.{one_record}
-use Rattle.square_lines.specs.HierMerge.UncleanCells.{IsCleanCell, IsUncleanBelow}
-use Rattle.library_uniqueness.proofs.CleanBelow.{all_are_clean}
-use Rattle.library_uniqueness.specs.UncleanCells.{CleanCellsHaveNoneBelow}
+use Rattle.uniqueness.proofs.OneRecord.{one_record}
+use Rattle.library_answers.specs.HierMerge.UncleanCells.{IsCleanCell, IsUncleanBelow}
+use Rattle.uniqueness.proofs.CleanBelow.{all_are_clean}
+use Rattle.uniqueness.specs.UncleanCells.{CleanCellsHaveNoneBelow}
 
 -- ---- what is said of a library
 

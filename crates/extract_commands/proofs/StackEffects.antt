@@ -7,7 +7,7 @@ use Rattle.session_model.specs.Effects.{Effect}
 use Rattle.cell_library.specs.Views.{CellView, LibraryView}
 use Rattle.layout_gen.specs.Generated.{IsGenerated, array_cell, row_grid, row_name, stack_grid, stack_name, tile_cell, with_generated}
 use Rattle.network_runs.specs.declared.network_runs.NetworkRun.TheVariants.{Stack}
-use Rattle.simulation_uniqueness.specs.Simulations.{CircuitAnswersAreUnique}
+use Rattle.uniqueness.specs.Simulations.{CircuitAnswersAreUnique}
 use Rattle.workspace.specs.States.{State, Workspace}
 use Rattle.extract_commands.specs.CellRuns.{RunsExtracted}
 use Rattle.extract_commands.specs.CommandGenerate.{GeneratesStack, MakesStack, forgets_edits, is_refused, stack_cell, unless_refused, with_stack}

@@ -3,7 +3,7 @@ use Rattle.std.specs.Prelude.{◌≡◌, ◌<◌, ℕ, length}
 use Rattle.ext_model.specs.declared.circuits.Circuit.{Circuit}
 use Rattle.circuit_model.specs.declared.limits.CircuitLimit.{CircuitLimit}
 use Rattle.cell_library.specs.Views.{LibraryView}
-use Rattle.square_lines.specs.HierMerge.UncleanCells.{IsCleanCell}
+use Rattle.library_answers.specs.HierMerge.UncleanCells.{IsCleanCell}
 use Rattle.workspace.specs.CellCircuits.{IsCircuitAt, PassesAt}
 use Rattle.cell_library.specs.LawfulViews.{IsSoundView}
 

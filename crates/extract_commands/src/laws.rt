@@ -4,11 +4,10 @@ ghost use Rattle.extract_commands.specs.OneExtractions.{ExtractedCellsAreNotRefu
 ghost use Rattle.extract_commands.specs.OneEffects.{CircuitMeansOneEffect, ExtractMeansOneEffect, GenerateMeansOneEffect};
 ghost use Rattle.extract_commands.specs.OneEffects.{VectorsMeansOneEffect};
 
-use circuit_uniqueness::{flat_circuits_are_unique, written_circuits_are_unique};
-use library_uniqueness::unclean_cells_are_unique;
-use own_record_uniqueness::unattached_texts_are_unique;
-use record_uniqueness::records_of_trees_are_unique;
-use simulation_uniqueness::circuit_answers_are_unique;
+use uniqueness::{
+    circuit_answers_are_unique, flat_circuits_are_unique, records_of_trees_are_unique,
+    unattached_texts_are_unique, unclean_cells_are_unique, written_circuits_are_unique,
+};
 
 /// A cell of a lawful library has one extraction, or is refused with one effect.
 pub fn extractions_are_unique()

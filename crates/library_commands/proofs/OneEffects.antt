@@ -18,10 +18,10 @@ use Rattle.undo_log.specs.declared.faults.UndoFault.{UndoFault}
 use Rattle.undo_log.specs.Versions.{Return, versions_after}
 use Rattle.library_answers.specs.Refusals.{edit_refusal, load_refusal, undo_refusal}
 use Rattle.library_answers.specs.Replies.{loaded_text}
-use Rattle.library_uniqueness.proofs.CommandFaults.{one_refusal}
-use Rattle.library_uniqueness.specs.UncleanCells.{UncleanCellsBelowAreUnique}
+use Rattle.uniqueness.proofs.CommandFaults.{one_refusal}
+use Rattle.uniqueness.specs.UncleanCells.{UncleanCellsBelowAreUnique}
 use Rattle.cell_loading.specs.declared.faults.LoadFault.{LoadFault}
-use Rattle.loading_uniqueness.proofs.OneLoad.{not_both, same_load, same_refusal}
+use Rattle.uniqueness.proofs.OneLoad.{not_both, same_load, same_refusal}
 use Rattle.look_commands.specs.declared.looks.Look.{Look}
 use Rattle.look_commands.specs.Looks.{Tells}
 use Rattle.workspace.specs.States.{State, Workspace}

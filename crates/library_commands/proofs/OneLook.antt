@@ -6,12 +6,12 @@ use Rattle.session_model.specs.declared.report.ReportLine.{ReportLine}
 use Rattle.cell_library.specs.Libraries.{IsLawfulLibrary, LibraryParts, seen}
 use Rattle.cell_library.specs.Views.{LibraryView, view_at}
 use Rattle.cell_library.proofs.ViewLaws.{count_seen}
-use Rattle.library_uniqueness.proofs.CleanBelow.{none_unclean}
-use Rattle.library_uniqueness.proofs.LawfulUses.{uses_lead_to_cells}
-use Rattle.library_uniqueness.proofs.OneText.{one_text}
-use Rattle.library_uniqueness.specs.UncleanCells.{UncleanCellsBelowAreUnique}
+use Rattle.uniqueness.proofs.CleanBelow.{none_unclean}
+use Rattle.uniqueness.proofs.LawfulUses.{uses_lead_to_cells}
+use Rattle.uniqueness.proofs.OneText.{one_text}
+use Rattle.uniqueness.specs.UncleanCells.{UncleanCellsBelowAreUnique}
 use Rattle.workspace.specs.Offending.{offending_line}
-use Rattle.own_record_uniqueness.proofs.SameNodes.{node_records_are_one}
+use Rattle.uniqueness.proofs.SameNodes.{node_records_are_one}
 use Rattle.look_commands.specs.declared.looks.Look.{Look}
 use Rattle.look_commands.specs.declared.looks.Look.TheVariants.{Nodes, Save, Squares}
 use Rattle.look_commands.specs.CommandNodes.{TellsNodes, node_lines}

@@ -4,7 +4,7 @@ ghost use Rattle.library_commands.specs.OneEffects.{ReturnMeansOneEffect, TechMe
 
 use cif_commands::cif_commands_mean_one_effect;
 use drc_commands::drc_means_one_effect;
-use library_uniqueness::unclean_cells_are_unique;
+use uniqueness::unclean_cells_are_unique;
 
 /// Each command on a library has one effect, for each number of its line, state and files.
 pub fn library_lines_have_one_effect()

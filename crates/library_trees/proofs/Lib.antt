@@ -15,3 +15,4 @@ pub mod AgreeingViews
 pub mod EditedTrees
 pub mod StampedTrees
 pub mod CleanTrees
+pub mod LabelLaws

@@ -5,7 +5,7 @@ use Rattle.cell_library.specs.Views.{LibraryView, view_at}
 use Rattle.hier_merge.specs.UncleanCells.{IsCleanCell, IsUncleanBelow}
 use Rattle.session_model.specs.declared.report.ReportLine.{ReportLine}
 use Rattle.line_answers.specs.LineEffects.{reply}
-use Rattle.square_lines.specs.Offending.{offending_line}
+use Rattle.library_answers.specs.Offending.{offending_line}
 
 -- `clean CELL`
 abbrev pub clean_text : List ℕ → List ℕ

@@ -14,7 +14,7 @@ use hier_merge::offending_of;
 use line_answers::{append_with_name, one_line, reply};
 use names_lists::{List, Name};
 use session_model::{Halt, ReportLine};
-use square_lines::offending_lines;
+use library_answers::offending_lines;
 use std::alloc::{AllocError, Global};
 use std::marker::Brand;
 use std::sync::ledger::{Blank, Ledger};

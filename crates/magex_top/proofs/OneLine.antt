@@ -11,8 +11,8 @@ use Rattle.script_lines.specs.Commands.{command_of}
 use Rattle.line_answers.specs.LineEffects.{FreeEffect, LeavesState}
 use Rattle.look_commands.specs.declared.looks.Look.TheVariants as look
 use Rattle.circuit_commands.specs.declared.circuits.CircuitFile.TheVariants as file
-use Rattle.circuit_uniqueness.specs.Ext2simEffects.{Ext2simMeansOneEffect}
-use Rattle.simulation_uniqueness.specs.Simulations.{SimrunMeansOneEffect}
+use Rattle.uniqueness.specs.Ext2simEffects.{Ext2simMeansOneEffect}
+use Rattle.uniqueness.specs.Simulations.{SimrunMeansOneEffect}
 use Rattle.extract_commands.specs.declared.command_vectors.VectorQuestion.TheVariants as question
 use Rattle.extract_commands.specs.OneEffects.{CircuitMeansOneEffect, ExtractMeansOneEffect, GenerateMeansOneEffect, VectorsMeansOneEffect}
 use Rattle.cif_commands.specs.OneEffects.{CifstatMeansOneEffect}

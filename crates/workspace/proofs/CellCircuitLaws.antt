@@ -11,16 +11,16 @@ use Rattle.circuit_model.specs.declared.limits.CircuitLimit.TheVariants.{Nodes, 
 use Rattle.circuit_model.specs.Elements.{AreRecords, ext_of}
 use Rattle.circuit_model.specs.Refusals.{IsFlatFaultOf, IsFlatOf}
 use Rattle.circuit_laws.specs.CircuitLaws.{FlatTransistorsHaveLetterAndLengths}
-use Rattle.square_lines.specs.HierMerge.UncleanCells.{IsCleanCell}
+use Rattle.library_answers.specs.HierMerge.UncleanCells.{IsCleanCell}
 use Rattle.cell_library.specs.Libraries.{IsLawfulLibrary, LibraryParts, seen}
 use Rattle.cell_library.specs.Views.{view_at}
-use Rattle.network_laws.specs.TreeRecords.NamedTrees.{own_body}
-use Rattle.network_laws.specs.TreeRecords.TreeRecords.{HasTreeRecords}
+use Rattle.circuit_laws.specs.TreeRecords.NamedTrees.{own_body}
+use Rattle.circuit_laws.specs.TreeRecords.TreeRecords.{HasTreeRecords}
 use Rattle.tree_circuits.specs.Laws.{RecordsStandForTheFlatLayout, TreeRecordsHaveNoOtherFault}
 use Rattle.library_trees.specs.Laws.{AreChainsShort, CleanCellHasCleanTree}
 use Rattle.library_trees.specs.NamedCells.{named_tree_at}
 use Rattle.workspace.proofs.CellNames.{tree_named}
-use Rattle.network_laws.specs.NetworkLaws.{FlatCircuitsHaveLetters, FlatNetworksFit, FlatNetworksHaveTheNodes}
+use Rattle.circuit_laws.specs.NetworkLaws.{FlatCircuitsHaveLetters, FlatNetworksFit, FlatNetworksHaveTheNodes}
 use Rattle.workspace.specs.CellCircuits.{IsCircuitAt, IsSimulableCircuitAt, PassesAt}
 use Rattle.workspace.proofs.StandingLaws.{few_elements}
 

@@ -7,7 +7,7 @@ use Rattle.cell_library.specs.Contents.{Held}
 use Rattle.cell_library.specs.Libraries.{IsLawfulLibrary, LibraryParts, cells_seen, seen, uses_in}
 use Rattle.cell_library.specs.Views.{no_cell, view_at}
 use Rattle.cell_library.proofs.ViewLaws.{length-cell_views, names_seen}
-use Rattle.network_laws.specs.TreeRecords.NamedTrees.{NamedTree, own_body}
+use Rattle.circuit_laws.specs.TreeRecords.NamedTrees.{NamedTree, own_body}
 use Rattle.library_trees.specs.NamedCells.{named_tree_at}
 use Rattle.library_trees.proofs.WholeTrees.{named_tree_unfolds}
 

@@ -7,8 +7,8 @@ use Rattle.line_answers.proofs.InsideLaws.{both_inside, no_lines_inside, reply_i
 use Rattle.line_answers.specs.LineEffects.{IsOfInside}
 use Rattle.line_answers.specs.Refusals.{refusal_line}
 use Rattle.cell_library.specs.Views.{LibraryView, view_at}
-use Rattle.square_lines.proofs.OffendingLaws.{offending_inside}
-use Rattle.square_lines.specs.Offending.{offending_line}
+use Rattle.library_answers.proofs.OffendingLaws.{offending_inside}
+use Rattle.library_answers.specs.Offending.{offending_line}
 use Rattle.workspace.specs.declared.extractions.Extracting.TheVariants.{Refused}
 use Rattle.workspace.specs.declared.extractions.Extraction.{Extraction}
 use Rattle.workspace.specs.Extracting.{IsExtracted}

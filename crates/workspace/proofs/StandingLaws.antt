@@ -6,9 +6,9 @@ use Rattle.layout_model.specs.CellTrees.{CellTree, standings, standings_from, un
 use Rattle.cell_library.specs.LayoutTrees.{tree_at}
 use Rattle.cell_library.specs.Libraries.{IsLawfulLibrary, LibraryParts, seen}
 use Rattle.cell_library.proofs.StandingCounts.{standings_few}
-use Rattle.network_laws.specs.TreeRecords.NamedTrees.{NamedElements, NamedTree, layouts_below, layouts_of, named_above, named_standings, named_standings_below}
-use Rattle.network_laws.specs.TreeRecords.NamedTrees.NamedTree.{named_tree}
-use Rattle.network_laws.specs.TreeRecords.NamedTrees.NamedElements.{no_more, element_then}
+use Rattle.circuit_laws.specs.TreeRecords.NamedTrees.{NamedElements, NamedTree, layouts_below, layouts_of, named_above, named_standings, named_standings_below}
+use Rattle.circuit_laws.specs.TreeRecords.NamedTrees.NamedTree.{named_tree}
+use Rattle.circuit_laws.specs.TreeRecords.NamedTrees.NamedElements.{no_more, element_then}
 use Rattle.library_trees.specs.NamedCells.{named_tree_at}
 use Rattle.library_trees.proofs.LayoutLaws.{layouts_of_cell}
 

@@ -10,8 +10,8 @@ use Rattle.circuit_model.specs.Refusals.{IsFlatFaultOf, IsFlatOf}
 use Rattle.flatten.specs.declared.sinks.GivenCircuit.{GivenCircuit}
 use Rattle.flatten.specs.Sinks.{IsGiven}
 use Rattle.cell_library.specs.Views.{LibraryView, view_at}
-use Rattle.network_laws.specs.TreeRecords.TreeCircuits.{IsFlatCircuit}
-use Rattle.network_laws.specs.TreeRecords.TreeRecords.{HasTreeRecords}
+use Rattle.circuit_laws.specs.TreeRecords.TreeCircuits.{IsFlatCircuit}
+use Rattle.circuit_laws.specs.TreeRecords.TreeRecords.{HasTreeRecords}
 use Rattle.library_trees.specs.NamedCells.{named_tree_at}
 use Rattle.network_runs.specs.NetworkRuns.{CanBeSimulated}
 use Rattle.workspace.specs.declared.cell_circuits.Flattened.{Flattened}

@@ -11,13 +11,13 @@ use Rattle.ext_text.specs.WrittenTexts.{ext_text}
 use Rattle.ext_cache.specs.Names.Attachments.{AreUnattached}
 use Rattle.cell_library.specs.Additions.{children_in}
 use Rattle.cell_library.specs.Views.{LibraryView, cell_named, view_at}
-use Rattle.square_lines.specs.HierMerge.UncleanCells.{IsCleanCell, IsUncleanBelow}
+use Rattle.library_answers.specs.HierMerge.UncleanCells.{IsCleanCell, IsUncleanBelow}
 use Rattle.library_trees.specs.CellRecords.{IsRecordOf}
 use Rattle.ext_loading.specs.ExtFiles.{ext_file}
 use Rattle.line_answers.specs.declared.refusals.Refusal.{Refusal}
 use Rattle.line_answers.specs.LineEffects.{refused, reply}
 use Rattle.line_answers.specs.Refusals.{no_cell, no_tech, of_inside, refusal_line}
-use Rattle.square_lines.specs.Offending.{offending_line}
+use Rattle.library_answers.specs.Offending.{offending_line}
 use Rattle.workspace.specs.declared.extractions.Extraction.{Extraction}
 use Rattle.workspace.specs.States.{State, Workspace}
 

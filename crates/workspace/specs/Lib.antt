@@ -1,7 +1,7 @@
 -- what a command of the session says of the records that are kept
 pub use Rattle.ext_cache.specs.Caches
 -- the lines that tell which squares offend
-pub use Rattle.square_lines.specs.Offending
+pub use Rattle.library_answers.specs.Offending
 -- what the transistors of a circuit are given to
 pub use Rattle.flatten.specs.Sinks
 pub mod CellCircuits

@@ -10,7 +10,7 @@ ghost use Rattle.ext_model.specs.LawfulArrays.{IsLawfulArrayExt};
 ghost use Rattle.workspace.specs.Extracting.{HasLawfulRecord, IsExtracted, kept_store, told_lines};
 ghost use Rattle.workspace.specs.Extractions.{ext_store, unattached_line, unclean_refusal};
 ghost use Rattle.line_answers.specs.Refusals.{refusal_line};
-ghost use Rattle.square_lines.specs.Offending.{offending_line};
+ghost use Rattle.library_answers.specs.Offending.{offending_line};
 
 use crate::cells::Edited;
 use cell_library::{Library, Opened, Reader};
@@ -20,7 +20,7 @@ use ext_text::write_ext;
 use line_answers::{append_with_name, file_name, named, refused_line, reply};
 use names_lists::{List, Name};
 use session_model::{Halt, ReportLine, Store};
-use square_lines::offending_lines;
+use library_answers::offending_lines;
 use std::alloc::{AllocError, Global};
 use std::marker::Brand;
 use std::sync::ledger::{Blank, Ledger};

@@ -12,7 +12,7 @@ use Rattle.element_paths.specs.LibraryTrees.KeptRecords.{HaveKeptRecordsBelow}
 use Rattle.cell_library.specs.Views.{view_at}
 use Rattle.cell_library.specs.CellPaint.Paints.{layout_of}
 use Rattle.cell_records.specs.TreeRecords.OwnRecords.{IsOwnRecord}
-use Rattle.library_labels.proofs.LabelLaws.{labels_may_name}
+use Rattle.library_trees.proofs.LabelLaws.{labels_may_name}
 use Rattle.ext_cache.specs.declared.extraction.MadeRecord.{MadeRecord}
 use Rattle.ext_cache.proofs.MadeLaws.{found_empty, made_is_now, own_record_of}
 use Rattle.ext_cache.proofs.extraction.tree_record.Goals as goal

@@ -5,8 +5,8 @@ use Rattle.session_model.specs.declared.report.ReportLine.{ReportLine}
 use Rattle.cell_library.specs.Libraries.{seen}
 use Rattle.cell_library.specs.Views.{view_at}
 use Rattle.line_answers.specs.LineEffects.{IsOfInside}
-use Rattle.square_lines.proofs.OffendingLaws.{offending_inside}
-use Rattle.square_lines.proofs.UncleanLaws.{offending_planes}
+use Rattle.library_answers.proofs.OffendingLaws.{offending_inside}
+use Rattle.library_answers.proofs.UncleanLaws.{offending_planes}
 use Rattle.look_commands.proofs.command_squares.squares_of.Goals as goal
 
 pub offending_lines-requires-clause-cell : goal.offending_lines-requires-clause-cell

@@ -7,11 +7,11 @@ use Rattle.ext_loading.specs.PlainRecords.Plains.{AreArrayRecords, plains}
 use Rattle.cell_library.specs.Libraries.{LibraryParts, seen}
 use Rattle.ext_cache.specs.Caches.{Agrees, Records, record_in}
 use Rattle.library_trees.specs.NamedCells.{named_tree_at}
-use Rattle.network_laws.specs.TreeRecords.TreeRecords.{HasTreeRecords}
+use Rattle.circuit_laws.specs.TreeRecords.TreeRecords.{HasTreeRecords}
 use Rattle.workspace.specs.declared.cells.Edited.{Edited}
 use Rattle.workspace.specs.CellCircuits.{IsGivenAt}
 use Rattle.workspace.specs.Extracting.{IsFreshBelow}
-use Rattle.square_lines.proofs.HierMerge.CleanOrders.{numbers}
+use Rattle.library_answers.proofs.HierMerge.CleanOrders.{numbers}
 use Rattle.workspace.proofs.KeptLaws.{are_records, order_kept, order_once, root_clean, tree_records}
 use Rattle.workspace.proofs.cell_circuits.flatten_kept_into.Goals as goal
 

@@ -6,7 +6,7 @@ use Rattle.ext_cache.specs.declared.extraction.Extracted.{Extracted}
 use Rattle.ext_cache.specs.Caches.{Agrees, Extracts}
 use Rattle.workspace.specs.Extracting.{HasLawfulRecord, kept_store, told_lines}
 use Rattle.workspace.proofs.ExtractionLaws.{extraction_told, told_kept, told_there_all}
-use Rattle.square_lines.proofs.UncleanLaws.{offending_planes, unclean_is_cell}
+use Rattle.library_answers.proofs.UncleanLaws.{offending_planes, unclean_is_cell}
 use Rattle.workspace.proofs.extractions.extract_cell.Goals as goal
 
 pub records_made-requires-clause-cells : goal.records_made-requires-clause-cells

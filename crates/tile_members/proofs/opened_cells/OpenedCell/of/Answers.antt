@@ -3,7 +3,7 @@ use Rattle.std.specs.Prelude.{All}
 use Rattle.tech_model.specs.declared.raw.Label.{Label}
 use Rattle.tech_model.specs.declared.raw.RawTech.{RawTech}
 use Rattle.names.specs.Labels.{IsLabelOf}
-use Rattle.library_labels.proofs.LabelLaws.{labels_may_name}
+use Rattle.library_trees.proofs.LabelLaws.{labels_may_name}
 use Rattle.tile_members.proofs.opened_cells.OpenedCell.of.Goals as goal
 
 pub cell_regions-requires-clause-labels : goal.cell_regions-requires-clause-labels

@@ -1,9 +1,0 @@
-mod BitParts
-mod ItemMeanings
-mod TreeParts
-mod PartBoxes
-mod UseCalls
-mod SymbolPlaces
-mod SymbolMeanings
-mod CellMeanings
-mod LibraryMeanings

@@ -1,6 +1,0 @@
-use Rattle.cif_laws.proofs.cell_texts_are_read_as_the_layout.Goals as goal
-
-pub returns : goal.returns
-returns c library cell text lawful below is =
-    let (cif, says, read) = c.written_texts_are_read.ensures library cell text lawful below is in
-    (cif, read, c.cell_texts_mean_the_layout.ensures library cell cif lawful below says)

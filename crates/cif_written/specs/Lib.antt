@@ -1,2 +1,0 @@
-pub mod CellCifs
-pub mod Laws

@@ -1,3 +1,0 @@
-mod LineGains
-mod SpelledFiles
-mod RefusedFiles

@@ -1,5 +1,0 @@
-use Rattle.circuit_file_laws.proofs.SpelledFiles.{read_files_spell}
-use Rattle.circuit_file_laws.proofs.laws.circuit_files_are_read_as_what_they_spell.Goals as goal
-
-pub returns : goal.returns
-returns c = read_files_spell

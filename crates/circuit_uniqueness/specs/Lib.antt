@@ -1,3 +1,0 @@
-pub mod FlatCircuits
-pub mod CircuitTrees
-pub mod Ext2simEffects

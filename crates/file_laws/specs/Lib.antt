@@ -1,0 +1,4 @@
+pub mod CircuitFiles
+pub mod CellCifs
+pub mod WrittenTexts
+pub mod CellMeanings

@@ -1,5 +1,0 @@
-use Rattle.library_record_uniqueness.proofs.OneRecord.{one_record}
-use Rattle.library_record_uniqueness.proofs.record_is_unique.Goals as goal
-
-pub returns : goal.returns
-returns c = one_record c.args.library.now c.lawful.ensures c.args.cell.0 c.typed.ensures

@@ -1,3 +1,0 @@
-pub mod Refusals
-pub mod Hulls
-pub mod UncleanCells

@@ -1,2 +1,0 @@
-mod OneLibrary
-pub mod OneLoad

@@ -1,5 +1,0 @@
-use Rattle.network_laws.proofs.FlatLetters.{flat_circuits_have_letters}
-use Rattle.network_laws.proofs.flat_circuits_have_letters.Goals as goal
-
-pub returns : goal.returns
-returns c = flat_circuits_have_letters c.args.tech.now c.raw.ensures.rules

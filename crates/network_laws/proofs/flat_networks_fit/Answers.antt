@@ -1,5 +1,0 @@
-use Rattle.network_laws.proofs.FittingNetworks.{flat_networks_fit}
-use Rattle.network_laws.proofs.flat_networks_fit.Goals as goal
-
-pub returns : goal.returns
-returns c = flat_networks_fit

@@ -1,5 +1,0 @@
-use Rattle.network_laws.proofs.FlatNumbers.{flat_networks_have_the_nodes}
-use Rattle.network_laws.proofs.flat_networks_have_the_nodes.Goals as goal
-
-pub returns : goal.returns
-returns c = flat_networks_have_the_nodes

@@ -1,3 +1,0 @@
--- what crates above name of those below
-pub use Rattle.tree_records.specs as TreeRecords
-pub mod NetworkLaws

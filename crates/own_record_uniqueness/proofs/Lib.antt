@@ -1,5 +1,0 @@
-mod SameTexts
-pub mod SameNodes
-mod SameTransistors
-pub mod SameFets
-mod SameOwnRecords

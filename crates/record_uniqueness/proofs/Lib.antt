@@ -1,4 +1,0 @@
-mod SameTotals
-mod SameGroups
-mod SameMerges
-pub mod SameTreeRecords

@@ -1,5 +1,0 @@
-mod SimLimits
-mod VectorAnswers
-mod StackOutcomes
-mod CircuitAnswers
-mod SimrunEffects

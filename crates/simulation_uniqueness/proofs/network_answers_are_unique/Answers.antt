@@ -1,5 +1,0 @@
-use Rattle.simulation_uniqueness.proofs.VectorAnswers.{same_answer}
-use Rattle.simulation_uniqueness.proofs.network_answers_are_unique.Goals as goal
-
-pub returns : goal.returns
-returns c = same_answer c.vector_answers_are_unique.ensures

@@ -1,4 +1,0 @@
--- what crates above name of those below
-pub use Rattle.hier_merge.proofs as HierMerge
-pub mod OffendingLaws
-pub mod UncleanLaws

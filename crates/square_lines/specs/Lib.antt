@@ -1,3 +1,0 @@
--- what crates above name of those below
-pub use Rattle.hier_merge.specs as HierMerge
-pub mod Offending

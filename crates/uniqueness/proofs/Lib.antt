@@ -1,0 +1,37 @@
+mod SameTexts
+pub mod SameNodes
+mod SameTransistors
+mod SameFets
+mod SameOwnRecords
+mod SameTotals
+mod SameGroups
+mod SameMerges
+mod SameTreeRecords
+pub mod OneRecord
+mod OneFault
+mod LibraryFaults
+pub mod CommandFaults
+mod CommandOutcomes
+mod OneHull
+pub mod OneText
+mod OneUncleanCell
+pub mod CleanBelow
+pub mod LawfulUses
+mod OneLibrary
+pub mod OneLoad
+mod ReachedElements
+mod ReachedFaults
+mod FlatCircuits
+mod CircuitTrees
+mod WrittenCircuits
+mod Ext2simEffects
+mod SameNetworks
+mod CountedNodes
+mod AlikeNames
+mod SameReplies
+mod SameGrades
+mod SimLimits
+mod VectorAnswers
+mod StackOutcomes
+mod CircuitAnswers
+mod SimrunEffects

@@ -1,0 +1,40 @@
+-- What answers a text of vectors on a network.
+use Rattle.std.proofs.Common.{◌≡◌, ℕ, List, Ok, Err, refl, sym, ap, ◌∙◌, subst}
+use Rattle.std.specs.Prelude.{Result, map}
+use Rattle.text_form.specs.declared.reading.At.{At}
+use Rattle.session_model.specs.declared.report.ReportLine.{ReportLine}
+use Rattle.sim_text.specs.declared.files.SimFile.{SimFile}
+use Rattle.switch_net.specs.Network.{Network}
+use Rattle.sim_networks.specs.SimNetworks.{records_of}
+use Rattle.vector_files.specs.declared.faults.VecFault.{VecFault}
+use Rattle.vector_files.specs.declared.files.Vectors.{Vectors}
+use Rattle.vector_files.specs.VectorFiles.{vectors_in}
+use Rattle.vector_runs.specs.declared.replies.VecReply.{VecReply}
+use Rattle.uniqueness.specs.VectorRuns.{RepliesAreUnique, VectorFilesAreUnique}
+use Rattle.network_runs.specs.Simulations.{IsNetOf, TellsNet, TellsRead, TellsVectors, vector_line}
+use Rattle.uniqueness.specs.Simulations.{VectorAnswersAreUnique}
+use Rattle.uniqueness.proofs.SimLimits.{numbered}
+
+module _ (one_file : VectorFilesAreUnique) (one_reply : RepliesAreUnique) (budget number : ℕ) (sim : SimFile) (text : List ℕ) (net other : Network)
+    (names others : List (List ℕ × ℕ)) (p : IsNetOf sim net names) (q : IsNetOf sim other others) where
+  -- what was read is answered by the same lines
+  same_told : (lines more : List ReportLine) (read : Result Vectors (At VecFault)) → vectors_in names text ≡ read
+      → TellsRead budget number net names read lines → TellsRead budget number other others read more → lines ≡ more
+  same_told lines more (Ok vectors) read tells also =
+      let replies = one_reply (records_of sim) net other names others text budget vectors tells.replies also.replies
+      (numbered sim net names p) (numbered sim other others q) read tells.is_run also.is_run in
+      tells.are ∙ ap (λ (rs : List VecReply). map vector_line rs) replies ∙ sym also.are
+  same_told lines more (Err at) read tells also = tells ∙ sym also
+
+  pub same_lines : (lines more : List ReportLine) → TellsVectors budget number text net names lines
+      → TellsVectors budget number text other others more → lines ≡ more
+  same_lines lines more tells also =
+      let files = one_file (records_of sim) net other names others text (numbered sim net names p) (numbered sim other others q) in
+      let over = subst (λ (read : Result Vectors (At VecFault)). TellsRead budget number other others read more) (sym files) also in
+      same_told lines more (vectors_in names text) refl tells over
+
+-- the network is one of the sim file, and so are the lines
+pub same_answer : VectorAnswersAreUnique → (budget number : ℕ) (sim : SimFile) (text : List ℕ) (lines more : List ReportLine)
+    → TellsNet budget number sim text lines → TellsNet budget number sim text more → lines ≡ more
+same_answer one budget number sim text lines more a b =
+    one budget number sim text a.net b.net a.names b.names lines more a.is_net b.is_net a.tells b.tells

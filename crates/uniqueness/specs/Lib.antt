@@ -1,0 +1,13 @@
+pub mod OwnUniqueness
+pub mod RecordUniqueness
+pub mod LibraryRecords
+pub mod Refusals
+pub mod Hulls
+pub mod UncleanCells
+pub mod Loads
+pub mod FlatCircuits
+pub mod CircuitTrees
+pub mod Ext2simEffects
+pub mod Networks
+pub mod VectorRuns
+pub mod Simulations
