@@ -10,7 +10,7 @@ use Rattle.geo_core.specs.Planes.{AreSame}
 use Rattle.tile_plane.specs.declared.tiles.Tile.{Tile}
 use Rattle.tile_plane.specs.Tiles.{Tiles, tile_at, IsTaken, Owns, Leads, IsPartition, HasStitches, IsPut, value_at}
 use Rattle.tile_plane.specs.Walks.{square_at}
-use Rattle.tile_plane.specs.steps.Cuts.{AreAlike, IsHandedOver, opposite, low_of, high_of, part_at, square_at_cut, IsCutAt}
+use Rattle.tile_plane.specs.steps.Cuts.{AreAlike, IsHandedOver, opposite, low_of, high_of, part_at, square_at_cut, IsInTwo, IsCutAt}
 use Rattle.tile_plane.specs.steps.Mends.{Side, Above, Right, Below, Left, stitch_of, square_of, AreRedirected, IsEnd}
 use Rattle.tile_plane.proofs.TileLaws.{owner_taken}
 use Rattle.tile_plane.proofs.RowCuts.{IsSamePlane}
@@ -357,8 +357,26 @@ module _ {side : Side} {old mid new : Tiles} {id other near far : ℕ} {at : ℤ
     cut_part : AreAlike (part_at side at id near (tile_at old id)) (tile_at last other)
     cut_part = part_alike cut.off halved all
 
-    cut_others : (k : ℕ) → k ≢ id → k ≢ other → AreAlike (tile_at old k) (tile_at last k)
-    cut_others = others_alike cut.off halved all
+    -- the part is the second of the two, or the first
+    part_after : IsInTwo id id other (part_at (opposite side) at other far (tile_at old id)).area (part_at side at id near (tile_at old id)).area old last
+    part_after = record {
+      free = inl (refl, cut.off.free);
+      low = cut_rest.area;
+      high = cut_part.area;
+      low_value = cut_rest.value ∙ part_value _ _ _ _ (opposite side);
+      high_value = cut_part.value ∙ part_value _ _ _ _ side;
+      others = others_alike cut.off halved all;
+    }
+
+    part_before : IsInTwo id other id (part_at side at id near (tile_at old id)).area (part_at (opposite side) at other far (tile_at old id)).area old last
+    part_before = let whole = part_after in record {
+      free = inr (refl, cut.off.free);
+      low = whole.high;
+      high = whole.low;
+      low_value = whole.high_value;
+      high_value = whole.low_value;
+      others = λ k n m. whole.others k m n;
+    }
 
 module _ {old mid new : Tiles} {id other near far : ℕ} {at : ℤ} {tile part rest : Tile} where
   -- it is the end at the side that goes to the new number
@@ -429,35 +447,7 @@ module _ {old mid new : Tiles} {id other near far : ℕ} {at : ℤ} {tile part r
 
   pub cutting_cut : (side : Side) → IsCutting side old mid new id other near far at tile part rest → {last : Tiles}
       → AreRedirected part.area other new last → IsCutAt side id other at old last
-  cutting_cut Above cut all = record {
-    free = inl (refl, cut.off.free);
-    low = (cut_rest cut all).area;
-    high = (cut_part cut all).area;
-    low_value = (cut_rest cut all).value;
-    high_value = (cut_part cut all).value;
-    others = cut_others cut all;
-  }
-  cutting_cut Right cut all = record {
-    free = inl (refl, cut.off.free);
-    low = (cut_rest cut all).area;
-    high = (cut_part cut all).area;
-    low_value = (cut_rest cut all).value;
-    high_value = (cut_part cut all).value;
-    others = cut_others cut all;
-  }
-  cutting_cut Below cut all = record {
-    free = inr (refl, cut.off.free);
-    low = (cut_part cut all).area;
-    high = (cut_rest cut all).area;
-    low_value = (cut_part cut all).value;
-    high_value = (cut_rest cut all).value;
-    others = λ k n m. cut_others cut all k m n;
-  }
-  cutting_cut Left cut all = record {
-    free = inr (refl, cut.off.free);
-    low = (cut_part cut all).area;
-    high = (cut_rest cut all).area;
-    low_value = (cut_part cut all).value;
-    high_value = (cut_rest cut all).value;
-    others = λ k n m. cut_others cut all k m n;
-  }
+  cutting_cut Above cut all = part_after cut all
+  cutting_cut Right cut all = part_after cut all
+  cutting_cut Below cut all = part_before cut all
+  cutting_cut Left cut all = part_before cut all

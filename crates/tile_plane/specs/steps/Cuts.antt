@@ -25,24 +25,24 @@ pub record AreAlike (old new : Tile) : Type 0 where
 abbrev pub OneIsFree : ℕ → ℕ → ℕ → Tiles → Type 0
 OneIsFree id a b tiles = ((a ≡ id) × (IsTaken tiles b → ⊥)) ⊎ ((b ≡ id) × (IsTaken tiles a → ⊥))
 
--- The tile of the first number is cut at y: the second has the part below and the third the one above. One of them is the first, and the
--- other had no tile.
-pub record IsCutAcross (id lower upper : ℕ) (y : ℤ) (old new : Tiles) : Type 0 where
+-- The tile of the first number is cut in two, which have these areas. One of them has its number, and the other a number that had no tile.
+pub record IsInTwo (id lower upper : ℕ) (below above : Rect) (old new : Tiles) : Type 0 where
   pub free : OneIsFree id lower upper old
-  pub low : (tile_at new lower).area ≡ record (tile_at old id).area { yhi = y }
-  pub high : (tile_at new upper).area ≡ record (tile_at old id).area { ylo = y }
+  pub low : (tile_at new lower).area ≡ below
+  pub high : (tile_at new upper).area ≡ above
   pub low_value : (tile_at new lower).value ≡ (tile_at old id).value
   pub high_value : (tile_at new upper).value ≡ (tile_at old id).value
   pub others : (k : ℕ) → k ≢ lower → k ≢ upper → AreAlike (tile_at old k) (tile_at new k)
 
+-- It is cut at y: the second number has the part below and the third the one above.
+abbrev pub IsCutAcross : ℕ → ℕ → ℕ → ℤ → Tiles → Tiles → Type 0
+IsCutAcross id lower upper y old new =
+    IsInTwo id lower upper (record (tile_at old id).area { yhi = y }) (record (tile_at old id).area { ylo = y }) old new
+
 -- It is cut at x: the second number has the left part, and the third the right one.
-pub record IsCutAlong (id left right : ℕ) (x : ℤ) (old new : Tiles) : Type 0 where
-  pub free : OneIsFree id left right old
-  pub low : (tile_at new left).area ≡ record (tile_at old id).area { xhi = x }
-  pub high : (tile_at new right).area ≡ record (tile_at old id).area { xlo = x }
-  pub low_value : (tile_at new left).value ≡ (tile_at old id).value
-  pub high_value : (tile_at new right).value ≡ (tile_at old id).value
-  pub others : (k : ℕ) → k ≢ left → k ≢ right → AreAlike (tile_at old k) (tile_at new k)
+abbrev pub IsCutAlong : ℕ → ℕ → ℕ → ℤ → Tiles → Tiles → Type 0
+IsCutAlong id left right x old new =
+    IsInTwo id left right (record (tile_at old id).area { xhi = x }) (record (tile_at old id).area { xlo = x }) old new
 
 abbrev pub opposite : Side → Side
 opposite Above = Below
