@@ -8,10 +8,10 @@ use Rattle.geo_core.specs.Areas.{LiesWithin}
 use Rattle.geo_core.specs.Covering.{Covers, IsProper}
 use Rattle.geo_core.specs.Planes.{AreSame}
 use Rattle.tile_plane.specs.declared.tiles.Tile.{Tile}
-use Rattle.tile_plane.specs.Tiles.{Tiles, tile_at, IsTaken, Owns, Leads, IsPartition, HasStitches, IsPut, square_above, square_right, square_below, square_left, value_at}
+use Rattle.tile_plane.specs.Tiles.{Tiles, tile_at, IsTaken, Owns, Leads, IsPartition, HasStitches, IsPut, value_at}
 use Rattle.tile_plane.specs.Walks.{square_at}
-use Rattle.tile_plane.specs.steps.Cuts.{AreAlike, IsHandedOver, IsCutAcross, IsCutAlong}
-use Rattle.tile_plane.specs.steps.Mends.{Above, Right, Below, Left, AreRedirected, IsUpperEnd, IsLowerEnd, IsRightEnd, IsLeftEnd}
+use Rattle.tile_plane.specs.steps.Cuts.{AreAlike, IsHandedOver, opposite, low_of, high_of, part_at, square_at_cut, IsInTwo, IsCutAt}
+use Rattle.tile_plane.specs.steps.Mends.{Side, Above, Right, Below, Left, stitch_of, square_of, AreRedirected, IsEnd}
 use Rattle.tile_plane.proofs.TileLaws.{owner_taken}
 use Rattle.tile_plane.proofs.RowCuts.{IsSamePlane}
 use Rattle.tile_plane.proofs.GivenLaws.{LeadsElsewhere, own_stitches, IsGiven, given_partition, upper_side, right_side, lower_side, left_side, up_into, down_into, right_into, left_into, last_partition, last_stitches, last_values}
@@ -216,288 +216,238 @@ module _ {old mid new : Tiles} {id other : ℕ} {tile part rest : Tile} {part_of
       others_alike : (k : ℕ) → k ≢ id → k ≢ other → AreAlike (tile_at old k) (tile_at last k)
       others_alike = split_others off.partition halved.split halved.given cut_redirected
 
--- the parts of a tile that is cut at y, with these stitches where it is cut
-abbrev pub lower_part : ℤ → ℕ → ℕ → Tile → Tile
-lower_part y above right tile = record tile { area = record tile.area { yhi = y }; above = above; right = right }
+-- A tile is cut: the part at the side goes to the number that had no tile. Beside the part, where the cut begins, is the tile `near`, and beside
+-- the rest the tile `far`.
+pub record IsCutting (side : Side) (old mid new : Tiles) (id other near far : ℕ) (at : ℤ) (tile part rest : Tile) : Type 0 where
+  pub off : IsCutOff old mid new id other tile part rest (part_at side at id near) (part_at (opposite side) at other far)
+  pub from : low_of side (tile_at old id).area <ℤ at
+  pub to : at <ℤ high_of side (tile_at old id).area
+  pub near_leads : Leads old near (square_at_cut side (tile_at old id).area at)
+  pub far_leads : Leads old far (square_at_cut (opposite side) (tile_at old id).area at)
 
-abbrev pub upper_part : ℤ → ℕ → ℕ → Tile → Tile
-upper_part y below left tile = record tile { area = record tile.area { ylo = y }; below = below; left = left }
+pub low_back : (side : Side) (area : Rect) {at : ℤ} → low_of side area <ℤ at → low_of (opposite side) area <ℤ at
+low_back Above area from = from
+low_back Right area from = from
+low_back Below area from = from
+low_back Left area from = from
 
--- It is cut at y, where `right` is the tile right of it just under y and `left` the one left of it at y.
-pub record IsCutAtHeight (old mid new : Tiles) (id other right left : ℕ) (y before : ℤ) (tile part rest : Tile) (part_of rest_of : Tile → Tile) : Type 0 where
-  pub off : IsCutOff old mid new id other tile part rest part_of rest_of
-  pub from : (tile_at old id).area.ylo <ℤ y
-  pub to : y <ℤ (tile_at old id).area.yhi
-  pub just_before : before ≡ y -ℤ pos 1
-  pub right_leads : Leads old right (square_at (tile_at old id).area.xhi before)
-  pub left_leads : Leads old left (square_at ((tile_at old id).area.xlo -ℤ pos 1) y)
+pub high_back : (side : Side) (area : Rect) {at : ℤ} → at <ℤ high_of side area → at <ℤ high_of (opposite side) area
+high_back Above area to = to
+high_back Right area to = to
+high_back Below area to = to
+high_back Left area to = to
 
-module _ {old mid new : Tiles} {id other right left : ℕ} {y before : ℤ} {tile part rest : Tile} {part_of rest_of : Tile → Tile}
-    (cut : IsCutAtHeight old mid new id other right left y before tile part rest part_of rest_of) where
-  right_led : Leads old right (square_at (tile_at old id).area.xhi (y -ℤ pos 1))
-  right_led = subst (λ (z : ℤ). Leads old right (square_at (tile_at old id).area.xhi z)) cut.just_before cut.right_leads
+module _ (tile : Tile) (at : ℤ) (n m : ℕ) where
+  part_value : (side : Side) → (part_at side at n m tile).value ≡ tile.value
+  part_value Above = refl
+  part_value Right = refl
+  part_value Below = refl
+  part_value Left = refl
 
-  lower_half : (area : Rect) (n : ℕ) → ((Covers area (square_above (lower_part y n right (tile_at old id))) → ⊥)
-      → Leads old n (square_above (lower_part y n right (tile_at old id)))) → LeadsElsewhere area old (lower_part y n right (tile_at old id))
-  lower_half area n leads Above off = leads off
-  lower_half area n leads Right off = right_led
-  lower_half area n leads Below off = cut.off.stitches.below id cut.off.taken
-  lower_half area n leads Left off = cut.off.stitches.left id cut.off.taken
+  part_stitch : (side : Side) → stitch_of side (part_at (opposite side) at n m tile) ≡ n
+  part_stitch Above = refl
+  part_stitch Right = refl
+  part_stitch Below = refl
+  part_stitch Left = refl
 
-  upper_half : (area : Rect) (n : ℕ) → ((Covers area (square_below (upper_part y n left (tile_at old id))) → ⊥)
-      → Leads old n (square_below (upper_part y n left (tile_at old id)))) → LeadsElsewhere area old (upper_part y n left (tile_at old id))
-  upper_half area n leads Above off = cut.off.stitches.above id cut.off.taken
-  upper_half area n leads Right off = cut.off.stitches.right id cut.off.taken
-  upper_half area n leads Below off = leads off
-  upper_half area n leads Left off = cut.left_leads
+  pub part_proper : (side : Side) → IsProper tile.area → low_of side tile.area <ℤ at → at <ℤ high_of side tile.area → IsProper (part_at side at n m tile).area
+  part_proper Above proper from to = omega (arith, ints)
+  part_proper Right proper from to = omega (arith, ints)
+  part_proper Below proper from to = omega (arith, ints)
+  part_proper Left proper from to = omega (arith, ints)
 
--- what is cut off is the upper part
-module _ {old mid new : Tiles} {id other right left : ℕ} {y before : ℤ} {tile part rest : Tile}
-    (cut : IsCutAtHeight old mid new id other right left y before tile part rest (upper_part y id left) (lower_part y other right)) where
-  across_halved : IsHalved old new id other (upper_part y id left (tile_at old id)) (lower_part y other right (tile_at old id))
-  across_halved =
-      let proper = cut.off.taken.proper in
+  part_in : (side : Side) → low_of side tile.area <ℤ at → at <ℤ high_of side tile.area → (s : Square) → Covers (part_at side at n m tile).area s
+      → Covers tile.area s
+  part_in Above from to s covers = omega (arith, ints)
+  part_in Right from to s covers = omega (arith, ints)
+  part_in Below from to s covers = omega (arith, ints)
+  part_in Left from to s covers = omega (arith, ints)
+
+  pub part_within : {range : Rect} (side : Side) → LiesWithin tile.area range → low_of side tile.area <ℤ at → at <ℤ high_of side tile.area
+      → LiesWithin (part_at side at n m tile).area range
+  part_within Above within from to = omega (arith, ints)
+  part_within Right within from to = omega (arith, ints)
+  part_within Below within from to = omega (arith, ints)
+  part_within Left within from to = omega (arith, ints)
+
+  module _ (k l : ℕ) where
+    parts_apart : (side : Side) (s : Square) → Covers (part_at (opposite side) at k l tile).area s → Covers (part_at side at n m tile).area s → ⊥
+    parts_apart Above s p q = omega (arith, ints)
+    parts_apart Right s p q = omega (arith, ints)
+    parts_apart Below s p q = omega (arith, ints)
+    parts_apart Left s p q = omega (arith, ints)
+
+    parts_whole : (side : Side) (s : Square) → Covers tile.area s → (Covers (part_at side at n m tile).area s → ⊥)
+        → Covers (part_at (opposite side) at k l tile).area s
+    parts_whole Above s covers off = by_lt_z s.y at (λ under. omega (arith, ints)) (λ over. absurd (off (omega (arith, ints))))
+    parts_whole Right s covers off = by_lt_z s.x at (λ before. omega (arith, ints)) (λ after. absurd (off (omega (arith, ints))))
+    parts_whole Below s covers off = by_lt_z s.y at (λ under. absurd (off (omega (arith, ints)))) (λ over. omega (arith, ints))
+    parts_whole Left s covers off = by_lt_z s.x at (λ before. absurd (off (omega (arith, ints)))) (λ after. omega (arith, ints))
+
+    -- the stitch of the rest across the cut leads into the part
+    rest_across : (side : Side) → IsProper tile.area → low_of side tile.area <ℤ at → at <ℤ high_of side tile.area
+        → Covers (part_at side at n m tile).area (square_of (opposite (opposite side)) (part_at (opposite side) at k l tile))
+    rest_across Above proper from to = omega (arith, ints)
+    rest_across Right proper from to = omega (arith, ints)
+    rest_across Below proper from to = omega (arith, ints)
+    rest_across Left proper from to = omega (arith, ints)
+
+  -- that of the part leads into the tile
+  part_across : (side : Side) → IsProper tile.area → low_of side tile.area <ℤ at → at <ℤ high_of side tile.area
+      → Covers tile.area (square_of (opposite side) (part_at side at n m tile))
+  part_across Above proper from to = omega (arith, ints)
+  part_across Right proper from to = omega (arith, ints)
+  part_across Below proper from to = omega (arith, ints)
+  part_across Left proper from to = omega (arith, ints)
+
+-- what is cut off or the rest has right stitches, where the one across the cut is
+module _ {old : Tiles} {id n m : ℕ} (at : ℤ) {area : Rect} (stitches : HasStitches old) (taken : IsTaken old id) where
+  half_leads : (side : Side) → Leads old m (square_at_cut side (tile_at old id).area at)
+      → ((Covers area (square_of (opposite side) (part_at side at n m (tile_at old id))) → ⊥)
+      → Leads old n (square_of (opposite side) (part_at side at n m (tile_at old id))))
+      → LeadsElsewhere area old (part_at side at n m (tile_at old id))
+  half_leads Above beside across Above off = stitches.above id taken
+  half_leads Above beside across Right off = stitches.right id taken
+  half_leads Above beside across Below off = across off
+  half_leads Above beside across Left off = beside
+  half_leads Right beside across Above off = stitches.above id taken
+  half_leads Right beside across Right off = stitches.right id taken
+  half_leads Right beside across Below off = beside
+  half_leads Right beside across Left off = across off
+  half_leads Below beside across Above off = across off
+  half_leads Below beside across Right off = beside
+  half_leads Below beside across Below off = stitches.below id taken
+  half_leads Below beside across Left off = stitches.left id taken
+  half_leads Left beside across Above off = beside
+  half_leads Left beside across Right off = across off
+  half_leads Left beside across Below off = stitches.below id taken
+  half_leads Left beside across Left off = stitches.left id taken
+
+module _ {side : Side} {old mid new : Tiles} {id other near far : ℕ} {at : ℤ} {tile part rest : Tile}
+    (cut : IsCutting side old mid new id other near far at tile part rest) where
+  halved : IsHalved old new id other (part_at side at id near (tile_at old id)) (part_at (opposite side) at other far (tile_at old id))
+  halved = halve cut.off (part_proper _ _ _ _ side cut.off.taken.proper cut.from cut.to) (parts_whole _ _ _ _ _ _ side)
+      (part_in _ _ _ _ (opposite side) (low_back side _ cut.from) (high_back side _ cut.to)) (part_in _ _ _ _ side cut.from cut.to)
+      (parts_apart _ _ _ _ _ _ side)
+      (half_leads at cut.off.stitches cut.off.taken (opposite side) cut.far_leads
+      (λ off. absurd (off (rest_across _ _ _ _ _ _ side cut.off.taken.proper cut.from cut.to))))
+      (half_leads at cut.off.stitches cut.off.taken side cut.near_leads
+      (λ off inside. record { covers = part_across _ _ _ _ side cut.off.taken.proper cut.from cut.to }))
+      (part_value _ _ _ _ (opposite side)) (part_value _ _ _ _ side)
+
+  pub cutting_partition : IsPartition new
+  cutting_partition = cut_partition cut.off halved
+
+  -- a tile that has a square of the rest is the rest, whose stitch across the cut leads to the part
+  rest_leads : (k : ℕ) (s : Square) → Owns new k s → Covers (part_at (opposite side) at other far (tile_at old id)).area s
+      → stitch_of side (tile_at new k) ≡ other
+  rest_leads k s owns covers =
+      ap (λ (v : ℕ). stitch_of side (tile_at new v))
+      (cutting_partition.one k id s owns (record { covers = subst (λ (t : Tile). Covers t.area s) (sym halved.split.here) covers }))
+      ∙ ap (stitch_of side) halved.split.here ∙ part_stitch _ _ _ _ side
+
+  -- once all stitches into the part are redirected
+  module _ {last : Tiles} (all : AreRedirected part.area other new last) where
+    pub cutting_same : IsSamePlane old last
+    cutting_same = cut_same cut.off halved all
+
+    cut_rest : AreAlike (part_at (opposite side) at other far (tile_at old id)) (tile_at last id)
+    cut_rest = rest_alike cut.off halved all
+
+    cut_part : AreAlike (part_at side at id near (tile_at old id)) (tile_at last other)
+    cut_part = part_alike cut.off halved all
+
+    -- the part is the second of the two, or the first
+    part_after : IsInTwo id id other (part_at (opposite side) at other far (tile_at old id)).area (part_at side at id near (tile_at old id)).area old last
+    part_after = record {
+      free = inl (refl, cut.off.free);
+      low = cut_rest.area;
+      high = cut_part.area;
+      low_value = cut_rest.value ∙ part_value _ _ _ _ (opposite side);
+      high_value = cut_part.value ∙ part_value _ _ _ _ side;
+      others = others_alike cut.off halved all;
+    }
+
+    part_before : IsInTwo id other id (part_at side at id near (tile_at old id)).area (part_at (opposite side) at other far (tile_at old id)).area old last
+    part_before = let whole = part_after in record {
+      free = inr (refl, cut.off.free);
+      low = whole.high;
+      high = whole.low;
+      low_value = whole.high_value;
+      high_value = whole.low_value;
+      others = λ k n m. whole.others k m n;
+    }
+
+module _ {old mid new : Tiles} {id other near far : ℕ} {at : ℤ} {tile part rest : Tile} where
+  -- it is the end at the side that goes to the new number
+  end_is : (side : Side) → IsCutting side old mid new id other near far at tile part rest → IsEnd side new (part_at side at id near (tile_at old id)) other
+  end_is Above cut =
+      let partition = cut.off.partition in
+      let stitches = cut.off.stitches in
+      let taken = cut.off.taken in
+      let given = (halved cut).given in
+      let there = ap (λ (t : Tile). t.area) (halved cut).split.there in
       let from = cut.from in
       let to = cut.to in
-      halve cut.off (omega (arith, ints))
-      (λ s covers off. by_lt_z s.y y (λ under. omega (arith, ints)) (λ over. absurd (off (omega (arith, ints)))))
-      (λ s covers. omega (arith, ints)) (λ s covers. omega (arith, ints)) (λ s p q. omega (arith, ints))
-      (lower_half cut _ other (λ off. absurd (off (omega (arith, ints))))) (upper_half cut _ id (λ off inside. omega (arith, ints))) refl refl
-
-  pub across_partition : IsPartition new
-  across_partition = cut_partition cut.off across_halved
-
-  -- it is the end that goes to the new number
-  pub across_end : IsUpperEnd new part other
-  across_end =
-      let given = across_halved.given in
-      let here = across_halved.split.here in
-      let there = across_halved.split.there in
-      subst (λ (t : Tile). IsUpperEnd new t other) (sym (part_is cut.off)) (record {
-        above = upper_side cut.off.partition given _ (ap (λ (t : Tile). t.area.yhi) there) (cut.off.stitches.above id cut.off.taken);
-        left = left_side cut.off.partition given _ (ap (λ (t : Tile). t.area.xlo) there) cut.left_leads;
-        right = right_side cut.off.partition given _ (ap (λ (t : Tile). t.area.xhi) there) (cut.off.stitches.right id cut.off.taken);
-        below = λ k its covers. up_into cut.off.partition given k (ap (λ (t : Tile). t.area.yhi) there) its covers
-            (λ w low high owns.
-            let from = cut.from in
-            let to = cut.to in
-            let rest_owns : Owns new id (square_at w (y -ℤ pos 1)) = record {
-              covers = subst (λ (t : Tile). Covers t.area (square_at w (y -ℤ pos 1))) (sym here) (omega (arith, ints));
-            } in
-            ap (λ (v : ℕ). (tile_at new v).above) (across_partition.one k id _ owns rest_owns) ∙ ap (λ (t : Tile). t.above) here);
-      })
-
-  -- once all stitches into it are redirected
-  module _ {last : Tiles} (all : AreRedirected part.area other new last) where
-    pub across_same : IsSamePlane old last
-    across_same = cut_same cut.off across_halved all
-
-    pub across_cut : IsCutAcross id id other y old last
-    across_cut =
-        let rest_part = rest_alike cut.off across_halved all in
-        let part_cut = part_alike cut.off across_halved all in
-        record {
-          free = inl (refl, cut.off.free);
-          low = rest_part.area;
-          high = part_cut.area;
-          low_value = rest_part.value;
-          high_value = part_cut.value;
-          others = others_alike cut.off across_halved all;
-        }
-
--- what is cut off is the lower part
-module _ {old mid new : Tiles} {id other right left : ℕ} {y before : ℤ} {tile part rest : Tile}
-    (cut : IsCutAtHeight old mid new id other right left y before tile part rest (lower_part y id right) (upper_part y other left)) where
-  under_halved : IsHalved old new id other (lower_part y id right (tile_at old id)) (upper_part y other left (tile_at old id))
-  under_halved =
-      let proper = cut.off.taken.proper in
+      record {
+        above = upper_side partition given _ (ap (λ (r : Rect). r.yhi) there) (stitches.above id taken);
+        left = left_side partition given _ (ap (λ (r : Rect). r.xlo) there) cut.near_leads;
+        right = right_side partition given _ (ap (λ (r : Rect). r.xhi) there) (stitches.right id taken);
+        below = λ k its covers. up_into partition given k (ap (λ (r : Rect). r.yhi) there) its covers
+            (λ w low high owns. rest_leads cut k _ owns (omega (arith, ints)));
+      }
+  end_is Right cut =
+      let partition = cut.off.partition in
+      let stitches = cut.off.stitches in
+      let taken = cut.off.taken in
+      let given = (halved cut).given in
+      let there = ap (λ (t : Tile). t.area) (halved cut).split.there in
       let from = cut.from in
       let to = cut.to in
-      halve cut.off (omega (arith, ints))
-      (λ s covers off. by_lt_z s.y y (λ under. absurd (off (omega (arith, ints)))) (λ over. omega (arith, ints)))
-      (λ s covers. omega (arith, ints)) (λ s covers. omega (arith, ints)) (λ s p q. omega (arith, ints))
-      (upper_half cut _ other (λ off. absurd (off (omega (arith, ints))))) (lower_half cut _ id (λ off inside. omega (arith, ints))) refl refl
-
-  pub under_partition : IsPartition new
-  under_partition = cut_partition cut.off under_halved
-
-  -- it is the end that goes to the new number
-  pub under_end : IsLowerEnd new part other
-  under_end =
-      let given = under_halved.given in
-      let here = under_halved.split.here in
-      let there = under_halved.split.there in
-      subst (λ (t : Tile). IsLowerEnd new t other) (sym (part_is cut.off)) (record {
-        left = left_side cut.off.partition given _ (ap (λ (t : Tile). t.area.xlo) there) (cut.off.stitches.left id cut.off.taken);
-        right = right_side cut.off.partition given _ (ap (λ (t : Tile). t.area.xhi) there) (right_led cut);
-        below = lower_side cut.off.partition given _ (ap (λ (t : Tile). t.area.ylo) there) (cut.off.stitches.below id cut.off.taken);
-        above = λ k its covers. down_into cut.off.partition given k (ap (λ (t : Tile). t.area.ylo) there) its covers
-            (λ w low high owns.
-            let from = cut.from in
-            let to = cut.to in
-            let rest_owns : Owns new id (square_at w y) = record {
-              covers = subst (λ (t : Tile). Covers t.area (square_at w y)) (sym here) (omega (arith, ints));
-            } in
-            ap (λ (v : ℕ). (tile_at new v).below) (under_partition.one k id _ owns rest_owns) ∙ ap (λ (t : Tile). t.below) here);
-      })
-
-  -- once all stitches into it are redirected
-  module _ {last : Tiles} (all : AreRedirected part.area other new last) where
-    pub under_same : IsSamePlane old last
-    under_same = cut_same cut.off under_halved all
-
-    pub under_cut : IsCutAcross id other id y old last
-    under_cut =
-        let rest_part = rest_alike cut.off under_halved all in
-        let part_cut = part_alike cut.off under_halved all in
-        record {
-          free = inr (refl, cut.off.free);
-          low = part_cut.area;
-          high = rest_part.area;
-          low_value = part_cut.value;
-          high_value = rest_part.value;
-          others = λ k n m. others_alike cut.off under_halved all k m n;
-        }
-
--- the parts of a tile that is cut at x, with these stitches where it is cut
-abbrev pub left_part : ℤ → ℕ → ℕ → Tile → Tile
-left_part x right above tile = record tile { area = record tile.area { xhi = x }; right = right; above = above }
-
-abbrev pub right_part : ℤ → ℕ → ℕ → Tile → Tile
-right_part x left below tile = record tile { area = record tile.area { xlo = x }; left = left; below = below }
-
--- It is cut at x, where `above` is the tile above it just left of x and `below` the one below it at x.
-pub record IsCutAtColumn (old mid new : Tiles) (id other above below : ℕ) (x before : ℤ) (tile part rest : Tile) (part_of rest_of : Tile → Tile) : Type 0 where
-  pub off : IsCutOff old mid new id other tile part rest part_of rest_of
-  pub from : (tile_at old id).area.xlo <ℤ x
-  pub to : x <ℤ (tile_at old id).area.xhi
-  pub just_before : before ≡ x -ℤ pos 1
-  pub above_leads : Leads old above (square_at before (tile_at old id).area.yhi)
-  pub below_leads : Leads old below (square_at x ((tile_at old id).area.ylo -ℤ pos 1))
-
-module _ {old mid new : Tiles} {id other above below : ℕ} {x before : ℤ} {tile part rest : Tile} {part_of rest_of : Tile → Tile}
-    (cut : IsCutAtColumn old mid new id other above below x before tile part rest part_of rest_of) where
-  above_led : Leads old above (square_at (x -ℤ pos 1) (tile_at old id).area.yhi)
-  above_led = subst (λ (z : ℤ). Leads old above (square_at z (tile_at old id).area.yhi)) cut.just_before cut.above_leads
-
-  left_half : (area : Rect) (n : ℕ) → ((Covers area (square_right (left_part x n above (tile_at old id))) → ⊥)
-      → Leads old n (square_right (left_part x n above (tile_at old id)))) → LeadsElsewhere area old (left_part x n above (tile_at old id))
-  left_half area n leads Right off = leads off
-  left_half area n leads Above off = above_led
-  left_half area n leads Left off = cut.off.stitches.left id cut.off.taken
-  left_half area n leads Below off = cut.off.stitches.below id cut.off.taken
-
-  right_half : (area : Rect) (n : ℕ) → ((Covers area (square_left (right_part x n below (tile_at old id))) → ⊥)
-      → Leads old n (square_left (right_part x n below (tile_at old id)))) → LeadsElsewhere area old (right_part x n below (tile_at old id))
-  right_half area n leads Right off = cut.off.stitches.right id cut.off.taken
-  right_half area n leads Above off = cut.off.stitches.above id cut.off.taken
-  right_half area n leads Left off = leads off
-  right_half area n leads Below off = cut.below_leads
-
--- what is cut off is the right part
-module _ {old mid new : Tiles} {id other above below : ℕ} {x before : ℤ} {tile part rest : Tile}
-    (cut : IsCutAtColumn old mid new id other above below x before tile part rest (right_part x id below) (left_part x other above)) where
-  along_halved : IsHalved old new id other (right_part x id below (tile_at old id)) (left_part x other above (tile_at old id))
-  along_halved =
-      let proper = cut.off.taken.proper in
+      record {
+        right = right_side partition given _ (ap (λ (r : Rect). r.xhi) there) (stitches.right id taken);
+        below = lower_side partition given _ (ap (λ (r : Rect). r.ylo) there) cut.near_leads;
+        above = upper_side partition given _ (ap (λ (r : Rect). r.yhi) there) (stitches.above id taken);
+        left = λ k its covers. right_into partition given k (ap (λ (r : Rect). r.xhi) there) its covers
+            (λ w low high owns. rest_leads cut k _ owns (omega (arith, ints)));
+      }
+  end_is Below cut =
+      let partition = cut.off.partition in
+      let stitches = cut.off.stitches in
+      let taken = cut.off.taken in
+      let given = (halved cut).given in
+      let there = ap (λ (t : Tile). t.area) (halved cut).split.there in
       let from = cut.from in
       let to = cut.to in
-      halve cut.off (omega (arith, ints))
-      (λ s covers off. by_lt_z s.x x (λ under. omega (arith, ints)) (λ over. absurd (off (omega (arith, ints)))))
-      (λ s covers. omega (arith, ints)) (λ s covers. omega (arith, ints)) (λ s p q. omega (arith, ints))
-      (left_half cut _ other (λ off. absurd (off (omega (arith, ints))))) (right_half cut _ id (λ off inside. omega (arith, ints))) refl refl
-
-  pub along_partition : IsPartition new
-  along_partition = cut_partition cut.off along_halved
-
-  -- it is the end that goes to the new number
-  pub along_end : IsRightEnd new part other
-  along_end =
-      let given = along_halved.given in
-      let here = along_halved.split.here in
-      let there = along_halved.split.there in
-      subst (λ (t : Tile). IsRightEnd new t other) (sym (part_is cut.off)) (record {
-        right = right_side cut.off.partition given _ (ap (λ (t : Tile). t.area.xhi) there) (cut.off.stitches.right id cut.off.taken);
-        below = lower_side cut.off.partition given _ (ap (λ (t : Tile). t.area.ylo) there) cut.below_leads;
-        above = upper_side cut.off.partition given _ (ap (λ (t : Tile). t.area.yhi) there) (cut.off.stitches.above id cut.off.taken);
-        left = λ k its covers. right_into cut.off.partition given k (ap (λ (t : Tile). t.area.xhi) there) its covers
-            (λ w low high owns.
-            let from = cut.from in
-            let to = cut.to in
-            let rest_owns : Owns new id (square_at (x -ℤ pos 1) w) = record {
-              covers = subst (λ (t : Tile). Covers t.area (square_at (x -ℤ pos 1) w)) (sym here) (omega (arith, ints));
-            } in
-            ap (λ (v : ℕ). (tile_at new v).right) (along_partition.one k id _ owns rest_owns) ∙ ap (λ (t : Tile). t.right) here);
-      })
-
-  -- once all stitches into it are redirected
-  module _ {last : Tiles} (all : AreRedirected part.area other new last) where
-    pub along_same : IsSamePlane old last
-    along_same = cut_same cut.off along_halved all
-
-    pub along_cut : IsCutAlong id id other x old last
-    along_cut =
-        let rest_part = rest_alike cut.off along_halved all in
-        let part_cut = part_alike cut.off along_halved all in
-        record {
-          free = inl (refl, cut.off.free);
-          low = rest_part.area;
-          high = part_cut.area;
-          low_value = rest_part.value;
-          high_value = part_cut.value;
-          others = others_alike cut.off along_halved all;
-        }
-
--- what is cut off is the left part
-module _ {old mid new : Tiles} {id other above below : ℕ} {x before : ℤ} {tile part rest : Tile}
-    (cut : IsCutAtColumn old mid new id other above below x before tile part rest (left_part x id above) (right_part x other below)) where
-  before_halved : IsHalved old new id other (left_part x id above (tile_at old id)) (right_part x other below (tile_at old id))
-  before_halved =
-      let proper = cut.off.taken.proper in
+      record {
+        left = left_side partition given _ (ap (λ (r : Rect). r.xlo) there) (stitches.left id taken);
+        right = right_side partition given _ (ap (λ (r : Rect). r.xhi) there) cut.near_leads;
+        below = lower_side partition given _ (ap (λ (r : Rect). r.ylo) there) (stitches.below id taken);
+        above = λ k its covers. down_into partition given k (ap (λ (r : Rect). r.ylo) there) its covers
+            (λ w low high owns. rest_leads cut k _ owns (omega (arith, ints)));
+      }
+  end_is Left cut =
+      let partition = cut.off.partition in
+      let stitches = cut.off.stitches in
+      let taken = cut.off.taken in
+      let given = (halved cut).given in
+      let there = ap (λ (t : Tile). t.area) (halved cut).split.there in
       let from = cut.from in
       let to = cut.to in
-      halve cut.off (omega (arith, ints))
-      (λ s covers off. by_lt_z s.x x (λ under. absurd (off (omega (arith, ints)))) (λ over. omega (arith, ints)))
-      (λ s covers. omega (arith, ints)) (λ s covers. omega (arith, ints)) (λ s p q. omega (arith, ints))
-      (right_half cut _ other (λ off. absurd (off (omega (arith, ints))))) (left_half cut _ id (λ off inside. omega (arith, ints))) refl refl
+      record {
+        left = left_side partition given _ (ap (λ (r : Rect). r.xlo) there) (stitches.left id taken);
+        above = upper_side partition given _ (ap (λ (r : Rect). r.yhi) there) cut.near_leads;
+        below = lower_side partition given _ (ap (λ (r : Rect). r.ylo) there) (stitches.below id taken);
+        right = λ k its covers. left_into partition given k (ap (λ (r : Rect). r.xlo) there) its covers
+            (λ w low high owns. rest_leads cut k _ owns (omega (arith, ints)));
+      }
 
-  pub before_partition : IsPartition new
-  before_partition = cut_partition cut.off before_halved
+  pub cutting_end : (side : Side) → IsCutting side old mid new id other near far at tile part rest → IsEnd side new part other
+  cutting_end side cut = subst (λ (t : Tile). IsEnd side new t other) (sym (part_is cut.off)) (end_is side cut)
 
-  -- it is the end that goes to the new number
-  pub before_end : IsLeftEnd new part other
-  before_end =
-      let given = before_halved.given in
-      let here = before_halved.split.here in
-      let there = before_halved.split.there in
-      subst (λ (t : Tile). IsLeftEnd new t other) (sym (part_is cut.off)) (record {
-        left = left_side cut.off.partition given _ (ap (λ (t : Tile). t.area.xlo) there) (cut.off.stitches.left id cut.off.taken);
-        above = upper_side cut.off.partition given _ (ap (λ (t : Tile). t.area.yhi) there) (above_led cut);
-        below = lower_side cut.off.partition given _ (ap (λ (t : Tile). t.area.ylo) there) (cut.off.stitches.below id cut.off.taken);
-        right = λ k its covers. left_into cut.off.partition given k (ap (λ (t : Tile). t.area.xlo) there) its covers
-            (λ w low high owns.
-            let from = cut.from in
-            let to = cut.to in
-            let rest_owns : Owns new id (square_at x w) = record {
-              covers = subst (λ (t : Tile). Covers t.area (square_at x w)) (sym here) (omega (arith, ints));
-            } in
-            ap (λ (v : ℕ). (tile_at new v).left) (before_partition.one k id _ owns rest_owns) ∙ ap (λ (t : Tile). t.left) here);
-      })
-
-  -- once all stitches into it are redirected
-  module _ {last : Tiles} (all : AreRedirected part.area other new last) where
-    pub before_same : IsSamePlane old last
-    before_same = cut_same cut.off before_halved all
-
-    pub before_cut : IsCutAlong id other id x old last
-    before_cut =
-        let rest_part = rest_alike cut.off before_halved all in
-        let part_cut = part_alike cut.off before_halved all in
-        record {
-          free = inr (refl, cut.off.free);
-          low = part_cut.area;
-          high = rest_part.area;
-          low_value = part_cut.value;
-          high_value = rest_part.value;
-          others = λ k n m. others_alike cut.off before_halved all k m n;
-        }
+  pub cutting_cut : (side : Side) → IsCutting side old mid new id other near far at tile part rest → {last : Tiles}
+      → AreRedirected part.area other new last → IsCutAt side id other at old last
+  cutting_cut Above cut all = part_after cut all
+  cutting_cut Right cut all = part_after cut all
+  cutting_cut Below cut all = part_before cut all
+  cutting_cut Left cut all = part_before cut all

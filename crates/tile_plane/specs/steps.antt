@@ -1,3 +1,4 @@
 pub mod Bands
 pub mod Cuts
 pub mod Mends
+pub mod Sides

@@ -2,63 +2,91 @@
 
 ghost use Rattle.std.specs.Prelude.{◌≡◌, ℤ, ◌≤ℤ◌, ◌<ℤ◌, OnOk, OnErr, IfOk};
 ghost use Rattle.geo_core.specs.Planes.{AreSame, plane_range};
-ghost use Rattle.tile_plane.specs.Tiles.{tile_at, IsTaken, IsPartition, HasStitches, value_at};
-ghost use Rattle.tile_plane.specs.steps.Cuts.{IsCutAcross, IsCutAlong, IsPartFrom, IsPartAfter};
+ghost use Rattle.tile_plane.specs.Tiles.{tile_at, IsTaken, IsPartition, HasStitches, Leads, value_at};
+ghost use Rattle.tile_plane.specs.steps.Cuts.{low_of, high_of, square_at_cut, part_at, IsCutAt, IsCutAcross, IsPartFrom, IsPartAfter};
 ghost use Rattle.tile_plane.specs.Tall.{AreCut, AreCutAt, NothingElseIsCut, AreCutAlong, AreCutAlongAt, NothingElseIsCutAlong};
 
-use crate::mends::{mend_left_end, mend_lower_end, mend_right_end, mend_upper_end};
+use crate::mends::mend_end;
+use crate::sides::Side;
 use crate::stores::Store;
 use crate::tiles::Tile;
 use crate::walks::{above_at, below_at, find, left_at, right_at};
 use geo_core::{Rect, Square};
 use tile_arena::ArenaFault;
 
-/// Cuts a tile at the height y. It keeps the lower part, and the upper one is new.
-fn split_across(store: &mut Store, id: u32, y: i64) -> Result<u32, ArenaFault>
+/// Cuts a tile at a height, or at a column where the side is the right or the left one. The part at the side is new.
+#[inline(always)]
+fn split_off(store: &mut Store, side: Side, id: u32, at: i64) -> Result<u32, ArenaFault>
     requires partition { IsPartition store.old }
     requires stitches { HasStitches store.old }
     requires taken { IsTaken store.old id }
-    requires from { (tile_at store.old id).area.ylo <ℤ y }
-    requires to { y <ℤ (tile_at store.old id).area.yhi }
+    requires from { low_of side (tile_at store.old id).area <ℤ at }
+    requires to { at <ℤ high_of side (tile_at store.old id).area }
     ensures partition { OnOk result (IsPartition store.new) }
     ensures stitches { OnOk result (HasStitches store.new) }
     ensures same { OnOk result (AreSame (value_at store.old) (value_at store.new)) }
-    ensures cut { IfOk result (λ upper. IsCutAcross id id upper y store.old store.new) }
+    ensures cut { IfOk result (λ part. IsCutAt side id part at store.old store.new) }
     ensures refused { OnErr result (store.new ≡ store.old) }
 {
     let tile = store.get(id);
-    let left = left_at(store, id, y);
-    let right = right_at(store, id, y - 1);
-    let part = upper_part(&tile, y, id, left);
-    let upper = store.insert(part)?;
-    let rest = lower_part(&tile, y, upper, right);
+    let back = side.opposite();
+    let near = beside_cut(store, side, id, at);
+    let far = beside_cut(store, back, id, at);
+    let part = part_at(&tile, side, at, id, near);
+    let new = store.insert(part)?;
+    let rest = part_at(&tile, back, at, new, far);
     store.put(id, rest);
-    mend_upper_end(store, &part, upper);
-    Ok(upper)
+    mend_end(store, side, &part, new);
+    Ok(new)
 }
 
-/// Cuts a tile at the height y. It keeps the upper part, and the lower one is new.
-fn split_off_lower(store: &mut Store, id: u32, y: i64) -> Result<u32, ArenaFault>
-    requires partition { IsPartition store.old }
-    requires stitches { HasStitches store.old }
-    requires taken { IsTaken store.old id }
-    requires from { (tile_at store.old id).area.ylo <ℤ y }
-    requires to { y <ℤ (tile_at store.old id).area.yhi }
-    ensures partition { OnOk result (IsPartition store.new) }
-    ensures stitches { OnOk result (HasStitches store.new) }
-    ensures same { OnOk result (AreSame (value_at store.old) (value_at store.new)) }
-    ensures cut { IfOk result (λ lower. IsCutAcross id lower id y store.old store.new) }
-    ensures refused { OnErr result (store.new ≡ store.old) }
+/// The tile beside the part of a tile at this side, where a cut begins.
+#[inline(always)]
+fn beside_cut(store: &Store, side: Side, id: u32, at: i64) -> u32
+    requires partition { IsPartition store.now }
+    requires stitches { HasStitches store.now }
+    requires taken { IsTaken store.now id }
+    requires from { low_of side (tile_at store.now id).area <ℤ at }
+    requires to { at <ℤ high_of side (tile_at store.now id).area }
+    ensures { Leads store.now result (square_at_cut side (tile_at store.now id).area at) }
 {
-    let tile = store.get(id);
-    let left = left_at(store, id, y);
-    let right = right_at(store, id, y - 1);
-    let part = lower_part(&tile, y, id, right);
-    let lower = store.insert(part)?;
-    let rest = upper_part(&tile, y, lower, left);
-    store.put(id, rest);
-    mend_lower_end(store, &part, lower);
-    Ok(lower)
+    match side {
+        Side::Above => left_at(store, id, at),
+        Side::Right => below_at(store, id, at),
+        Side::Below => right_at(store, id, at - 1),
+        Side::Left => above_at(store, id, at - 1),
+    }
+}
+
+/// The part of a tile at this side of a cut, with these stitches across it and beside it.
+#[inline(always)]
+fn part_at(tile: &Tile, side: Side, at: i64, across: u32, beside: u32) -> Tile
+    ensures { result ≡ part_at side at across beside tile.now }
+{
+    let mut part = *tile;
+    match side {
+        Side::Above => {
+            part.area.ylo = at;
+            part.below = across;
+            part.left = beside;
+        }
+        Side::Right => {
+            part.area.xlo = at;
+            part.left = across;
+            part.below = beside;
+        }
+        Side::Below => {
+            part.area.yhi = at;
+            part.above = across;
+            part.right = beside;
+        }
+        Side::Left => {
+            part.area.xhi = at;
+            part.right = across;
+            part.above = beside;
+        }
+    }
+    part
 }
 
 /// Cuts a tile at the height y. The result is the numbers of the lower and of the upper part. The one that is not as high is new, so a
@@ -78,119 +106,11 @@ pub fn cut_in_two(store: &mut Store, id: u32, y: i64) -> Result<(u32, u32), Aren
     let below = y - area.ylo;
     let above = area.yhi - y;
     if below < above {
-        let lower = split_off_lower(store, id, y)?;
+        let lower = split_off(store, Side::Below, id, y)?;
         return Ok((lower, id));
     }
-    let upper = split_across(store, id, y)?;
+    let upper = split_off(store, Side::Above, id, y)?;
     Ok((id, upper))
-}
-
-/// Cuts a tile at x. It keeps the left part, and the right one is new.
-fn split_along(store: &mut Store, id: u32, x: i64) -> Result<u32, ArenaFault>
-    requires partition { IsPartition store.old }
-    requires stitches { HasStitches store.old }
-    requires taken { IsTaken store.old id }
-    requires from { (tile_at store.old id).area.xlo <ℤ x }
-    requires to { x <ℤ (tile_at store.old id).area.xhi }
-    ensures partition { OnOk result (IsPartition store.new) }
-    ensures stitches { OnOk result (HasStitches store.new) }
-    ensures same { OnOk result (AreSame (value_at store.old) (value_at store.new)) }
-    ensures cut { IfOk result (λ right. IsCutAlong id id right x store.old store.new) }
-    ensures refused { OnErr result (store.new ≡ store.old) }
-{
-    let tile = store.get(id);
-    let below = below_at(store, id, x);
-    let above = above_at(store, id, x - 1);
-    let part = right_part(&tile, x, id, below);
-    let right = store.insert(part)?;
-    let rest = left_part(&tile, x, right, above);
-    store.put(id, rest);
-    mend_right_end(store, &part, right);
-    Ok(right)
-}
-
-/// Cuts a tile at x. It keeps the right part, and the left one is new.
-fn split_off_left(store: &mut Store, id: u32, x: i64) -> Result<u32, ArenaFault>
-    requires partition { IsPartition store.old }
-    requires stitches { HasStitches store.old }
-    requires taken { IsTaken store.old id }
-    requires from { (tile_at store.old id).area.xlo <ℤ x }
-    requires to { x <ℤ (tile_at store.old id).area.xhi }
-    ensures partition { OnOk result (IsPartition store.new) }
-    ensures stitches { OnOk result (HasStitches store.new) }
-    ensures same { OnOk result (AreSame (value_at store.old) (value_at store.new)) }
-    ensures cut { IfOk result (λ left. IsCutAlong id left id x store.old store.new) }
-    ensures refused { OnErr result (store.new ≡ store.old) }
-{
-    let tile = store.get(id);
-    let below = below_at(store, id, x);
-    let above = above_at(store, id, x - 1);
-    let part = left_part(&tile, x, id, above);
-    let left = store.insert(part)?;
-    let rest = right_part(&tile, x, left, below);
-    store.put(id, rest);
-    mend_left_end(store, &part, left);
-    Ok(left)
-}
-
-/// The part of a tile from y on, with these stitches where it is cut.
-fn upper_part(tile: &Tile, y: i64, below: u32, left: u32) -> Tile
-    ensures { result ≡ record tile.now { area = record tile.now.area { ylo = y }; below = below; left = left } }
-{
-    Tile {
-        area: Rect {
-            ylo: y,
-            ..tile.area
-        },
-        below,
-        left,
-        ..*tile
-    }
-}
-
-/// The part of a tile below y.
-fn lower_part(tile: &Tile, y: i64, above: u32, right: u32) -> Tile
-    ensures { result ≡ record tile.now { area = record tile.now.area { yhi = y }; above = above; right = right } }
-{
-    Tile {
-        area: Rect {
-            yhi: y,
-            ..tile.area
-        },
-        above,
-        right,
-        ..*tile
-    }
-}
-
-/// The part of a tile from x on.
-fn right_part(tile: &Tile, x: i64, left: u32, below: u32) -> Tile
-    ensures { result ≡ record tile.now { area = record tile.now.area { xlo = x }; left = left; below = below } }
-{
-    Tile {
-        area: Rect {
-            xlo: x,
-            ..tile.area
-        },
-        left,
-        below,
-        ..*tile
-    }
-}
-
-/// The part of a tile left of x.
-fn left_part(tile: &Tile, x: i64, right: u32, above: u32) -> Tile
-    ensures { result ≡ record tile.now { area = record tile.now.area { xhi = x }; right = right; above = above } }
-{
-    Tile {
-        area: Rect {
-            xhi: x,
-            ..tile.area
-        },
-        right,
-        above,
-        ..*tile
-    }
 }
 
 /// The part of a tile from y on, cut out of it where it begins below.
@@ -232,10 +152,10 @@ pub fn part_after(store: &mut Store, id: u32, x: i64) -> Result<u32, ArenaFault>
     let left = x - area.xlo;
     let right = area.xhi - x;
     if left < right {
-        let _left = split_off_left(store, id, x)?;
+        let _left = split_off(store, Side::Left, id, x)?;
         return Ok(id);
     }
-    let part = split_along(store, id, x)?;
+    let part = split_off(store, Side::Right, id, x)?;
     Ok(part)
 }
 

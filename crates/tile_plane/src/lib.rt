@@ -33,6 +33,7 @@ mod marks;
 mod mends;
 mod pieces;
 mod sheets;
+mod sides;
 mod slots;
 mod stores;
 mod tile_planes;

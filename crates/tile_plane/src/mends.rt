@@ -1,11 +1,27 @@
 //! Stitches that lead to squares of an area, from the tiles around it.
 ghost use Rattle.tile_plane.specs.Tiles.{IsPartition};
 ghost use Rattle.tile_plane.specs.steps.Mends.{Above, Right, Below, Left, LeadTo, AreRedirected, IsUpperSide, IsRightSide, IsLowerSide, IsLeftSide, IsUpperEnd};
-ghost use Rattle.tile_plane.specs.steps.Mends.{IsLowerEnd, IsRightEnd, IsLeftEnd};
+ghost use Rattle.tile_plane.specs.steps.Mends.{IsLowerEnd, IsRightEnd, IsLeftEnd, IsEnd};
 
+use crate::sides::Side;
 use crate::stores::Store;
 use crate::tiles::Tile;
 use geo_core::{PLANE_EDGE, Rect};
+
+/// Leads all stitches into the end of a tile at this side to that tile. The end is given as a tile of its own.
+#[inline(always)]
+pub fn mend_end(store: &mut Store, side: Side, end: &Tile, id: u32)
+    requires partition { IsPartition store.old }
+    requires end { IsEnd side store.old end.now id }
+    ensures { AreRedirected end.now.area id store.old store.new }
+{
+    match side {
+        Side::Above => mend_upper_end(store, end, id),
+        Side::Right => mend_right_end(store, end, id),
+        Side::Below => mend_lower_end(store, end, id),
+        Side::Left => mend_left_end(store, end, id),
+    }
+}
 
 /// Leads all stitches into the upper end of a tile to that tile. The end is given as a tile of its own.
 pub fn mend_upper_end(store: &mut Store, end: &Tile, id: u32)
@@ -19,7 +35,7 @@ pub fn mend_upper_end(store: &mut Store, end: &Tile, id: u32)
 }
 
 /// Leads all stitches into the lower end of a tile to that tile. The end is given as a tile of its own.
-pub fn mend_lower_end(store: &mut Store, end: &Tile, id: u32)
+fn mend_lower_end(store: &mut Store, end: &Tile, id: u32)
     requires partition { IsPartition store.old }
     requires end { IsLowerEnd store.old end.now id }
     ensures { AreRedirected end.now.area id store.old store.new }
@@ -41,7 +57,7 @@ pub fn mend_right_end(store: &mut Store, end: &Tile, id: u32)
 }
 
 /// Leads all stitches into the left end of a tile to that tile. The end is given as a tile of its own.
-pub fn mend_left_end(store: &mut Store, end: &Tile, id: u32)
+fn mend_left_end(store: &mut Store, end: &Tile, id: u32)
     requires partition { IsPartition store.old }
     requires end { IsLeftEnd store.old end.now id }
     ensures { AreRedirected end.now.area id store.old store.new }

@@ -1,12 +1,14 @@
 //! Walks from tile to tile along stitches.
-ghost use Rattle.std.specs.Prelude.{ℤ, pos, ◌-ℤ◌, ◌≤ℤ◌, ◌<ℤ◌, MatchOption};
+ghost use Rattle.std.specs.Prelude.{◌≡◌, ◌↔◌, ℤ, pos, ◌-ℤ◌, ◌≤ℤ◌, ◌<ℤ◌, IsTrue, MatchOption};
 ghost use Rattle.geo_core.specs.Covering.{Covers};
 ghost use Rattle.geo_core.specs.Planes.{plane_range};
 ghost use Rattle.tile_plane.specs.Tiles.{tile_at, IsTaken, Owns, IsPartition, HasStitches, Leads};
 ghost use Rattle.tile_plane.specs.Walks.{square_at, HasRow};
+ghost use Rattle.tile_plane.specs.steps.Sides.{IsLast, HasLine, IsShort, square_beside};
 
+use crate::sides::Side;
 use crate::stores::Store;
-use geo_core::{PLANE_EDGE, Square};
+use geo_core::{PLANE_EDGE, Rect, Square};
 
 /// The tile of the square, from any tile. It is found sooner from one that is near.
 pub fn find(store: &Store, square: Square, hint: u32) -> u32
@@ -76,8 +78,7 @@ fn below_near(store: &Store, id: u32, x: i64) -> u32
     tile.below
 }
 
-/// The tile to the right of a tile at y. Any tile where the range ends there. Two walks go to it, one from either end of the right side, so
-/// it is found soon where it is near one of them.
+/// The tile to the right of a tile at y. Any tile where the range ends there.
 pub fn right_at(store: &Store, id: u32, y: i64) -> u32
     requires partition { IsPartition store.now }
     requires stitches { HasStitches store.now }
@@ -86,27 +87,10 @@ pub fn right_at(store: &Store, id: u32, y: i64) -> u32
     requires to { y <ℤ (tile_at store.now id).area.yhi }
     ensures { Leads store.now result (square_at (tile_at store.now id).area.xhi y) }
 {
-    let tile = store.get(id);
-    if PLANE_EDGE <= tile.area.xhi {
-        return id;
-    }
-    let square = Square {
-        x: tile.area.xhi,
-        y,
-    };
-    let mut other = below_or_self(store, id);
-    let mut next = tile.right;
-    'downward: while y < store.get(next).area.ylo {
-        let Some(step) = step_across(store, other, square) else {
-            return other;
-        };
-        other = step;
-        next = store.get(next).below;
-    }
-    next
+    beside_at(store, Side::Right, id, y)
 }
 
-/// The tile to the left of a tile at y. Any tile where the range ends there. Two walks go to it, one from either end of the left side.
+/// The tile to the left of a tile at y. Any tile where the range ends there.
 pub fn left_at(store: &Store, id: u32, y: i64) -> u32
     requires partition { IsPartition store.now }
     requires stitches { HasStitches store.now }
@@ -115,27 +99,10 @@ pub fn left_at(store: &Store, id: u32, y: i64) -> u32
     requires to { y <ℤ (tile_at store.now id).area.yhi }
     ensures { Leads store.now result (square_at ((tile_at store.now id).area.xlo -ℤ pos 1) y) }
 {
-    let tile = store.get(id);
-    if tile.area.xlo <= -PLANE_EDGE {
-        return id;
-    }
-    let square = Square {
-        x: tile.area.xlo - 1,
-        y,
-    };
-    let mut other = above_or_self(store, id);
-    let mut next = tile.left;
-    'upward: while store.get(next).area.yhi <= y {
-        let Some(step) = step_across(store, other, square) else {
-            return other;
-        };
-        other = step;
-        next = store.get(next).above;
-    }
-    next
+    beside_at(store, Side::Left, id, y)
 }
 
-/// The tile above a tile at x. Any tile where the range ends there. Two walks go to it, one from either end of the upper side.
+/// The tile above a tile at x. Any tile where the range ends there.
 pub fn above_at(store: &Store, id: u32, x: i64) -> u32
     requires partition { IsPartition store.now }
     requires stitches { HasStitches store.now }
@@ -144,27 +111,10 @@ pub fn above_at(store: &Store, id: u32, x: i64) -> u32
     requires to { x <ℤ (tile_at store.now id).area.xhi }
     ensures { Leads store.now result (square_at x (tile_at store.now id).area.yhi) }
 {
-    let tile = store.get(id);
-    if PLANE_EDGE <= tile.area.yhi {
-        return id;
-    }
-    let square = Square {
-        x,
-        y: tile.area.yhi,
-    };
-    let mut other = left_or_self(store, id);
-    let mut next = tile.above;
-    'leftward: while x < store.get(next).area.xlo {
-        let Some(step) = step_to(store, other, square) else {
-            return other;
-        };
-        other = step;
-        next = store.get(next).left;
-    }
-    next
+    beside_at(store, Side::Above, id, x)
 }
 
-/// The tile below a tile at x. Any tile where the range ends there. Two walks go to it, one from either end of the lower side.
+/// The tile below a tile at x. Any tile where the range ends there.
 pub fn below_at(store: &Store, id: u32, x: i64) -> u32
     requires partition { IsPartition store.now }
     requires stitches { HasStitches store.now }
@@ -173,80 +123,110 @@ pub fn below_at(store: &Store, id: u32, x: i64) -> u32
     requires to { x <ℤ (tile_at store.now id).area.xhi }
     ensures { Leads store.now result (square_at x ((tile_at store.now id).area.ylo -ℤ pos 1)) }
 {
+    beside_at(store, Side::Below, id, x)
+}
+
+/// The tile beside a tile in a row or a column. Any tile where the range ends there. Two walks go to it, one from either end of the side, so
+/// it is found soon where it is near one of them.
+#[inline(always)]
+fn beside_at(store: &Store, side: Side, id: u32, at: i64) -> u32
+    requires partition { IsPartition store.now }
+    requires stitches { HasStitches store.now }
+    requires taken { IsTaken store.now id }
+    requires line { HasLine side (tile_at store.now id).area at }
+    ensures { Leads store.now result (square_beside side (tile_at store.now id).area at) }
+{
     let tile = store.get(id);
-    if tile.area.ylo <= -PLANE_EDGE {
+    if is_last(side, &tile.area) {
         return id;
     }
-    let square = Square {
-        x,
-        y: tile.area.ylo - 1,
-    };
-    let mut other = right_or_self(store, id);
-    let mut next = tile.below;
-    'rightward: while store.get(next).area.xhi <= x {
-        let Some(step) = step_to(store, other, square) else {
+    let square = square_beside(side, &tile.area, at);
+    let mut other = stitch_or_self(store, side.along(), id);
+    let mut next = side.stitch(&tile);
+    'along: while is_short(side, &store.get(next).area, at) {
+        let Some(step) = step_along(store, side, other, square) else {
             return other;
         };
         other = step;
-        next = store.get(next).right;
+        next = side.along().stitch(&store.get(next));
     }
     next
 }
 
-/// The tile to the left of a tile, or the tile itself where the range ends there.
-fn left_or_self(store: &Store, id: u32) -> u32
-    requires partition { IsPartition store.now }
-    requires stitches { HasStitches store.now }
-    requires taken { IsTaken store.now id }
-    ensures { IsTaken store.now result }
+/// Whether the range ends at this side of an area.
+#[inline(always)]
+fn is_last(side: Side, area: &Rect) -> bool
+    ensures { IsTrue result ↔ IsLast side area.now }
 {
-    let tile = store.get(id);
-    if tile.area.xlo <= -PLANE_EDGE {
-        return id;
+    match side {
+        Side::Above => PLANE_EDGE <= area.yhi,
+        Side::Right => PLANE_EDGE <= area.xhi,
+        Side::Below => area.ylo <= -PLANE_EDGE,
+        Side::Left => area.xlo <= -PLANE_EDGE,
     }
-    tile.left
 }
 
-/// The tile to the right of a tile, or the tile itself where the range ends there.
-fn right_or_self(store: &Store, id: u32) -> u32
-    requires partition { IsPartition store.now }
-    requires stitches { HasStitches store.now }
-    requires taken { IsTaken store.now id }
-    ensures { IsTaken store.now result }
+/// The square beside an area in a row or a column, where the range goes on.
+#[inline(always)]
+fn square_beside(side: Side, area: &Rect, at: i64) -> Square
+    requires { IsLast side area.now → ⊥ }
+    ensures { result ≡ square_beside side area.now at }
 {
-    let tile = store.get(id);
-    if PLANE_EDGE <= tile.area.xhi {
-        return id;
+    match side {
+        Side::Above => Square { x: at, y: area.yhi },
+        Side::Right => Square { x: area.xhi, y: at },
+        Side::Below => Square {
+            x: at,
+            y: area.ylo - 1,
+        },
+        Side::Left => Square {
+            x: area.xlo - 1,
+            y: at,
+        },
     }
-    tile.right
 }
 
-/// The tile below a tile, or the tile itself where the range ends there.
-fn below_or_self(store: &Store, id: u32) -> u32
-    requires partition { IsPartition store.now }
-    requires stitches { HasStitches store.now }
-    requires taken { IsTaken store.now id }
-    ensures { IsTaken store.now result }
+/// Whether a walk along the side that is at a tile of this area has not come to the row or column.
+#[inline(always)]
+fn is_short(side: Side, area: &Rect, at: i64) -> bool
+    ensures { IsTrue result ↔ IsShort side area.now at }
 {
-    let tile = store.get(id);
-    if tile.area.ylo <= -PLANE_EDGE {
-        return id;
+    match side {
+        Side::Above => at < area.xlo,
+        Side::Right => at < area.ylo,
+        Side::Below => area.xhi <= at,
+        Side::Left => area.yhi <= at,
     }
-    tile.below
 }
 
-/// The tile above a tile, or the tile itself where the range ends there.
-fn above_or_self(store: &Store, id: u32) -> u32
+/// The tile at this side of a tile, or the tile itself where the range ends there.
+#[inline(always)]
+fn stitch_or_self(store: &Store, side: Side, id: u32) -> u32
     requires partition { IsPartition store.now }
     requires stitches { HasStitches store.now }
     requires taken { IsTaken store.now id }
     ensures { IsTaken store.now result }
 {
     let tile = store.get(id);
-    if PLANE_EDGE <= tile.area.yhi {
+    if is_last(side, &tile.area) {
         return id;
     }
-    tile.above
+    side.stitch(&tile)
+}
+
+/// One step from a tile towards a square beside a side, first across the way along the side. None where the tile has the square.
+#[inline(always)]
+fn step_along(store: &Store, side: Side, id: u32, square: Square) -> Option<u32>
+    requires partition { IsPartition store.now }
+    requires stitches { HasStitches store.now }
+    requires taken { IsTaken store.now id }
+    requires inside { Covers plane_range square }
+    ensures { MatchOption result (Owns store.now id square) (IsTaken store.now) }
+{
+    match side {
+        Side::Above | Side::Below => step_to(store, id, square),
+        Side::Right | Side::Left => step_across(store, id, square),
+    }
 }
 
 /// One step from a tile towards a square, up or down first and then to a side. None where the tile has the square.

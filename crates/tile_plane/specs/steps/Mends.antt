@@ -7,14 +7,9 @@ use Rattle.geo_core.specs.Covering.{Covers, IsProper}
 use Rattle.tile_plane.specs.declared.tiles.Tile.{Tile}
 use Rattle.tile_plane.specs.Tiles.{Tiles, tile_at, IsTaken, Owns, Leads, square_above, square_right, square_below, square_left}
 use Rattle.tile_plane.specs.Walks.{square_at}
+pub use Rattle.tile_plane.specs.declared.sides.Side.{Side}
+pub use Rattle.tile_plane.specs.declared.sides.Side.TheVariants.{Above, Right, Below, Left}
 use Rattle.tile_plane.specs.steps.Cuts.{AreAlike}
-
--- the sides of a tile, at each of which it has a stitch
-pub data Side : Type 0 where
-  Above : Side
-  Right : Side
-  Below : Side
-  Left : Side
 
 abbrev pub stitch_of : Side → Tile → ℕ
 stitch_of Above tile = tile.above
@@ -113,3 +108,10 @@ pub record IsLowerEnd (tiles : Tiles) (end : Tile) (id : ℕ) : Type 0 where
   pub right : IsRightSide tiles end.area end.right id
   pub below : IsLowerSide tiles end.area end.below id
   pub above : (k : ℕ) → IsTaken tiles k → Covers end.area (square_below (tile_at tiles k)) → (tile_at tiles k).below ≡ id
+
+-- The same of the end at any of the sides.
+abbrev pub IsEnd : Side → Tiles → Tile → ℕ → Type 0
+IsEnd Above tiles end id = IsUpperEnd tiles end id
+IsEnd Right tiles end id = IsRightEnd tiles end id
+IsEnd Below tiles end id = IsLowerEnd tiles end id
+IsEnd Left tiles end id = IsLeftEnd tiles end id

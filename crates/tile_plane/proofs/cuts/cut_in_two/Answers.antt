@@ -16,9 +16,9 @@ overflow_sub-above c =
 pub returns-then-below-above-clause-cut : goal.returns-then-below-above-clause-cut
 returns-then-below-above-clause-cut c =
     let same : to_z w64 (of_z w64 c.args.y) ≡ c.args.y = to_z-of_z w64 c.args.y c.ranges.y in
-    subst (λ (v : ℤ). IsCutAcross c.args.id c.in_ok-lower.lower c.args.id v c.args.store.now c.split_off_lower.new.store) same c.in_ok-lower.ensures.cut
+    subst (λ (v : ℤ). IsCutAcross c.args.id c.in_ok-lower.lower c.args.id v c.args.store.now c.split_off.new.store) same c.in_ok-lower.ensures.cut
 
 pub returns-clause-cut : goal.returns-clause-cut
 returns-clause-cut c =
     let same : to_z w64 (of_z w64 c.args.y) ≡ c.args.y = to_z-of_z w64 c.args.y c.ranges.y in
-    subst (λ (v : ℤ). IsCutAcross c.args.id c.args.id c.in_ok-upper.upper v c.args.store.now c.split_across.new.store) same c.in_ok-upper.ensures.cut
+    subst (λ (v : ℤ). IsCutAcross c.args.id c.args.id c.in_ok-upper.upper v c.args.store.now c.split_off-2.new.store) same c.in_ok-upper.ensures.cut

@@ -27,7 +27,7 @@ returns-then-left-right-clause-part c =
     inr (
       left,
       omega (arith, ints),
-      subst (λ (v : ℤ). IsCutAlong c.args.id left c.args.id v c.args.store.now c.split_off_left.new.store) same
+      subst (λ (v : ℤ). IsCutAlong c.args.id left c.args.id v c.args.store.now c.split_off.new.store) same
           c.in_ok-_left.ensures.cut,
     )
 
@@ -39,6 +39,6 @@ returns-clause-part c =
     inr (
       c.args.id,
       omega (arith, ints),
-      subst (λ (v : ℤ). IsCutAlong c.args.id c.args.id part v c.args.store.now c.split_along.new.store) same
+      subst (λ (v : ℤ). IsCutAlong c.args.id c.args.id part v c.args.store.now c.split_off-2.new.store) same
           c.in_ok-part.ensures.cut,
     )

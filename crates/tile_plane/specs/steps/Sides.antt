@@ -1,0 +1,50 @@
+-- Sides of tiles: what lies beside them, and walks along them.
+use Rattle.std.specs.Prelude.{ℤ, pos, ◌-ℤ◌, ◌≤ℤ◌, ◌<ℤ◌}
+use Rattle.geo_core.specs.declared.squares.Square.{Square}
+use Rattle.geo_core.specs.declared.squares.Rect.{Rect}
+use Rattle.geo_core.specs.Planes.{plane_range}
+use Rattle.tile_plane.specs.declared.sides.Side.{Side}
+use Rattle.tile_plane.specs.declared.sides.Side.TheVariants.{Above, Right, Below, Left}
+use Rattle.tile_plane.specs.Walks.{square_at}
+
+-- where a walk along the side goes, which begins where the stitch at the side leads to
+abbrev pub along : Side → Side
+along Above = Left
+along Right = Below
+along Below = Right
+along Left = Above
+
+-- the range goes on beside this side of the area
+abbrev pub GoesOn : Side → Rect → Type 0
+GoesOn Above area = area.yhi <ℤ plane_range.yhi
+GoesOn Right area = area.xhi <ℤ plane_range.xhi
+GoesOn Below area = plane_range.ylo <ℤ area.ylo
+GoesOn Left area = plane_range.xlo <ℤ area.xlo
+
+-- the range ends there
+abbrev pub IsLast : Side → Rect → Type 0
+IsLast Above area = plane_range.yhi ≤ℤ area.yhi
+IsLast Right area = plane_range.xhi ≤ℤ area.xhi
+IsLast Below area = area.ylo ≤ℤ plane_range.ylo
+IsLast Left area = area.xlo ≤ℤ plane_range.xlo
+
+-- the side has this row or column
+abbrev pub HasLine : Side → Rect → ℤ → Type 0
+HasLine Above area x = (area.xlo ≤ℤ x) × (x <ℤ area.xhi)
+HasLine Right area y = (area.ylo ≤ℤ y) × (y <ℤ area.yhi)
+HasLine Below area x = (area.xlo ≤ℤ x) × (x <ℤ area.xhi)
+HasLine Left area y = (area.ylo ≤ℤ y) × (y <ℤ area.yhi)
+
+-- the square beside the side in a row or a column
+abbrev pub square_beside : Side → Rect → ℤ → Square
+square_beside Above area x = square_at x area.yhi
+square_beside Right area y = square_at area.xhi y
+square_beside Below area x = square_at x (area.ylo -ℤ pos 1)
+square_beside Left area y = square_at (area.xlo -ℤ pos 1) y
+
+-- a walk along the side that is at a tile of this area has not come to the row or column
+abbrev pub IsShort : Side → Rect → ℤ → Type 0
+IsShort Above area x = x <ℤ area.xlo
+IsShort Right area y = y <ℤ area.ylo
+IsShort Below area x = area.xhi ≤ℤ x
+IsShort Left area y = area.yhi ≤ℤ y
