@@ -61,7 +61,7 @@ module _ (first : ℕ) (order : List ℕ) where
   settled_here : (place : ℕ) → IsSettled first order (suc place) (at order place)
   settled_here place = inr (record { place = place; before = omega arith; is = refl })
 
-module _ (cells : List CellState) (first : ℕ) (order : List ℕ) (o : IsNewOrder cells first order) where
+module _ {cells : List CellState} {first : ℕ} {order : List ℕ} (o : IsNewOrder cells first order) where
   -- a settled cell is none of those that are not
   pub settled_apart : (place key : ℕ) → place < length order → IsSettled first order place key → key ≢ at order place
   settled_apart place key before (inl old) same = omega (arith, old, o.new place before, same)
@@ -264,17 +264,17 @@ module _ (cells : List CellState) (first : ℕ) (order : List ℕ) (o : IsNewOrd
         | inr past ↦ subst (IsWithin dimension) (sym (get_or_past sizes key no_size (omega (arith, past, long)))) (none_within dimension)
       ]
 
-  module _ (sizes : List Size) (long : length sizes ≡ length cells) (right : (dimension : Dimension) → AreRightTo dimension cells first order 0 sizes) where
+  module _ (sizes : List Size) (long : length sizes ≡ length cells) (old : (dimension : Dimension) → AreSettled dimension cells first order 0 sizes) where
     truth : List Size
     truth = exact sizes (length order)
 
     truth_right : (dimension : Dimension) → AreRightTo dimension cells first order (length order) truth
     unfolding truth
-    truth_right dimension = exact-right dimension sizes (length order) long (omega arith) (right dimension)
+    truth_right dimension = exact-right dimension sizes (length order) long (omega arith) (old dimension).right
 
     truth_old : (key : ℕ) → key < first → size_at truth key ≡ size_at sizes key
     unfolding truth
-    truth_old key old = exact-old sizes (length order) key (omega arith) old
+    truth_old key low = exact-old sizes (length order) key (omega arith) low
 
     truth_long : length truth ≡ length cells
     unfolding truth
@@ -285,7 +285,7 @@ module _ (cells : List CellState) (first : ℕ) (order : List ℕ) (o : IsNewOrd
         → AreRightTo dimension cells first order place next → (key : ℕ) → IsSettled first order place key
         → AreAlike dimension (size_at next key) (size_at truth key)
     truth_agrees dimension place next low kept worked key settled =
-        agree dimension place next truth low (λ k old. alike_refl dimension _ _ (kept k old ∙ sym (truth_old k old))) worked
+        agree dimension place next truth low (λ k low. alike_refl dimension _ _ (kept k low ∙ sym (truth_old k low))) worked
         (right_less dimension place (length order) truth low (truth_right dimension)) key settled
 
     -- what was worked out in a dimension and keeps within its limit shows that of the right sizes
@@ -307,11 +307,9 @@ module _ (cells : List CellState) (first : ℕ) (order : List ℕ) (o : IsNewOrd
         (settled_here first order stops.place))) within)
 
     -- A limit that is passed as sizes are worked out is passed by the sizes that the cells have.
-    pub passes_all : (dimension : Dimension) (next : List Size) → ((key : ℕ) → key < first → size_at next key ≡ size_at sizes key)
+    passes_all : (dimension : Dimension) (next : List Size) → ((key : ℕ) → key < first → size_at next key ≡ size_at sizes key)
         → StopsAt dimension cells first order next
-        → ((other : Dimension) → ComesBefore other dimension
-        → (done : List Size) × (((key : ℕ) → key < first → size_at done key ≡ size_at sizes key) × AreSettled other cells first order (length order) done))
-        → PassesWithAll dimension cells
+        → ((other : Dimension) → ComesBefore other dimension → (key : ℕ) → IsWithin other (size_at truth key)) → PassesWithAll dimension cells
     passes_all dimension next kept stops earlier =
         record {
           acyclic = right_acyclic cells truth (right_all truth truth_right);
@@ -321,77 +319,68 @@ module _ (cells : List CellState) (first : ℕ) (order : List ℕ) (o : IsNewOrd
           cell = at order stops.place;
           there = o.within stops.place stops.before;
           passes = truth_passes dimension next kept stops;
-          before = λ other comes key. let was = earlier other comes in truth_within other was.0 was.1.0 was.1.1 key;
+          before = earlier;
         }
 
-    module _ (deep many wide : List Size) (k : AreKept Depth first sizes deep) where
-      kept_two : AreKept Elements first deep many → (key : ℕ) → key < first → size_at many key ≡ size_at sizes key
-      kept_two l key old = l.kept key old ∙ k.kept key old
-
-      kept_three : AreKept Elements first deep many → AreKept Hull first many wide → (key : ℕ) → key < first → size_at wide key ≡ size_at sizes key
-      kept_three l m key old = m.kept key old ∙ kept_two l key old
-
+    module _ {deep : List Size} (k : AreKept Depth first sizes deep) where
       -- the first dimension is passed
       pub passes_one : StopsAt Depth cells first order deep → PassesWithAll Depth cells
       passes_one stops = passes_all Depth deep k.kept stops none
         where
-          none : (other : Dimension) → ComesBefore other Depth
-              → (done : List Size) × (((key : ℕ) → key < first → size_at done key ≡ size_at sizes key) × AreSettled other cells first order (length order) done)
-          none Depth comes = absurd comes
-          none Elements comes = absurd comes
-          none Hull comes = absurd comes
+          none : (other : Dimension) → ComesBefore other Depth → (key : ℕ) → IsWithin other (size_at truth key)
+          none Depth comes key = absurd comes
+          none Elements comes key = absurd comes
+          none Hull comes key = absurd comes
 
-      -- the second is
-      pub passes_two : AreSettled Depth cells first order (length order) deep → AreKept Elements first deep many → StopsAt Elements cells first order many
-          → PassesWithAll Elements cells
-      passes_two done l stops = passes_all Elements many (kept_two l) stops one
-        where
-          one : (other : Dimension) → ComesBefore other Elements
-              → (done : List Size) × (((key : ℕ) → key < first → size_at done key ≡ size_at sizes key) × AreSettled other cells first order (length order) done)
-          one Depth comes = (deep, (k.kept, done))
-          one Elements comes = absurd comes
-          one Hull comes = absurd comes
+      module _ {many : List Size} (done : AreSettled Depth cells first order (length order) deep) (l : AreKept Elements first deep many) where
+        kept_two : (key : ℕ) → key < first → size_at many key ≡ size_at sizes key
+        kept_two key low = l.kept key low ∙ k.kept key low
 
-      -- the third is
-      pub passes_three : AreSettled Depth cells first order (length order) deep → AreKept Elements first deep many
-          → AreSettled Elements cells first order (length order) many
-          → AreKept Hull first many wide → StopsAt Hull cells first order wide → PassesWithAll Hull cells
-      passes_three done l more m stops = passes_all Hull wide (kept_three l m) stops two
-        where
-          two : (other : Dimension) → ComesBefore other Hull
-              → (done : List Size) × (((key : ℕ) → key < first → size_at done key ≡ size_at sizes key) × AreSettled other cells first order (length order) done)
-          two Depth comes = (deep, (k.kept, done))
-          two Elements comes = (many, (kept_two l, more))
-          two Hull comes = absurd comes
+        -- the second is
+        pub passes_two : StopsAt Elements cells first order many → PassesWithAll Elements cells
+        passes_two stops = passes_all Elements many kept_two stops one
+          where
+            one : (other : Dimension) → ComesBefore other Elements → (key : ℕ) → IsWithin other (size_at truth key)
+            one Depth comes key = truth_within Depth deep k.kept done key
+            one Elements comes key = absurd comes
+            one Hull comes key = absurd comes
 
-      module _ (done : AreSettled Depth cells first order (length order) deep) (l : AreKept Elements first deep many)
-          (more : AreSettled Elements cells first order (length order) many)
-          (m : AreKept Hull first many wide) (whole : AreSettled Hull cells first order (length order) wide) where
-        depths : (key : ℕ) → AreAlike Depth (size_at wide key) (size_at deep key)
-        depths key = m.others Depth (λ e. absurd (cc)) key ∙ l.others Depth (λ e. absurd (cc)) key
+        module _ {wide : List Size} (more : AreSettled Elements cells first order (length order) many) (m : AreKept Hull first many wide) where
+          pub sized_kept : (key : ℕ) → key < first → size_at wide key ≡ size_at sizes key
+          sized_kept key low = m.kept key low ∙ kept_two key low
 
-        elements : (key : ℕ) → AreAlike Elements (size_at wide key) (size_at many key)
-        elements key = m.others Elements (λ e. absurd (cc)) key
+          -- the third is
+          pub passes_three : StopsAt Hull cells first order wide → PassesWithAll Hull cells
+          passes_three stops = passes_all Hull wide sized_kept stops two
+            where
+              two : (other : Dimension) → ComesBefore other Hull → (key : ℕ) → IsWithin other (size_at truth key)
+              two Depth comes key = truth_within Depth deep k.kept done key
+              two Elements comes key = truth_within Elements many kept_two more key
+              two Hull comes key = absurd comes
 
-        -- no dimension is passed
-        settled_all : (dimension : Dimension) → AreSettled dimension cells first order (length order) wide
-        settled_all Depth =
-            record {
-              right = right_alike Depth (length order) deep wide depths done.right;
-              within = λ key is. alike_within Depth (size_at deep key) (size_at wide key) (sym (depths key)) (done.within key is);
-            }
-        settled_all Elements =
-            record {
-              right = right_alike Elements (length order) many wide elements more.right;
-              within = λ key is. alike_within Elements (size_at many key) (size_at wide key) (sym (elements key)) (more.within key is);
-            }
-        settled_all Hull = whole
+          depths : (key : ℕ) → AreAlike Depth (size_at wide key) (size_at deep key)
+          depths key = m.others Depth (λ e. absurd (cc)) key ∙ l.others Depth (λ e. absurd (cc)) key
 
-        pub sized_right : AreSizes cells wide
-        sized_right = right_all wide (λ dimension. (settled_all dimension).right)
+          elements : (key : ℕ) → AreAlike Elements (size_at wide key) (size_at many key)
+          elements key = m.others Elements (λ e. absurd (cc)) key
 
-        pub sized_within : length wide ≡ length cells → (dimension : Dimension) (key : ℕ) → IsWithin dimension (size_at wide key)
-        sized_within as_many dimension key = within_all dimension wide as_many (settled_all dimension) key
+          module _ (whole : AreSettled Hull cells first order (length order) wide) where
+            -- no dimension is passed
+            settled_all : (dimension : Dimension) → AreSettled dimension cells first order (length order) wide
+            settled_all Depth =
+                record {
+                  right = right_alike Depth (length order) deep wide depths done.right;
+                  within = λ key is. alike_within Depth (size_at deep key) (size_at wide key) (sym (depths key)) (done.within key is);
+                }
+            settled_all Elements =
+                record {
+                  right = right_alike Elements (length order) many wide elements more.right;
+                  within = λ key is. alike_within Elements (size_at many key) (size_at wide key) (sym (elements key)) (more.within key is);
+                }
+            settled_all Hull = whole
 
-        pub sized_kept : (key : ℕ) → key < first → size_at wide key ≡ size_at sizes key
-        sized_kept = kept_three l m
+            pub sized_right : AreSizes cells wide
+            sized_right = right_all wide (λ dimension. (settled_all dimension).right)
+
+            pub sized_within : length wide ≡ length cells → (dimension : Dimension) (key : ℕ) → IsWithin dimension (size_at wide key)
+            sized_within as_many dimension key = within_all dimension wide as_many (settled_all dimension) key

@@ -88,19 +88,20 @@ module _ (cells : List TreeCell) where
     pub found_seen : (key : ℕ) → StandsIn order' key → IsSeen seen' key
     found_seen key stands = subst (IsSeen seen') stands.is (adds.marked stands.place (from_start stands.place) stands.before)
 
-  -- An order for a trial.
-  pub order_of : (cell : ℕ) (order : List ℕ) → KnowUsers cells → ListsAbove cells cell order → IsOrder (states cells) cell order
-  order_of cell order users lists =
-      record {
-        sorted = λ place before user uses. lists.sorted place before user (users.known (at order place) user uses);
-        above = lists.above;
-        within = λ place before. omega (arith, lists.within place before, length-states cells);
-        some = lists.some;
-        last = lists.last;
-        once = lists.once;
-      }
+-- An order for a trial.
+pub order_of : {cells : List TreeCell} {cell : ℕ} {order : List ℕ} → KnowUsers cells → ListsAbove cells cell order → IsOrder (states cells) cell order
+order_of {cells = cells} {order = order} users lists =
+    record {
+      sorted = λ place before user uses. lists.sorted place before user (users.known (at order place) user uses);
+      above = lists.above;
+      within = λ place before. omega (arith, lists.within place before, length-states cells);
+      some = lists.some;
+      last = lists.last;
+      once = lists.once;
+    }
 
-  -- the cell of such an order is a cell
-  pub inside_of : (sizes : List Size) (cell : ℕ) (order : List ℕ) → AreLawful cells sizes → ListsAbove cells cell order → cell < length sizes
-  inside_of sizes cell order lawful lists =
-      omega (arith, lists.within (length order - 1) (omega (arith, lists.some)), lists.last, lawful.measured.count, length-states cells)
+-- the cell of such an order is a cell
+pub inside_of : {cells : List TreeCell} {sizes : List Size} {cell : ℕ} {order : List ℕ} → AreLawful cells sizes → ListsAbove cells cell order
+    → cell < length sizes
+inside_of {cells = cells} {order = order} lawful lists =
+    omega (arith, lists.within (length order - 1) (omega (arith, lists.some)), lists.last, lawful.measured.count, length-states cells)

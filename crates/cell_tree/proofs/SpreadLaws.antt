@@ -96,8 +96,12 @@ pub record IsSpread (low high from to step way r s : ℤ) : Type 0 where
   pub first : r ≡ (kept low +ℤ int_min (kept way) (pos 0))
   pub second : s ≡ (kept high +ℤ int_max (kept way) (pos 0))
 
--- a rectangle whose sides are spread is the rectangle round the child in all elements
-pub spread_is : (grid : Grid) (area : Rect) (across up xlo ylo xhi yhi : ℤ) → IsLawfulGrid grid → SpansInRange area
+-- the rectangle of these sides is the one round the child in all elements, and lies in reach
+pub record IsSpreadArea (grid : Grid) (area : Rect) (xlo ylo xhi yhi : ℤ) : Type 0 where
+  pub spread : record { xlo = kept xlo; ylo = kept ylo; xhi = kept xhi; yhi = kept yhi } ≡ spread_area grid area
+  pub reach : SpansInReach (record { xlo = kept xlo; ylo = kept ylo; xhi = kept xhi; yhi = kept yhi })
+
+spread_is : (grid : Grid) (area : Rect) (across up xlo ylo xhi yhi : ℤ) → IsLawfulGrid grid → SpansInRange area
     → IsSpread area.xlo area.xhi grid.xlo grid.xhi grid.xsep across xlo xhi → IsSpread area.ylo area.yhi grid.ylo grid.yhi grid.ysep up ylo yhi
     → record { xlo = kept xlo; ylo = kept ylo; xhi = kept xhi; yhi = kept yhi } ≡ spread_area grid area
 spread_is grid area across up xlo ylo xhi yhi lawful spans a b =
@@ -125,8 +129,7 @@ reach_high high way r is p w v =
     let h : high ≤ℤ pos 67108858 = p.high in
     (omega (arith, ints, clamps, is, w, v, l, h), omega (arith, ints, clamps, is, w, v, l, h))
 
--- and lies in reach
-pub spread_reaches : (grid : Grid) (area : Rect) (across up xlo ylo xhi yhi : ℤ) → SpansInRange area
+spread_reaches : (grid : Grid) (area : Rect) (across up xlo ylo xhi yhi : ℤ) → SpansInRange area
     → IsSpread area.xlo area.xhi grid.xlo grid.xhi grid.xsep across xlo xhi → IsSpread area.ylo area.yhi grid.ylo grid.yhi grid.ysep up ylo yhi
     → SpansInReach (record { xlo = kept xlo; ylo = kept ylo; xhi = kept xhi; yhi = kept yhi })
 spread_reaches grid area across up xlo ylo xhi yhi spans a b =
@@ -136,6 +139,13 @@ spread_reaches grid area across up xlo ylo xhi yhi spans a b =
       xhi = reach_high area.xhi across xhi a.second spans.xhi a.way_low a.way_high;
       yhi = reach_high area.yhi up yhi b.second spans.yhi b.way_low b.way_high;
     }
+
+-- A rectangle whose sides are spread.
+pub spread_both : (grid : Grid) (area : Rect) {across up xlo ylo xhi yhi : ℤ} → IsLawfulGrid grid → SpansInRange area
+    → IsSpread area.xlo area.xhi grid.xlo grid.xhi grid.xsep across xlo xhi → IsSpread area.ylo area.yhi grid.ylo grid.yhi grid.ysep up ylo yhi
+    → IsSpreadArea grid area xlo ylo xhi yhi
+spread_both grid area lawful spans a b =
+    record { spread = spread_is grid area _ _ _ _ _ _ lawful spans a b; reach = spread_reaches grid area _ _ _ _ _ _ spans a b }
 
 -- the range of paint holds a rectangle where it holds its sides
 pub spans_iff : (area : Rect) (b : Bool) → IsPaintable (kept area.xlo) × IsPaintable (kept area.xhi)

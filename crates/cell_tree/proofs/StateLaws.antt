@@ -1,24 +1,27 @@
 -- Which states a cell may take: with one more use, with a use placed otherwise, and with one use less.
-use Rattle.std.proofs.Common.{◌≡◌, ◌≢◌, ◌⊎◌, ◌↔◌, inl, inr, ℕ, zero, suc, ◌<◌, ◌≤◌, List, [], ◌∷◌, ◌++◌, length, map, take, drop, max, get_or, slice_get, insert, Some, refl, Contains, sym, ap, subst, ◌∙◌, arith}
+use Rattle.std.proofs.Common.{◌≡◌, ◌≢◌, ◌⊎◌, ◌↔◌, inl, inr, ℕ, zero, suc, ◌<◌, ◌≤◌, List, [], ◌∷◌, ◌++◌, length, map, take, drop, max, get_or, slice_get, insert, Option, Some, refl, Contains, sym, ap, subst, ◌∙◌, arith}
 use Rattle.std.proofs.lemmas.List.Edits.{length-insert}
 use Rattle.std.proofs.lemmas.Option.{same_Some}
 use Rattle.finite_sets.specs.Lists.{In, Distinct}
+use Rattle.geo_core.specs.declared.grids.Grid.{Grid}
+use Rattle.geo_core.specs.declared.transforms.Transform.{Transform}
 use Rattle.cell_tree.specs.declared.cells.TreeCell.{TreeCell}
 use Rattle.cell_tree.specs.declared.limits.TheConstants.{MOST_USES}
 use Rattle.cell_tree.specs.declared.size_books.SizeBook.{SizeBook}
 use Rattle.cell_tree.specs.declared.use_tables.UseBody.{UseBody}
-use Rattle.cell_tree.specs.Uses.{HasChild, HasIdAt, IsLawfulUse, with_use_at, moved_at}
+use Rattle.cell_tree.specs.Uses.{HasChild, HasIdAt, IsShift, IsLawfulGrid, IsLawfulUse, with_use_at, moved_at}
 use Rattle.ext_model.specs.declared.tables.CellKey.{CellKey}
 use Rattle.cell_tree.specs.declared.faults.TreeFault.TheVariants.{Passed}
 use Rattle.cell_tree.specs.declared.sizes.Dimension.{Dimension}
 use Rattle.cell_tree.specs.declared.sizes.Dimension.TheVariants.{Depth, Elements, Hull}
 use Rattle.cell_tree.specs.declared.sizes.Size.{Size}
 use Rattle.cell_tree.specs.Sizes.{CellState, size_at, size_of, with_use, depth_below, AreUsesBelow}
-use Rattle.cell_tree.specs.Trials.{IsTried, PassesFirst}
-use Rattle.cell_tree.specs.Books.{IsReady, SaysTheSame}
+use Rattle.cell_tree.specs.Books.{IsReady, SaysTheSame, AreLawful}
+use Rattle.cell_tree.specs.Above.{IsUserOf}
 use Rattle.cell_tree.specs.steps.Edits.{AreUsersKept}
-use Rattle.cell_tree.specs.Cells.{state_of, states, Uses, IsAbove}
-use Rattle.cell_tree.specs.Trees.{cell_at, with_inserted, with_use_set, with_uses, without_use, IsLawfulTree, RefusesMove, WouldPass}
+use Rattle.cell_tree.specs.steps.Passes.{WouldPassFirst}
+use Rattle.cell_tree.specs.Cells.{state_of, states, users_of, Uses, IsAbove}
+use Rattle.cell_tree.specs.Trees.{Tree, cell_at, with_inserted, with_moved, with_use_set, with_uses, without_use, IsFree, IsLawfulTree, RefusesMove, WouldPass}
 use Rattle.cell_tree.specs.Whole.{tree_of, IsWhole}
 use Rattle.cell_tree.proofs.EditLaws.{child_is_not_above}
 use Rattle.cell_tree.proofs.FindLaws.{length-states}
@@ -94,7 +97,6 @@ get_set (x ∷ xs) zero used (suc j) e is = inl is
 get_set (x ∷ xs) (suc k) used zero e is = inl is
 get_set (x ∷ xs) (suc k) used (suc j) e is = elim (get_set xs k used j e is) [ inl old ↦ inl old | inr new ↦ inr (new.0, ap suc new.1) ]
 
--- the children of uses of which one got another body of the same child
 -- children stay where one use got another body of the same child
 pub child_set : (xs : List Entry) (k : ℕ) (used : UseBody) (id : List ℕ) (body : UseBody) → slice_get xs k ≡ Some (id, body) → used.child.0 ≡ body.child.0
     → (key : ℕ) → HasChild (with_use_at xs k used) key ↔ HasChild xs key
@@ -201,79 +203,6 @@ child_inserted xs at y key differs = (
 pub new_child : (xs : List Entry) (at : ℕ) (y : Entry) → HasChild (insert xs at y) y.1.child.0
 new_child xs at y = let r = get_new xs at y in record { k = r.0; entry = y; stands = r.1; same = refl }
 
-module _ (cells : List TreeCell) (book : SizeBook) (whole : IsWhole cells book) (changed : ℕ) (inside : changed < length cells) where
-  in_states : changed < length (states cells)
-  in_states = omega (arith, inside, length-states cells)
-
-  pub was : slice_get (states cells) changed ≡ Some (cell_at (states cells) changed)
-  was = cell_is (states cells) changed in_states
-
-  old_free : (k : ℕ) (entry : Entry) → slice_get (cell_at (states cells) changed).uses k ≡ Some entry → IsAbove (states cells) changed entry.1.child.0 → ⊥
-  old_free k entry stands above =
-      child_is_not_above (states cells) book.sizes.items whole.lawful.cells whole.lawful.sizes changed entry.1.child.0
-      (record { cell = cell_at (states cells) changed; is = was; k = k; entry = entry; stands = stands; child = refl }) above
-
-  old_below : AreUsesBelow (length (states cells)) (cell_at (states cells) changed).uses
-  old_below = whole.lawful.cells.uses changed _ was
-
-  -- one more use of a child that doesn't stand above
-  pub inserted_lawful : (at : ℕ) (id : List ℕ) (used : UseBody) → at ≤ length (cell_at (states cells) changed).uses → IsLawfulUse used
-      → used.child.0 < length cells
-      → (IsAbove (states cells) changed used.child.0 → ⊥)
-      → length (cell_at (states cells) changed).uses < MOST_USES → ((k : ℕ) → HasIdAt (cell_at (states cells) changed).uses k id → ⊥)
-      → IsLawfulState (states cells) changed (with_inserted (cell_at (states cells) changed) at id used)
-  inserted_lawful at id used place lawful child free few new =
-      record {
-        few = omega (arith, few, length-insert (cell_at (states cells) changed).uses at (id, used) place);
-        uses = λ k entry is. elim (get_inserted (cell_at (states cells) changed).uses at (id, used) entry k is) [
-          | inl old ↦ old_below old.0 entry old.1
-          | inr same ↦ subst (λ (e : Entry). IsLawfulUse e.1 × (e.1.child.0 < length (states cells))) same (lawful, omega (arith, child, length-states cells))
-        ];
-        cell = record {
-          ids = distinct_inserted (cell_at (states cells) changed).uses at (id, used) (whole.lawful.each changed _ was).ids
-              (λ stands. let r = In-id (cell_at (states cells) changed).uses id stands in new r.0 r.1);
-          own = (whole.lawful.each changed _ was).own;
-        };
-        free = λ k entry is. elim (get_inserted (cell_at (states cells) changed).uses at (id, used) entry k is) [
-          | inl old ↦ old_free old.0 entry old.1
-          | inr same ↦ subst (λ (e : Entry). IsAbove (states cells) changed e.1.child.0 → ⊥) same free
-        ];
-      }
-
-  -- a use placed otherwise
-  pub moved_lawful : (k : ℕ) (used : UseBody) (id : List ℕ) (body : UseBody) → slice_get (cell_at (states cells) changed).uses k ≡ Some (id, body)
-      → used.child.0 ≡ body.child.0 → IsLawfulUse used
-      → IsLawfulState (states cells) changed (with_use_set (cell_at (states cells) changed) k used)
-  moved_lawful k used id body is same lawful =
-      record {
-        few = omega (arith, whole.lawful.cells.few changed _ was, length-with_use_at (cell_at (states cells) changed).uses k used);
-        uses = λ j entry stands. elim (get_set (cell_at (states cells) changed).uses k used j entry stands) [
-          | inl old ↦ old_below j entry old
-          | inr new ↦ subst (λ (u : UseBody). IsLawfulUse u × (u.child.0 < length (states cells))) new.0
-              (lawful, subst (λ n. n < length (states cells)) (sym same) (old_below k (id, body) is).1)
-        ];
-        cell = record {
-          ids = subst Distinct (sym (ids-set (cell_at (states cells) changed).uses k used)) (whole.lawful.each changed _ was).ids;
-          own = (whole.lawful.each changed _ was).own;
-        };
-        free = λ j entry stands. elim (get_set (cell_at (states cells) changed).uses k used j entry stands) [
-          | inl old ↦ old_free j entry old
-          | inr new ↦ subst (λ (u : UseBody). IsAbove (states cells) changed u.child.0 → ⊥) new.0
-              (subst (λ n. IsAbove (states cells) changed n → ⊥) (sym same) (old_free k (id, body) is))
-        ];
-      }
-
-  -- one use less
-  pub removed_lawful : (k : ℕ) → IsLawfulState (states cells) changed (without_use (cell_at (states cells) changed) k)
-  removed_lawful k =
-      let among = among_removed (cell_at (states cells) changed).uses k in
-      record {
-        few = omega (arith, whole.lawful.cells.few changed _ was, among_length among);
-        uses = λ j entry stands. let r = among_get among j entry stands in old_below r.0 entry r.1;
-        cell = record { ids = among_distinct among (whole.lawful.each changed _ was).ids; own = (whole.lawful.each changed _ was).own };
-        free = λ j entry stands. let r = among_get among j entry stands in old_free r.0 entry r.1;
-      }
-
 depth_set : (f : ℕ → Size) (xs : List Entry) (k : ℕ) (used : UseBody) (id : List ℕ) (body : UseBody) → slice_get xs k ≡ Some (id, body)
     → used.child.0 ≡ body.child.0
     → depth_below f (with_use_at xs k used) ≡ depth_below f xs
@@ -289,44 +218,148 @@ pub moved_depth : (f : ℕ → Size) (cell : CellState) (k : ℕ) (used : UseBod
 unfolding size_of
 moved_depth f cell k used id body is same = ap suc (depth_set f cell.uses k used id body is same)
 
--- what a use placed otherwise passes first
-pub moved_refused : (cells : List TreeCell) (book : SizeBook) (whole : IsWhole cells book) (changed : ℕ) (inside : changed < length cells) (k : ℕ)
-    (used : UseBody) (id : List ℕ) (body : UseBody)
-    → slice_get (cell_at (states cells) changed).uses k ≡ Some (id, body) → used.child ≡ body.child → IsLawfulUse used → (dimension : Dimension)
-    → ((tried : List Size) → IsTried (states cells) book.sizes.items tried changed
-    (size_of (size_at book.sizes.items) (with_use_set (cell_at (states cells) changed) k used)) → PassesFirst dimension (states cells) changed tried)
-    → RefusesMove (tree_of cells book) changed k used.placed used.grid (Passed dimension)
-moved_refused cells book whole changed inside k used id body is same lawful Depth passes =
-    never_passes cells book whole changed inside Depth _
-    (omega (
-      arith,
-      moved_depth (size_at book.sizes.items) (cell_at (states cells) changed) k used id body is (ap (λ (c : CellKey). c.0) same),
-      ap (λ (s : Size). s.depth) (whole.lawful.sizes.right changed _ (was cells book whole changed inside)),
-    )) passes
-moved_refused cells book whole changed inside k used id body is same lawful Elements passes =
-    subst (WouldPass Elements (tree_of cells book) changed)
-    (ap (with_uses (cell_at (states cells) changed)) (moved-set (cell_at (states cells) changed).uses k used id body is same))
-    (would_pass cells book changed _ whole inside (moved_lawful cells book whole changed inside k used id body is (ap (λ (c : CellKey). c.0) same) lawful)
-    Elements passes)
-moved_refused cells book whole changed inside k used id body is same lawful Hull passes =
-    subst (WouldPass Hull (tree_of cells book) changed)
-    (ap (with_uses (cell_at (states cells) changed)) (moved-set (cell_at (states cells) changed).uses k used id body is same))
-    (would_pass cells book changed _ whole inside (moved_lawful cells book whole changed inside k used id body is (ap (λ (c : CellKey). c.0) same) lawful)
-    Hull passes)
+-- Another body of a use of a cell, which keeps its child.
+pub record IsMove (cells : List CellState) (changed k : ℕ) (used : UseBody) : Type 0 where
+  pub id : List ℕ
+  pub body : UseBody
+  pub stands : slice_get (cell_at cells changed).uses k ≡ Some (id, body)
+  pub child : used.child ≡ body.child
+  pub lawful : IsLawfulUse used
+
+-- Which use may come to a cell, and at which place.
+pub record MayInsert (tree : Tree) (cell at : ℕ) (id : List ℕ) (used : UseBody) : Type 0 where
+  pub within : cell < length tree.cells
+  pub place : at ≤ length (cell_at tree.cells cell).uses
+  pub new : (k : ℕ) → HasIdAt (cell_at tree.cells cell).uses k id → ⊥
+  pub lawful : IsLawfulUse used
+  pub child : used.child.0 < length tree.cells
+  pub free : IsFree tree cell used
+  pub few : length (cell_at tree.cells cell).uses < MOST_USES
+
+module _ {cells : List TreeCell} {book : SizeBook} (whole : IsWhole cells book) (changed : ℕ) (inside : changed < length cells) where
+  in_states : changed < length (states cells)
+  in_states = omega (arith, inside, length-states cells)
+
+  was : slice_get (states cells) changed ≡ Some (cell_at (states cells) changed)
+  was = cell_is (states cells) changed in_states
+
+  old_uses : (k : ℕ) (entry : Entry) → slice_get (cell_at (states cells) changed).uses k ≡ Some entry → Uses (states cells) changed entry.1.child.0
+  old_uses k entry stands = record { cell = cell_at (states cells) changed; is = was; k = k; entry = entry; stands = stands; child = refl }
+
+  old_free : (k : ℕ) (entry : Entry) → slice_get (cell_at (states cells) changed).uses k ≡ Some entry → IsAbove (states cells) changed entry.1.child.0 → ⊥
+  old_free k entry stands =
+      child_is_not_above (states cells) book.sizes.items whole.lawful.cells whole.lawful.sizes changed entry.1.child.0 (old_uses k entry stands)
+
+  old_below : AreUsesBelow (length (states cells)) (cell_at (states cells) changed).uses
+  old_below = whole.lawful.cells.uses changed _ was
+
+  -- the cell is known as a user of the child of each of its uses
+  pub old_known : (k : ℕ) (entry : Entry) → slice_get (cell_at (states cells) changed).uses k ≡ Some entry → IsUserOf cells entry.1.child.0 changed
+  old_known k entry stands = whole.users.known _ _ (old_uses k entry stands)
+
+  -- which is a cell
+  pub old_child : (k : ℕ) (entry : Entry) → slice_get (cell_at (states cells) changed).uses k ≡ Some entry → entry.1.child.0 < length cells
+  old_child k entry stands = omega (arith, (old_below k entry stands).1, length-states cells)
+
+  -- one more use of a child that doesn't stand above
+  pub inserted_lawful : (at : ℕ) (id : List ℕ) (used : UseBody) → MayInsert (tree_of cells book) changed at id used
+      → IsLawfulState (states cells) changed (with_inserted (cell_at (states cells) changed) at id used)
+  inserted_lawful at id used may =
+      record {
+        few = omega (arith, may.few, length-insert (cell_at (states cells) changed).uses at (id, used) may.place);
+        uses = λ k entry is. elim (get_inserted (cell_at (states cells) changed).uses at (id, used) entry k is) [
+          | inl old ↦ old_below old.0 entry old.1
+          | inr same ↦ subst (λ (e : Entry). IsLawfulUse e.1 × (e.1.child.0 < length (states cells))) same (may.lawful, may.child)
+        ];
+        cell = record {
+          ids = distinct_inserted (cell_at (states cells) changed).uses at (id, used) (whole.lawful.each changed _ was).ids
+              (λ stands. let r = In-id (cell_at (states cells) changed).uses id stands in may.new r.0 r.1);
+          own = (whole.lawful.each changed _ was).own;
+        };
+        free = λ k entry is. elim (get_inserted (cell_at (states cells) changed).uses at (id, used) entry k is) [
+          | inl old ↦ old_free old.0 entry old.1
+          | inr same ↦ subst (λ (e : Entry). IsAbove (states cells) changed e.1.child.0 → ⊥) same may.free
+        ];
+      }
+
+  -- a use placed otherwise
+  pub moved_lawful : (k : ℕ) (used : UseBody) → IsMove (states cells) changed k used
+      → IsLawfulState (states cells) changed (with_use_set (cell_at (states cells) changed) k used)
+  moved_lawful k used move =
+      let same : used.child.0 ≡ move.body.child.0 = ap (λ (c : CellKey). c.0) move.child in
+      record {
+        few = omega (arith, whole.lawful.cells.few changed _ was, length-with_use_at (cell_at (states cells) changed).uses k used);
+        uses = λ j entry stands. elim (get_set (cell_at (states cells) changed).uses k used j entry stands) [
+          | inl old ↦ old_below j entry old
+          | inr new ↦ subst (λ (u : UseBody). IsLawfulUse u × (u.child.0 < length (states cells))) new.0
+              (move.lawful, subst (λ n. n < length (states cells)) (sym same) (old_below k (move.id, move.body) move.stands).1)
+        ];
+        cell = record {
+          ids = subst Distinct (sym (ids-set (cell_at (states cells) changed).uses k used)) (whole.lawful.each changed _ was).ids;
+          own = (whole.lawful.each changed _ was).own;
+        };
+        free = λ j entry stands. elim (get_set (cell_at (states cells) changed).uses k used j entry stands) [
+          | inl old ↦ old_free j entry old
+          | inr new ↦ subst (λ (u : UseBody). IsAbove (states cells) changed u.child.0 → ⊥) new.0
+              (subst (λ n. IsAbove (states cells) changed n → ⊥) (sym same) (old_free k (move.id, move.body) move.stands))
+        ];
+      }
+
+  -- its child is a cell
+  pub moved_child : (k : ℕ) (used : UseBody) → IsMove (states cells) changed k used → used.child.0 < length cells
+  moved_child k used move = omega (arith, old_child k (move.id, move.body) move.stands, ap (λ (c : CellKey). c.0) move.child)
+
+  -- the children stay the same
+  pub moved_children : (k : ℕ) (used : UseBody) → IsMove (states cells) changed k used → (key : ℕ)
+      → HasChild (with_use_set (cell_at (states cells) changed) k used).uses key ↔ HasChild (cell_at (states cells) changed).uses key
+  moved_children k used move =
+      child_set (cell_at (states cells) changed).uses k used move.id move.body move.stands (ap (λ (c : CellKey). c.0) move.child)
+
+  -- and it is placed so
+  pub moved_is : (k : ℕ) (used : UseBody) → IsMove (states cells) changed k used
+      → with_use_set (cell_at (states cells) changed) k used ≡ with_moved (cell_at (states cells) changed) k used.placed used.grid
+  moved_is k used move =
+      ap (with_uses (cell_at (states cells) changed)) (moved-set (cell_at (states cells) changed).uses k used move.id move.body move.stands move.child)
+
+  -- what a use placed otherwise passes first
+  pub moved_refused : (k : ℕ) (used : UseBody) → IsMove (states cells) changed k used → (dimension : Dimension)
+      → WouldPassFirst dimension (states cells) book.sizes.items changed (size_of (size_at book.sizes.items) (with_use_set (cell_at (states cells) changed) k used))
+      → RefusesMove (tree_of cells book) changed k used.placed used.grid (Passed dimension)
+  moved_refused k used move Depth passes =
+      never_passes whole changed inside Depth _ (omega (
+        arith,
+        moved_depth (size_at book.sizes.items) (cell_at (states cells) changed) k used move.id move.body move.stands (ap (λ (c : CellKey). c.0) move.child),
+        ap (λ (s : Size). s.depth) (whole.lawful.sizes.right changed _ was),
+      )) passes
+  moved_refused k used move Elements passes =
+      subst (WouldPass Elements (tree_of cells book) changed) (moved_is k used move) (would_pass whole inside (moved_lawful k used move) Elements passes)
+  moved_refused k used move Hull passes =
+      subst (WouldPass Hull (tree_of cells book) changed) (moved_is k used move) (would_pass whole inside (moved_lawful k used move) Hull passes)
+
+  -- one use less
+  pub removed_lawful : (k : ℕ) → IsLawfulState (states cells) changed (without_use (cell_at (states cells) changed) k)
+  removed_lawful k =
+      let among = among_removed (cell_at (states cells) changed).uses k in
+      record {
+        few = omega (arith, whole.lawful.cells.few changed _ was, among_length among);
+        uses = λ j entry stands. let r = among_get among j entry stands in old_below r.0 entry r.1;
+        cell = record { ids = among_distinct among (whole.lawful.each changed _ was).ids; own = (whole.lawful.each changed _ was).own };
+        free = λ j entry stands. let r = among_get among j entry stands in old_free r.0 entry r.1;
+      }
 
 -- the size of a cell with one more use
-pub inserted_size : (cells : List TreeCell) (book : SizeBook) (whole : IsWhole cells book) (changed : ℕ) (inside : changed < length cells) (at : ℕ)
-    (id : List ℕ) (used : UseBody)
-    → with_use (size_at book.sizes.items changed) used (size_at book.sizes.items used.child.0)
-    ≡ size_of (size_at book.sizes.items) (with_inserted (cell_at (states cells) changed) at id used)
-inserted_size cells book whole changed inside at id used =
-    ap (λ (s : Size). with_use s used (size_at book.sizes.items used.child.0)) (whole.lawful.sizes.right changed _ (was cells book whole changed inside))
-    ∙ sym (size_of-inserted (size_at book.sizes.items) (cell_at (states cells) changed) at id used)
+pub inserted_size : {cells : List TreeCell} {sizes : List Size} → AreLawful cells sizes → (changed : ℕ) → changed < length cells → (at : ℕ) (id : List ℕ)
+    (used : UseBody)
+    → with_use (size_at sizes changed) used (size_at sizes used.child.0) ≡ size_of (size_at sizes) (with_inserted (cell_at (states cells) changed) at id used)
+inserted_size {cells = cells} {sizes = sizes} lawful changed inside at id used =
+    ap (λ (s : Size). with_use s used (size_at sizes used.child.0))
+    (lawful.measured.right changed _ (cell_is (states cells) changed (omega (arith, inside, length-states cells))))
+    ∙ sym (size_of-inserted (size_at sizes) (cell_at (states cells) changed) at id used)
 
 -- A tree of cells of the same states and users is whole, with a book that says the same.
-pub whole_same : (cells cells' : List TreeCell) (book book' : SizeBook) → IsWhole cells book → states cells' ≡ states cells → AreUsersKept cells cells'
-    → SaysTheSame book book' → IsReady book' (length cells) → IsWhole cells' book'
-whole_same cells cells' book book' whole are kept same ready =
+pub whole_same : {cells : List TreeCell} {book book' : SizeBook} (cells' : List TreeCell) → IsWhole cells book → states cells' ≡ states cells
+    → AreUsersKept cells cells' → SaysTheSame book book' → IsReady book' (length cells) → IsWhole cells' book'
+whole_same {cells = cells} {book = book} {book' = book'} cells' whole are kept same ready =
     record {
       lawful = subst IsLawfulTree trees whole.lawful;
       users = record {
@@ -341,10 +374,37 @@ whole_same cells cells' book book' whole are kept same ready =
         let whole : record { cells = states cells; sizes = book.sizes.items; stamps = book.stamps.items; edits = book.edits } ≡ tree_of cells' book' =
         rw (← are, ← same.sizes, ← same.stamps, ← same.edits) refl in whole
 
+-- The cells and what contracts see of them, after room was made.
+pub record IsReserved (cells : List TreeCell) (book : SizeBook) (tree : Tree) : Type 0 where
+  pub whole : IsWhole cells book
+  pub view : tree_of cells book ≡ tree
+
+pub reserved : {cells shown new after : List TreeCell} {book : SizeBook} {tree : Tree} → IsWhole cells book → tree_of cells book ≡ tree → shown ≡ cells
+    → states new ≡ states shown → AreUsersKept shown new → after ≡ new → IsReserved after book tree
+reserved {after = after} {book = book} whole view same are kept left =
+    let states_are = ap states left ∙ are ∙ ap states same in
+    record {
+      whole = whole_same after whole states_are
+          (λ key. ap (λ (cs : List TreeCell). users_of cs key) left ∙ kept key ∙ ap (λ (cs : List TreeCell). users_of cs key) same)
+          (record { sizes = refl; stamps = refl; edits = refl }) whole.ready;
+      view = ap (λ (s : List CellState). let t : Tree = record { cells = s; sizes = book.sizes.items; stamps = book.stamps.items; edits = book.edits } in t)
+          states_are ∙ view;
+    }
+
 -- the use that is read of a cell
-pub stands_at : (cells : List TreeCell) (key : ℕ) (d : TreeCell) (k : ℕ) (used : UseBody) → key < length cells → d ≡ get_or cells key d
+pub stands_at : (cells : List TreeCell) (key : ℕ) {d : TreeCell} (k : ℕ) {used : UseBody} → key < length cells → d ≡ get_or cells key d
     → option_map (λ (entry : Entry). entry.1) (slice_get d.uses.entries k) ≡ Some used
     → (id : List ℕ) × (slice_get (cell_at (states cells) key).uses k ≡ Some (id, used))
-stands_at cells key d k used within is at =
+stands_at cells key {d = d} k {used = used} within is at =
     let r = body_at d.uses.entries k used at in
     (r.0, subst (λ (c : CellState). slice_get c.uses k ≡ Some (r.0, used)) (sym (cell_at-states cells key d within ∙ ap state_of (sym is))) r.1)
+
+-- another place and grid of it
+pub move_of : (cells : List TreeCell) (key : ℕ) {d : TreeCell} (k : ℕ) {body : UseBody} (placed : Transform) (grid : Option Grid) → key < length cells
+    → d ≡ get_or cells key d
+    → option_map (λ (entry : Entry). entry.1) (slice_get d.uses.entries k) ≡ Some body
+    → IsShift placed.dx → IsShift placed.dy → ((g : Grid) → grid ≡ Some g → IsLawfulGrid g)
+    → IsMove (states cells) key k (record { child = body.child; placed = placed; grid = grid })
+move_of cells key k {body = body} placed grid within is at dx dy lawful =
+    let there = stands_at cells key k within is at in
+    record { id = there.0; body = body; stands = there.1; child = refl; lawful = record { dx = dx; dy = dy; grid = lawful } }

@@ -4,10 +4,11 @@ use Rattle.std.proofs.lemmas.Bool.{cases_eq}
 use Rattle.std.proofs.lemmas.Option.{slice_get-get_or}
 use Rattle.cell_tree.specs.declared.sizes.Dimension.{Dimension}
 use Rattle.cell_tree.specs.declared.sizes.Size.{Size}
-use Rattle.cell_tree.specs.Sizes.{CellState, size_at, size_of, IsWithin, AreAlike, AreChildrenWithin}
+use Rattle.cell_tree.specs.Sizes.{CellState, size_at, size_of, IsWithin, AreChildrenWithin}
 use Rattle.cell_tree.specs.Cells.{Uses}
-use Rattle.cell_tree.specs.Above.{at, StandsBefore, StandsIn}
+use Rattle.cell_tree.specs.Above.{at, StandsBefore}
 use Rattle.cell_tree.specs.Trials.{AreSettledBut, SetsDimension, IsDone, StopsIn}
+use Rattle.cell_tree.specs.steps.Passes.{IsPass}
 use Rattle.cell_tree.proofs.SizeLaws.{alike_refl, alike_trans}
 use Rattle.cell_tree.proofs.TrialLaws.{settled-set, set_other, set_apart}
 use Rattle.cell_tree.proofs.TryLaws.{IsOrder}
@@ -15,9 +16,7 @@ use Rattle.cell_tree.proofs.TryLaws.{IsOrder}
 -- The cells from a place of the order on have the sizes that their children give, and nothing else changed.
 pub record AreSet (dimension : Dimension) (cells : List CellState) (changed : ℕ) (order : List ℕ) (first next : List Size) (place : ℕ) : Type 0 where
   pub settled : AreSettledBut dimension cells changed order place next
-  pub kept : size_at next changed ≡ size_at first changed
-  pub others : (key : ℕ) → (StandsIn order key → ⊥) → size_at next key ≡ size_at first key
-  pub alike : (other : Dimension) → other ≢ dimension → (key : ℕ) → AreAlike other (size_at next key) (size_at first key)
+  pub pass : IsPass dimension changed order first next
 
 -- And they keep within the limit.
 pub record AreFit (dimension : Dimension) (cells : List CellState) (changed : ℕ) (order : List ℕ) (first next : List Size) (place : ℕ) : Type 0 where
@@ -25,24 +24,22 @@ pub record AreFit (dimension : Dimension) (cells : List CellState) (changed : �
   pub set : AreSet dimension cells changed order first next place
   pub within : (key : ℕ) → (StandsBefore order place key → ⊥) → IsWithin dimension (size_at next key)
 
-module _ (dimension : Dimension) (cells : List CellState) (changed : ℕ) (order : List ℕ) (is_order : IsOrder cells changed order) (first : List Size) where
+module _ {dimension : Dimension} {cells : List CellState} {changed : ℕ} {order : List ℕ} {first : List Size} (is_order : IsOrder cells changed order) where
   -- what a trial begins with
-  pub fit_start : (next : List Size) → first ≡ next → AreSettledBut dimension cells changed order (length order - 1) next
-      → ((key : ℕ) → (StandsBefore order (length order - 1) key → ⊥) → IsWithin dimension (size_at next key))
-      → AreFit dimension cells changed order first next (length order - 1)
-  fit_start next same settled within =
+  pub fit_start : AreSettledBut dimension cells changed order (length order - 1) first
+      → ((key : ℕ) → (StandsBefore order (length order - 1) key → ⊥) → IsWithin dimension (size_at first key))
+      → AreFit dimension cells changed order first first (length order - 1)
+  fit_start settled within =
       record {
         low = omega (arith, is_order.some);
         set = record {
           settled = settled;
-          kept = ap (λ (list : List Size). size_at list changed) (sym same);
-          others = λ key apart. ap (λ (list : List Size). size_at list key) (sym same);
-          alike = λ other differs key. alike_refl other _ _ (ap (λ (list : List Size). size_at list key) (sym same));
+          pass = record { kept = refl; others = λ key apart. refl; alike = λ other differs key. alike_refl other _ _ refl };
         };
         within = within;
       }
 
-  module _ (next : List Size) (k : ℕ) (some : 0 < k) (fit : AreFit dimension cells changed order first next k) where
+  module _ {next : List Size} {k : ℕ} (some : 0 < k) (fit : AreFit dimension cells changed order first next k) where
     before : k - 1 < length order
     before = omega (arith, some, fit.low)
 
@@ -55,15 +52,9 @@ module _ (dimension : Dimension) (cells : List CellState) (changed : ℕ) (order
         is_order.sorted s.place (omega (arith, s.before, fit.low)) (at order (k - 1)) (subst (λ c. Uses cells (at order (k - 1)) c) (sym s.is) uses) in
         is_order.once again.place (k - 1) (omega (arith, again.before, s.before)) before again.is)
 
-    module _ (new : List Size) (long : length next ≡ length cells)
+    module _ {new : List Size} (long : length next ≡ length cells)
         (sets : (cell : CellState) → slice_get cells (at order (k - 1)) ≡ Some cell
         → SetsDimension dimension (at order (k - 1)) (size_of (size_at next) cell) next new) where
-      empty : CellState
-      empty = record { own = None; uses = [] }
-
-      here : CellState
-      here = get_or cells (at order (k - 1)) empty
-
       here_is : slice_get cells (at order (k - 1)) ≡ Some (get_or cells (at order (k - 1)) (record { own = None; uses = [] }))
       here_is = slice_get-get_or cells (at order (k - 1)) (record { own = None; uses = [] }) (is_order.within (k - 1) before)
 
@@ -79,13 +70,15 @@ module _ (dimension : Dimension) (cells : List CellState) (changed : ℕ) (order
           record {
             settled = settled-set cells changed order is_order.sorted dimension (k - 1) next new before inside sets _ here_is
                 (subst (λ end. AreSettledBut dimension cells changed order end next) (let e : k ≡ k - 1 + 1 = omega (arith, some) in e) fit.set.settled);
-            kept = set_apart dimension (at order (k - 1)) _ next new (sets _ here_is) changed not_changed ∙ fit.set.kept;
-            others = λ key apart.
-                set_apart dimension (at order (k - 1)) _ next new (sets _ here_is) key
-                (λ same. apart (record { place = k - 1; before = before; is = sym same })) ∙ fit.set.others key apart;
-            alike = λ other differs key.
-                alike_trans other _ (size_at next key) _ (set_other other dimension (at order (k - 1)) _ next new (sets _ here_is) inside differs key)
-                (fit.set.alike other differs key);
+            pass = record {
+              kept = set_apart dimension (at order (k - 1)) _ next new (sets _ here_is) changed not_changed ∙ fit.set.pass.kept;
+              others = λ key apart.
+                  set_apart dimension (at order (k - 1)) _ next new (sets _ here_is) key
+                  (λ same. apart (record { place = k - 1; before = before; is = sym same })) ∙ fit.set.pass.others key apart;
+              alike = λ other differs key.
+                  alike_trans other _ (size_at next key) _ (set_other other dimension (at order (k - 1)) _ next new (sets _ here_is) inside differs key)
+                  (fit.set.pass.alike other differs key);
+            };
           }
 
       -- and fits, where it keeps within the limit
@@ -110,8 +103,8 @@ module _ (dimension : Dimension) (cells : List CellState) (changed : ℕ) (order
       stops_next passes = record { place = k - 1; before = before; settled = set_next.settled; passes = passes }
 
   -- At the start of the order all is done.
-  pub fit_done : (next : List Size) (k : ℕ) → k ≤ 0 → AreFit dimension cells changed order first next k → IsDone dimension cells changed order next
-  fit_done next k none fit =
+  pub fit_done : {next : List Size} {k : ℕ} → k ≤ 0 → AreFit dimension cells changed order first next k → IsDone dimension cells changed order next
+  fit_done {next = next} {k = k} none fit =
       record {
         settled = subst (λ end. AreSettledBut dimension cells changed order end next) (let e : k ≡ 0 = omega (arith, none) in e) fit.set.settled;
         within = λ key. fit.within key (λ s. omega (arith, s.before, none));

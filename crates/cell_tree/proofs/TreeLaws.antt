@@ -11,11 +11,12 @@ use Rattle.cell_tree.specs.Uses.{HasChild}
 use Rattle.cell_tree.specs.Hulls.{IsInside}
 use Rattle.cell_tree.specs.Sizes.{CellState, size_at, size_of, IsWithin}
 use Rattle.cell_tree.specs.Cells.{states, users_of}
-use Rattle.cell_tree.specs.Trials.{IsTried, FitsIn, PassesFirst}
+use Rattle.cell_tree.specs.Trials.{FitsIn}
 use Rattle.cell_tree.specs.Trees.{cell_at, with_own, IsLawfulOwn, IsEdited, RefusesBox}
 use Rattle.cell_tree.specs.Books.{IsReady, IsBooked}
 use Rattle.cell_tree.specs.Whole.{tree_of, IsWhole}
 use Rattle.cell_tree.specs.steps.Edits.{AreUsersKept, AreUsersBut}
+use Rattle.cell_tree.specs.steps.Passes.{WouldPassFirst}
 use Rattle.cell_tree.proofs.SizeLaws.{size_is}
 use Rattle.cell_tree.proofs.ShrinkLaws.{IsUpright, IsSmaller, AreAmong}
 use Rattle.cell_tree.proofs.EditLaws.{child_is_not_above, shrunk_within, smaller_keeps, tried_exists}
@@ -24,7 +25,7 @@ use Rattle.std.proofs.lemmas.List.{length-set}
 use Rattle.std.proofs.lemmas.Option.{same_Some}
 use Rattle.finite_sets.proofs.Places.{slice_get-set_same}
 use Rattle.cell_tree.proofs.FindLaws.{length-states}
-use Rattle.cell_tree.proofs.WholeLaws.{IsLawfulState, cell_is, kept_users, changed_users, whole_again, would_pass}
+use Rattle.cell_tree.proofs.WholeLaws.{IsLawfulState, IsChange, cell_is, kept_users, changed_users, whole_again, would_pass}
 
 -- with another own box a cell has another hull and nothing else
 pub box_size : (sizes : List Size) (old : CellState) (own : Option Rect) (wide size : Size) → size ≡ size_of (size_at sizes) old
@@ -46,10 +47,7 @@ pub upright_of : (own : Option Rect) → IsLawfulOwn own → IsUpright own
 upright_of None lawful = tt
 upright_of (Some box) lawful = let is = lawful box refl in (is.wide, is.high)
 
-module _ (cells : List TreeCell) (book : SizeBook) (whole : IsWhole cells book) (changed : ℕ) (inside : changed < length cells) where
-  old : CellState
-  old = cell_at (states cells) changed
-
+module _ {cells : List TreeCell} {book : SizeBook} (whole : IsWhole cells book) (changed : ℕ) (inside : changed < length cells) where
   in_states : changed < length (states cells)
   in_states = omega (arith, inside, length-states cells)
 
@@ -58,6 +56,9 @@ module _ (cells : List TreeCell) (book : SizeBook) (whole : IsWhole cells book) 
 
   uprights : (key : ℕ) (cell : CellState) → slice_get (states cells) key ≡ Some cell → IsUpright cell.own
   uprights key cell is = upright_of cell.own (whole.lawful.each key cell is).own
+
+  pub own_upright : IsUpright (cell_at (states cells) changed).own
+  own_upright = uprights changed _ was
 
   -- a cell with another own box is a lawful state
   pub own_lawful : (own : Option Rect) → IsLawfulOwn own → IsLawfulState (states cells) changed (with_own (cell_at (states cells) changed) own)
@@ -73,7 +74,7 @@ module _ (cells : List TreeCell) (book : SizeBook) (whole : IsWhole cells book) 
 
   -- a cell that gets no larger in a dimension passes no limit of it
   pub never_passes : (dimension : Dimension) (size : Size) → IsSmaller dimension size (size_at book.sizes.items changed)
-      → ((tried : List Size) → IsTried (states cells) book.sizes.items tried changed size → PassesFirst dimension (states cells) changed tried) → ⊥
+      → WouldPassFirst dimension (states cells) book.sizes.items changed size → ⊥
   never_passes dimension size base passes =
       let there = tried_exists (states cells) book.sizes.items whole.lawful.cells whole.lawful.sizes changed size
       (above_or_not (states cells) book.sizes.items whole.lawful.cells whole.lawful.sizes changed) in_states in
@@ -83,30 +84,22 @@ module _ (cells : List TreeCell) (book : SizeBook) (whole : IsWhole cells book) 
 
   -- what another own box passes first is the range
   pub own_refused : (own : Option Rect) → IsLawfulOwn own → (dimension : Dimension)
-      → ((tried : List Size) → IsTried (states cells) book.sizes.items tried changed
-      (size_of (size_at book.sizes.items) (with_own (cell_at (states cells) changed) own)) → PassesFirst dimension (states cells) changed tried)
+      → WouldPassFirst dimension (states cells) book.sizes.items changed (size_of (size_at book.sizes.items) (with_own (cell_at (states cells) changed) own))
       → RefusesBox (tree_of cells book) changed own (Passed dimension)
-  own_refused own lawful Hull passes = would_pass cells book changed _ whole inside (own_lawful own lawful) Hull passes
+  own_refused own lawful Hull passes = would_pass whole inside (own_lawful own lawful) Hull passes
   own_refused own lawful Depth passes =
-      never_passes Depth _ (omega (
-        arith,
-        own_depth (size_at book.sizes.items) (cell_at (states cells) changed) own,
-        ap (λ (s : Size). s.depth)
-            (whole.lawful.sizes.right changed _ was),
-      )) passes
+      let same = own_depth (size_at book.sizes.items) (cell_at (states cells) changed) own
+      ∙ ap (λ (s : Size). s.depth) (sym (whole.lawful.sizes.right changed _ was)) in
+      never_passes Depth _ (omega (arith, same)) passes
   own_refused own lawful Elements passes =
-      never_passes Elements _ (omega (
-        arith,
-        own_elements (size_at book.sizes.items) (cell_at (states cells) changed) own,
-        ap (λ (s : Size). s.elements)
-            (whole.lawful.sizes.right changed _ was),
-      )) passes
+      let same = own_elements (size_at book.sizes.items) (cell_at (states cells) changed) own
+      ∙ ap (λ (s : Size). s.elements) (sym (whole.lawful.sizes.right changed _ was)) in
+      never_passes Elements _ (omega (arith, same)) passes
 
   -- A cell that shrinks passes no limit.
   pub shrunk_passes : (state : CellState) (dimension : Dimension) → IsInside state.own (cell_at (states cells) changed).own → IsUpright state.own
       → AreAmong state.uses (cell_at (states cells) changed).uses
-      → ((tried : List Size) → IsTried (states cells) book.sizes.items tried changed (size_of (size_at book.sizes.items) state)
-      → PassesFirst dimension (states cells) changed tried) → ⊥
+      → WouldPassFirst dimension (states cells) book.sizes.items changed (size_of (size_at book.sizes.items) state) → ⊥
   shrunk_passes state dimension within up among passes =
       let there = tried_exists (states cells) book.sizes.items whole.lawful.cells whole.lawful.sizes changed (size_of (size_at book.sizes.items) state)
       (above_or_not (states cells) book.sizes.items whole.lawful.cells whole.lawful.sizes changed) in_states in
@@ -114,86 +107,69 @@ module _ (cells : List TreeCell) (book : SizeBook) (whole : IsWhole cells book) 
       first.passes (shrunk_within (states cells) book.sizes.items whole.lawful.cells whole.lawful.sizes uprights changed state _ there.0 was within up among
       there.2 dimension first.key)
 
--- What an edit of one cell was made of: the cells and sizes that each step was shown are those of the tree.
-pub record IsRun (cells c1 c2 c3 : List TreeCell) (book : SizeBook) (sizes : List Size) : Type 0 where
-  pub first : c1 ≡ cells
-  pub second : sizes ≡ book.sizes.items
-  pub third : c2 ≡ cells
-  pub fourth : c3 ≡ cells
-
-module _ (cells c1 c2 c3 after : List TreeCell) (book book' : SizeBook) (sizes : List Size) (f : CellState → CellState) (size : Size) (changed : ℕ)
-    (run : IsRun cells c1 c2 c3 book sizes) (is : size ≡ size_of (size_at sizes) (f (cell_at (states c1) changed))) where
+-- An edit of one cell, for which cells and sizes were shown that are those of the tree.
+module _ {cells shown : List TreeCell} {book : SizeBook} {sizes : List Size} {size : Size} (whole : IsWhole cells book) (f : CellState → CellState)
+    (changed : ℕ) (same : shown ≡ cells) (sized : sizes ≡ book.sizes.items) (is : size ≡ size_of (size_at sizes) (f (cell_at (states shown) changed))) where
   -- the size that was tried is that of the edited cell
   pub run_size : size ≡ size_of (size_at book.sizes.items) (f (cell_at (states cells) changed))
   run_size =
-      is ∙ ap (λ (s : List Size). size_of (size_at s) (f (cell_at (states c1) changed))) run.second
-      ∙ ap (λ (cs : List TreeCell). size_of (size_at book.sizes.items) (f (cell_at (states cs) changed))) run.first
+      is ∙ ap (λ (s : List Size). size_of (size_at s) (f (cell_at (states shown) changed))) sized
+      ∙ ap (λ (cs : List TreeCell). size_of (size_at book.sizes.items) (f (cell_at (states cs) changed))) same
 
-  pub run_booked : IsBooked c2 book book' changed size
-      → IsBooked cells book book' changed (size_of (size_at book.sizes.items) (f (cell_at (states cells) changed)))
-  run_booked booked =
-      subst (IsBooked cells book book' changed) run_size (subst (λ (cs : List TreeCell). IsBooked cs book book' changed size) run.third booked)
+  pub run_refused : (dimension : Dimension) → WouldPassFirst dimension (states shown) book.sizes.items changed size
+      → WouldPassFirst dimension (states cells) book.sizes.items changed (size_of (size_at book.sizes.items) (f (cell_at (states cells) changed)))
+  run_refused dimension refused =
+      subst (WouldPassFirst dimension (states cells) book.sizes.items changed) run_size
+      (subst (λ (cs : List TreeCell). WouldPassFirst dimension (states cs) book.sizes.items changed size) same refused)
 
-  pub run_refused : (dimension : Dimension)
-      → ((tried : List Size) → IsTried (states c2) book.sizes.items tried changed size → PassesFirst dimension (states c2) changed tried)
-      → (tried : List Size) → IsTried (states cells) book.sizes.items tried changed (size_of (size_at book.sizes.items) (f (cell_at (states cells) changed)))
-      → PassesFirst dimension (states cells) changed tried
-  run_refused dimension refused tried is_tried =
-      subst (λ (cs : List TreeCell). PassesFirst dimension (states cs) changed tried) run.third
-      (refused tried (subst (λ (cs : List TreeCell). IsTried (states cs) book.sizes.items tried changed size) (sym run.third)
-      (subst (IsTried (states cells) book.sizes.items tried changed) (sym run_size) is_tried)))
-
-  pub run_fits : FitsIn (states c2) book.sizes.items changed size
+  pub run_fits : FitsIn (states shown) book.sizes.items changed size
       → FitsIn (states cells) book.sizes.items changed (size_of (size_at book.sizes.items) (f (cell_at (states cells) changed)))
   run_fits fits =
       subst (FitsIn (states cells) book.sizes.items changed) run_size
-      (subst (λ (cs : List TreeCell). FitsIn (states cs) book.sizes.items changed size) run.third fits)
+      (subst (λ (cs : List TreeCell). FitsIn (states cs) book.sizes.items changed size) same fits)
 
-  pub run_states : states after ≡ slice_set (states c3) changed (f (cell_at (states c3) changed))
-      → states after ≡ slice_set (states cells) changed (f (cell_at (states cells) changed))
-  run_states are = are ∙ ap (λ (cs : List TreeCell). slice_set (states cs) changed (f (cell_at (states cs) changed))) run.fourth
+  module _ {given new after : List TreeCell} {book' : SizeBook} (booked : IsBooked shown book book' changed size) (again : given ≡ cells)
+      (are : states new ≡ slice_set (states given) changed (f (cell_at (states given) changed))) (left : after ≡ new) where
+    run_booked : IsBooked cells book book' changed (size_of (size_at book.sizes.items) (f (cell_at (states cells) changed)))
+    run_booked = subst (IsBooked cells book book' changed) run_size (subst (λ (cs : List TreeCell). IsBooked cs book book' changed size) same booked)
 
-  -- it is the edit
-  pub run_edited : IsBooked c2 book book' changed size → states after ≡ slice_set (states c3) changed (f (cell_at (states c3) changed))
-      → IsEdited (tree_of cells book) (tree_of after book') changed (f (cell_at (states cells) changed))
-  run_edited booked are =
-      let b = run_booked booked in
-      record { cells = run_states are; edits = b.edits; stamps = b.stamps; others = b.sizes.others }
+    run_states : states after ≡ slice_set (states cells) changed (f (cell_at (states cells) changed))
+    run_states = ap states left ∙ are ∙ ap (λ (cs : List TreeCell). slice_set (states cs) changed (f (cell_at (states cs) changed))) again
 
-  -- An edit that keeps the children of the cell leaves the tree whole.
-  pub run_kept : IsWhole cells book → changed < length cells → IsLawfulState (states cells) changed (f (cell_at (states cells) changed))
-      → IsBooked c2 book book' changed size
-      → ((dimension : Dimension) (key : ℕ) → IsWithin dimension (size_at book'.sizes.items key)) → IsReady book' (length c2)
-      → states after ≡ slice_set (states c3) changed (f (cell_at (states c3) changed)) → AreUsersKept c3 after
-      → ((key : ℕ) → HasChild (f (cell_at (states cells) changed)).uses key ↔ HasChild (cell_at (states cells) changed).uses key) → IsWhole after book'
-  run_kept whole inside lawful booked within ready are kept same =
-      whole_again cells after book book' changed (f (cell_at (states cells) changed)) whole inside
-      (kept_users cells after changed (f (cell_at (states cells) changed)) whole.users inside (run_states are)
-      (λ key. kept key ∙ ap (λ (cs : List TreeCell). users_of cs key) run.fourth) same)
-      lawful (run_booked booked) within (subst (λ (cs : List TreeCell). IsReady book' (length cs)) run.third ready)
+    -- it is the edit
+    pub run_edited : IsEdited (tree_of cells book) (tree_of after book') changed (f (cell_at (states cells) changed))
+    run_edited = record { cells = run_states; edits = run_booked.edits; stamps = run_booked.stamps; others = run_booked.sizes.others }
 
-  -- So does one by which one child comes or goes.
-  pub run_changed : (child : ℕ) → IsWhole cells book → changed < length cells → IsLawfulState (states cells) changed (f (cell_at (states cells) changed))
-      → IsBooked c2 book book' changed size
-      → ((dimension : Dimension) (key : ℕ) → IsWithin dimension (size_at book'.sizes.items key)) → IsReady book' (length c2)
-      → states after ≡ slice_set (states c3) changed (f (cell_at (states c3) changed)) → AreUsersBut c3 after changed child
-      → ((key : ℕ) → key ≢ child → HasChild (f (cell_at (states cells) changed)).uses key ↔ HasChild (cell_at (states cells) changed).uses key)
-      → IsWhole after book'
-  run_changed child whole inside lawful booked within ready are but same =
-      whole_again cells after book book' changed (f (cell_at (states cells) changed)) whole inside
-      (changed_users cells after changed (f (cell_at (states cells) changed)) whole.users inside (run_states are) child
-      (subst (λ (cs : List TreeCell). AreUsersBut cs after changed child) run.fourth but)
-      (same_Some _ _ (sym (slice_get-set_same (states cells) changed (f (cell_at (states cells) changed)) in_cells)
-      ∙ sym (ap (λ s. slice_get s changed) (run_states are))
-      ∙ cell_is (states after) changed (omega (
-        arith,
-        in_cells,
-        ap length (run_states are),
-        length-set (states cells) changed
-            (f (cell_at (states cells) changed)),
-      ))))
-      same)
-      lawful (run_booked booked) within (subst (λ (cs : List TreeCell). IsReady book' (length cs)) run.third ready)
-    where
-      in_cells : changed < length (states cells)
-      in_cells = omega (arith, inside, length-states cells)
+    module _ (within : (dimension : Dimension) (key : ℕ) → IsWithin dimension (size_at book'.sizes.items key)) (ready : IsReady book' (length shown))
+        (inside : changed < length cells) (lawful : IsLawfulState (states cells) changed (f (cell_at (states cells) changed))) where
+      run_whole : IsChange cells after changed (f (cell_at (states cells) changed)) → IsWhole after book'
+      run_whole change = whole_again whole inside change lawful run_booked within (subst (λ (cs : List TreeCell). IsReady book' (length cs)) same ready)
+
+      -- An edit that keeps the children of the cell leaves the tree whole.
+      pub run_kept : AreUsersKept given new
+          → ((key : ℕ) → HasChild (f (cell_at (states cells) changed)).uses key ↔ HasChild (cell_at (states cells) changed).uses key) → IsWhole after book'
+      run_kept kept children =
+          run_whole (kept_users cells after changed (f (cell_at (states cells) changed)) whole.users inside run_states
+          (λ key. ap (λ (cs : List TreeCell). users_of cs key) left ∙ kept key ∙ ap (λ (cs : List TreeCell). users_of cs key) again) children)
+
+      -- So does one by which one child comes or goes.
+      pub run_changed : (child : ℕ) → AreUsersBut given new changed child
+          → ((key : ℕ) → key ≢ child → HasChild (f (cell_at (states cells) changed)).uses key ↔ HasChild (cell_at (states cells) changed).uses key)
+          → IsWhole after book'
+      run_changed child but others =
+          run_whole (changed_users cells after changed (f (cell_at (states cells) changed)) whole.users inside run_states child
+          (subst (λ (cs : List TreeCell). AreUsersBut cells cs changed child) (sym left)
+          (subst (λ (cs : List TreeCell). AreUsersBut cs new changed child) again but))
+          (same_Some _ _ (sym (slice_get-set_same (states cells) changed (f (cell_at (states cells) changed)) in_cells)
+          ∙ sym (ap (λ s. slice_get s changed) run_states)
+          ∙ cell_is (states after) changed (omega (
+            arith,
+            in_cells,
+            ap length run_states,
+            length-set (states cells) changed
+                (f (cell_at (states cells) changed)),
+          ))))
+          others)
+        where
+          in_cells : changed < length (states cells)
+          in_cells = omega (arith, inside, length-states cells)

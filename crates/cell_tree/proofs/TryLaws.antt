@@ -1,5 +1,5 @@
 -- A trial of a size, dimension by dimension: what it leaves where it ends well, and what it says where it stops.
-use Rattle.std.proofs.Common.{◌≡◌, ◌≢◌, ◌↔◌, ℕ, ◌-◌, ◌<◌, List, length, slice_set, refl, sym, ◌∙◌, arith}
+use Rattle.std.proofs.Common.{◌≡◌, ◌≢◌, ◌↔◌, ℕ, ◌-◌, ◌<◌, ◌≤◌, List, length, slice_set, refl, sym, ◌∙◌, arith}
 use Rattle.std.proofs.lemmas.List.{get_or-set_other}
 use Rattle.cell_tree.specs.declared.sizes.Dimension.{Dimension}
 use Rattle.cell_tree.specs.declared.sizes.Size.{Size}
@@ -33,7 +33,7 @@ settled-alike dimension cells changed order end a b settled same key cell is dif
     (alike_trans dimension _ (size_of (size_at a) cell) _ (settled key cell is differs never)
     (size_of-alike dimension (size_at a) (size_at b) cell (λ k entry found. alike_sym dimension _ _ (same entry.1.child.0))))
 
-module _ (cells : List CellState) (changed : ℕ) (order : List ℕ) (is_order : IsOrder cells changed order) where
+module _ {cells : List CellState} {changed : ℕ} {order : List ℕ} (is_order : IsOrder cells changed order) where
   -- Right sizes, of which the cell gets another, are settled but for what stands above the cell.
   pub settled-start : (dimension : Dimension) (sizes : List Size) (size : Size) → AreSizes cells sizes
       → AreSettledBut dimension cells changed order (length order - 1) (slice_set sizes changed size)
@@ -48,42 +48,37 @@ module _ (cells : List CellState) (changed : ℕ) (order : List ℕ) (is_order :
   nothing_before : (key : ℕ) → StandsBefore order 0 key → ⊥
   nothing_before key s = omega (arith, s.before)
 
-  module _ (dimension : Dimension) (sizes tried : List Size) (size : Size) (is_tried : IsTried cells sizes tried changed size) (next : List Size)
+  module _ (dimension : Dimension) {sizes tried : List Size} {size : Size} (is_tried : IsTried cells sizes tried changed size) {next : List Size}
       (begins : Begins dimension changed order sizes next size) where
+    -- What is worked out from a place of the order on is as in the sizes that the cells would have.
+    worked_out : (place : ℕ) → place ≤ length order → AreSettledBut dimension cells changed order place next
+        → (key : ℕ) → (StandsBefore order place key → ⊥) → AreAlike dimension (size_at next key) (size_at tried key)
+    worked_out place low settled =
+        alike_tried cells changed order is_order.sorted dimension sizes tried size is_tried is_order.above is_order.within next place low settled
+        begins.given begins.others
+
     -- What was worked out to the end keeps within the limit, in the sizes that the cells would have.
     pub done_within : IsDone dimension cells changed order next → (key : ℕ) → IsWithin dimension (size_at tried key)
-    done_within done key =
-        alike_within dimension (size_at next key) (size_at tried key)
-        (alike_tried cells changed order is_order.sorted dimension sizes tried size is_tried is_order.above is_order.within next 0 (omega arith) done.settled
-        begins.given begins.others key (nothing_before key))
-        (done.within key)
+    done_within done key = alike_within dimension _ _ (worked_out 0 (omega arith) done.settled key (nothing_before key)) (done.within key)
 
-    -- Where it stopped, a cell above would pass the limit.
-    pub stopped_passes : (stops : StopsIn dimension cells changed order next) → IsWithin dimension (size_at tried (at order stops.place)) → ⊥
-    stopped_passes stops within =
-        stops.passes (alike_within dimension (size_at tried (at order stops.place)) (size_at next (at order stops.place))
-        (alike_sym dimension _ _
-        (alike_tried cells changed order is_order.sorted dimension sizes tried size is_tried is_order.above is_order.within next stops.place
-        (omega (arith, stops.before)) stops.settled begins.given begins.others
-        (at order stops.place) (λ s. is_order.once s.place stops.place s.before stops.before s.is)))
-        within)
-
-    -- So the limit is the first that is passed, where those before it are kept.
+    -- Where it stopped, a cell above would pass the limit. So the limit is the first that is passed, where those before it are kept.
     pub stops_first : StopsIn dimension cells changed order next
         → ((other : Dimension) → ComesBefore other dimension → (key : ℕ) → IsWithin other (size_at tried key)) → PassesFirst dimension cells changed tried
     stops_first stops kept =
         record {
           key = at order stops.place;
           above = (is_order.above (at order stops.place)).0 (record { place = stops.place; before = stops.before; is = refl });
-          passes = stopped_passes stops;
+          passes = λ within. stops.passes (alike_within dimension _ _ (alike_sym dimension _ _
+              (worked_out stops.place (omega (arith, stops.before)) stops.settled (at order stops.place)
+              (λ s. is_order.once s.place stops.place s.before stops.before s.is))) within);
           before = λ other earlier key up. kept other earlier key;
         }
 
   -- Sizes that are worked out in all dimensions are those that the cells would have.
-  pub done_tried : (sizes next : List Size) (size : Size) → ((key : ℕ) → (StandsIn order key → ⊥) → size_at next key ≡ size_at sizes key)
+  pub done_tried : {sizes next : List Size} {size : Size} → ((key : ℕ) → (StandsIn order key → ⊥) → size_at next key ≡ size_at sizes key)
       → size_at next changed ≡ size
       → ((dimension : Dimension) → AreSettledBut dimension cells changed order 0 next) → IsTried cells sizes next changed size
-  done_tried sizes next size others given settled =
+  done_tried others given settled =
       record {
         others = λ key apart. others key (λ stands. apart ((is_order.above key).0 stands));
         right = λ key cell is differs. alike_all _ _ (λ dimension. settled dimension key cell is differs (nothing_before key));

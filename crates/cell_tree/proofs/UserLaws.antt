@@ -1,5 +1,5 @@
 -- The users that a cell knows, after one comes or goes.
-use Rattle.std.proofs.Common.{◌≡◌, ◌≢◌, inl, inr, ℕ, zero, suc, true, false, List, [], ◌∷◌, ◌++◌, length, get_or, refl, sym, ap, subst, ◌∙◌, arith, Contains}
+use Rattle.std.proofs.Common.{◌≡◌, ◌≢◌, ◌↔◌, inl, inr, ℕ, zero, suc, true, false, List, [], ◌∷◌, ◌++◌, length, get_or, refl, sym, ap, subst, ◌∙◌, arith, Contains}
 use Rattle.std.specs.Prelude.{nat_eq, if◌then◌else◌}
 use Rattle.std.specs.List.{list_any}
 use Rattle.std.proofs.lemmas.Bool.{cases_lt, cases_Bool, eqb-true, eq-eqb, ne_eqb, or_left, or_right, both_ways}
@@ -47,16 +47,15 @@ insert_more ks key user has =
       | inr new ↦ rw new (push_more ks key user has)
     ]
 
+both_know : {ks ls : List ℕ} (user : ℕ) → ks ≡ ls → Contains ks user ↔ Contains ls user
+both_know user same = (subst (λ ks. Contains ks user) same, subst (λ ks. Contains ks user) (sym same))
+
 -- A use came, and the cell as a user of the child.
 pub added_users : (old mid new : List TreeCell) (cell child : ℕ) → AreUsersKept old mid → ((key : ℕ) → key ≢ child → users_of new key ≡ users_of mid key)
     → users_of new child ≡ insert_key nat_eq (users_of mid child) cell → HasChild (cell_at (states new) cell).uses child → AreUsersBut old new cell child
 added_users old mid new cell child kept others more uses =
     record {
-      others = λ key user differs. (
-        subst (λ ks. Contains ks user) (others key differs ∙ kept key),
-        subst (λ ks. Contains ks user)
-            (sym (others key differs ∙ kept key)),
-      );
+      others = λ key user differs. both_know user (others key differs ∙ kept key);
       rest = λ user differs. (
         (λ has. subst (λ ks. Contains ks user) (kept child) (insert_rest (users_of mid child) cell user differs (subst (λ ks. Contains ks user) more has))),
         (λ has. subst (λ ks. Contains ks user) (sym more) (insert_more (users_of mid child) cell user (subst (λ ks. Contains ks user) (sym (kept child)) has))),
@@ -70,11 +69,7 @@ pub removed_users : (old mid new : List TreeCell) (cell child : ℕ) → AreUser
     → (HasChild (cell_at (states new) cell).uses child → ⊥) → AreUsersBut old new cell child
 removed_users old mid new cell child kept others tells none =
     record {
-      others = λ key user differs. (
-        subst (λ ks. Contains ks user) (others key differs ∙ kept key),
-        subst (λ ks. Contains ks user)
-            (sym (others key differs ∙ kept key)),
-      );
+      others = λ key user differs. both_know user (others key differs ∙ kept key);
       rest = λ user differs.
           let same : knows (users_of new child) user ≡ knows (users_of mid child) user =
           tells user ∙ ap (λ b. if b then false else knows (users_of mid child) user) (ne_eqb cell user (λ e. differs (sym e))) in (

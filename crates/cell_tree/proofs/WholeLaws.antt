@@ -8,28 +8,33 @@ use Rattle.cell_tree.specs.declared.cells.TreeCell.{TreeCell}
 use Rattle.cell_tree.specs.declared.limits.TheConstants.{MOST_USES}
 use Rattle.cell_tree.specs.declared.size_books.SizeBook.{SizeBook}
 use Rattle.cell_tree.specs.declared.sizes.Dimension.{Dimension}
-use Rattle.cell_tree.specs.declared.sizes.Size.{Size}
 use Rattle.cell_tree.specs.declared.use_tables.UseBody.{UseBody}
 use Rattle.cell_tree.specs.Uses.{HasChild}
 use Rattle.cell_tree.specs.Sizes.{CellState, size_at, size_of, IsWithin, AreSizes, AreUsesBelow}
 use Rattle.cell_tree.specs.Cells.{states, Uses, IsAbove, KnowUsers}
 use Rattle.cell_tree.specs.Above.{IsUserOf}
-use Rattle.cell_tree.specs.Trials.{IsTried, PassesFirst, FitsIn}
-use Rattle.cell_tree.specs.Trees.{stamp_at, empty_cell, cell_at, IsLawfulCell, IsEdited, WouldPass, WouldKeepWithin}
+use Rattle.cell_tree.specs.Trials.{FitsIn}
+use Rattle.cell_tree.specs.Trees.{Tree, stamp_at, empty_cell, cell_at, IsLawfulCell, WouldPass, WouldKeepWithin}
 use Rattle.cell_tree.specs.Books.{IsReady, AreLawful, IsBooked}
 use Rattle.cell_tree.specs.Whole.{tree_of, IsWhole}
 use Rattle.cell_tree.specs.steps.Edits.{AreUsersKept, AreUsersBut}
+use Rattle.cell_tree.specs.steps.Passes.{WouldPassFirst}
 use Rattle.cell_tree.proofs.EditLaws.{tried_is_right, tried_exists}
 use Rattle.cell_tree.proofs.DecideLaws.{above_or_not}
 use Rattle.cell_tree.proofs.FindLaws.{length-states}
 
 -- what a trial asks for holds of a whole tree
-pub whole_lawful : (cells : List TreeCell) (book : SizeBook) → IsWhole cells book → AreLawful cells book.sizes.items
-whole_lawful cells book whole = record { uses = whole.lawful.cells; measured = whole.lawful.sizes; users = whole.users }
+pub whole_lawful : {cells : List TreeCell} {book : SizeBook} → IsWhole cells book → AreLawful cells book.sizes.items
+whole_lawful whole = record { uses = whole.lawful.cells; measured = whole.lawful.sizes; users = whole.users }
 
 -- the cell at a position
 pub cell_is : (cells : List CellState) (key : ℕ) → key < length cells → slice_get cells key ≡ Some (cell_at cells key)
 cell_is cells key within = slice_get-get_or cells key empty_cell within
+
+-- a cell of the tree
+pub is_inside : {cells : List TreeCell} {book : SizeBook} {tree : Tree} → IsWhole cells book → tree_of cells book ≡ tree → (key : ℕ)
+    → key < length tree.cells → key < length cells
+is_inside {cells = cells} whole view key within = omega (arith, ap (λ (t : Tree). length t.cells) view, length-states cells)
 
 -- What another state of a cell must be.
 pub record IsLawfulState (cells : List CellState) (changed : ℕ) (state : CellState) : Type 0 where
@@ -54,11 +59,10 @@ pub record IsChange (cells cells' : List TreeCell) (changed : ℕ) (state : Cell
   pub states : states cells' ≡ slice_set (states cells) changed state
   pub users : KnowUsers cells'
 
-module _ (cells cells' : List TreeCell) (book book' : SizeBook) (changed : ℕ) (state : CellState) (whole : IsWhole cells book) (inside : changed < length cells)
+module _ {cells cells' : List TreeCell} {book book' : SizeBook} {changed : ℕ} {state : CellState} (whole : IsWhole cells book) (inside : changed < length cells)
     (change : IsChange cells cells' changed state) (lawful : IsLawfulState (states cells) changed state)
     (booked : IsBooked cells book book' changed (size_of (size_at book.sizes.items) state))
-    (within : (dimension : Dimension) (key : ℕ) → IsWithin dimension (size_at book'.sizes.items key))
-    (ready : IsReady book' (length cells)) where
+    (within : (dimension : Dimension) (key : ℕ) → IsWithin dimension (size_at book'.sizes.items key)) (ready : IsReady book' (length cells)) where
   in_states : changed < length (states cells)
   in_states = omega (arith, inside, length-states cells)
 
@@ -67,16 +71,6 @@ module _ (cells cells' : List TreeCell) (book book' : SizeBook) (changed : ℕ) 
 
   many : length cells' ≡ length cells
   many = sym (length-states cells') ∙ as_many ∙ length-states cells
-
-  -- it is the edit
-  pub edited : IsEdited (tree_of cells book) (tree_of cells' book') changed state
-  edited =
-      record {
-        cells = change.states;
-        edits = booked.edits;
-        stamps = booked.stamps;
-        others = booked.sizes.others;
-      }
 
   past : (key : ℕ) → stamp_at book'.stamps.items key ≤ book'.edits
   past key =
@@ -113,7 +107,7 @@ module _ (cells cells' : List TreeCell) (book book' : SizeBook) (changed : ℕ) 
         ready = subst (IsReady book') (sym many) ready;
       }
 
-module _ (cells : List TreeCell) (book : SizeBook) (changed : ℕ) (state : CellState) (whole : IsWhole cells book) (inside : changed < length cells)
+module _ {cells : List TreeCell} {book : SizeBook} {changed : ℕ} {state : CellState} (whole : IsWhole cells book) (inside : changed < length cells)
     (lawful : IsLawfulState (states cells) changed state) where
   -- what fits would keep within the limits
   pub would_keep : FitsIn (states cells) book.sizes.items changed (size_of (size_at book.sizes.items) state)
@@ -128,9 +122,7 @@ module _ (cells : List TreeCell) (book : SizeBook) (changed : ℕ) (state : Cell
       }
 
   -- what would pass a limit, in the sizes that the cells would have
-  pub would_pass : (dimension : Dimension)
-      → ((tried : List Size) → IsTried (states cells) book.sizes.items tried changed (size_of (size_at book.sizes.items) state)
-      → PassesFirst dimension (states cells) changed tried)
+  pub would_pass : (dimension : Dimension) → WouldPassFirst dimension (states cells) book.sizes.items changed (size_of (size_at book.sizes.items) state)
       → WouldPass dimension (tree_of cells book) changed state
   would_pass dimension passes =
       let in_states : changed < length (states cells) = omega (arith, inside, length-states cells) in
@@ -143,66 +135,38 @@ module _ (cells : List TreeCell) (book : SizeBook) (changed : ℕ) (state : Cell
         passes = passes there.0 there.2;
       }
 
+-- a cell uses the children of its uses
+pub uses_child : {cells : List CellState} {user : ℕ} {cell : CellState} → slice_get cells user ≡ Some cell → (key : ℕ) → HasChild cell.uses key
+    → Uses cells user key
+uses_child {cell = cell} is key has = record { cell = cell; is = is; k = has.k; entry = has.entry; stands = has.stands; child = has.same }
+
+-- and no other cells
+pub child_used : {cells : List CellState} {user : ℕ} {cell : CellState} → slice_get cells user ≡ Some cell → (key : ℕ) → Uses cells user key
+    → HasChild cell.uses key
+child_used {cell = cell} is key uses =
+    let same : cell ≡ uses.cell = same_Some _ _ (sym is ∙ uses.is) in
+    record { k = uses.k; entry = uses.entry; stands = ap (λ (c : CellState). slice_get c.uses uses.k) same ∙ uses.stands; same = uses.child }
+
 -- users that are kept are known where the children of the cell stay the same
 module _ (cells cells' : List TreeCell) (changed : ℕ) (state : CellState) (users : KnowUsers cells) (inside : changed < length cells)
     (are : states cells' ≡ slice_set (states cells) changed state) where
   in_cells : changed < length (states cells)
   in_cells = omega (arith, inside, length-states cells)
 
+  new_is : slice_get (states cells') changed ≡ Some state
+  new_is = ap (λ s. slice_get s changed) are ∙ slice_get-set_same (states cells) changed state in_cells
+
+  old_is : slice_get (states cells) changed ≡ Some (cell_at (states cells) changed)
+  old_is = cell_is (states cells) changed in_cells
+
+  same_other : (user : ℕ) → user ≢ changed → slice_get (states cells') user ≡ slice_get (states cells) user
+  same_other user differs = ap (λ s. slice_get s user) are ∙ slice_get-set_other (states cells) changed user state differs
+
   other_uses : (user key : ℕ) → user ≢ changed → Uses (states cells') user key → Uses (states cells) user key
-  other_uses user key differs uses =
-      record {
-        cell = uses.cell;
-        is = sym (slice_get-set_other (states cells) changed user state differs) ∙ sym (ap (λ s. slice_get s user) are) ∙ uses.is;
-        k = uses.k;
-        entry = uses.entry;
-        stands = uses.stands;
-        child = uses.child;
-      }
+  other_uses user key differs uses = uses_child (sym (same_other user differs) ∙ uses.is) key (child_used uses.is key uses)
 
   other_uses_back : (user key : ℕ) → user ≢ changed → Uses (states cells) user key → Uses (states cells') user key
-  other_uses_back user key differs uses =
-      record {
-        cell = uses.cell;
-        is = ap (λ s. slice_get s user) are ∙ slice_get-set_other (states cells) changed user state differs ∙ uses.is;
-        k = uses.k;
-        entry = uses.entry;
-        stands = uses.stands;
-        child = uses.child;
-      }
-
-  own_uses : (key : ℕ) → Uses (states cells') changed key → HasChild state.uses key
-  own_uses key uses =
-      let same : state ≡ uses.cell = same_Some state uses.cell
-      (sym (slice_get-set_same (states cells) changed state in_cells) ∙ sym (ap (λ s. slice_get s changed) are) ∙ uses.is) in
-      record { k = uses.k; entry = uses.entry; stands = ap (λ (c : CellState). slice_get c.uses uses.k) same ∙ uses.stands; same = uses.child }
-
-  own_uses_back : (key : ℕ) → HasChild state.uses key → Uses (states cells') changed key
-  own_uses_back key has =
-      record {
-        cell = state;
-        is = ap (λ s. slice_get s changed) are ∙ slice_get-set_same (states cells) changed state in_cells;
-        k = has.k;
-        entry = has.entry;
-        stands = has.stands;
-        child = has.same;
-      }
-
-  old_uses : (key : ℕ) → Uses (states cells) changed key → HasChild (cell_at (states cells) changed).uses key
-  old_uses key uses =
-      let same : cell_at (states cells) changed ≡ uses.cell = same_Some _ uses.cell (sym (cell_is (states cells) changed in_cells) ∙ uses.is) in
-      record { k = uses.k; entry = uses.entry; stands = ap (λ (c : CellState). slice_get c.uses uses.k) same ∙ uses.stands; same = uses.child }
-
-  old_uses_back : (key : ℕ) → HasChild (cell_at (states cells) changed).uses key → Uses (states cells) changed key
-  old_uses_back key has =
-      record {
-        cell = cell_at (states cells) changed;
-        is = cell_is (states cells) changed in_cells;
-        k = has.k;
-        entry = has.entry;
-        stands = has.stands;
-        child = has.same;
-      }
+  other_uses_back user key differs uses = uses_child (same_other user differs ∙ uses.is) key (child_used uses.is key uses)
 
   -- where the children stay the same and users are kept
   pub kept_users : AreUsersKept cells cells' → ((key : ℕ) → HasChild state.uses key ↔ HasChild (cell_at (states cells) changed).uses key)
@@ -213,14 +177,14 @@ module _ (cells cells' : List TreeCell) (changed : ℕ) (state : CellState) (use
         users = record {
           known = λ key user uses. subst (λ list. Contains list user) (sym (kept key)) (users.known key user (elim (cases_eq user changed) [
             | inl here ↦ subst (λ u. Uses (states cells) u key) (sym here)
-                (old_uses_back key ((same key).0 (own_uses key (subst (λ u. Uses (states cells') u key) here uses))))
+                (uses_child old_is key ((same key).0 (child_used new_is key (subst (λ u. Uses (states cells') u key) here uses))))
             | inr differs ↦ other_uses user key differs uses
           ]));
           none = λ key user knows.
               let uses = users.none key user (subst (λ list. Contains list user) (kept key) knows) in
               elim (cases_eq user changed) [
                 | inl here ↦ subst (λ u. Uses (states cells') u key) (sym here)
-                    (own_uses_back key ((same key).1 (old_uses key (subst (λ u. Uses (states cells) u key) here uses))))
+                    (uses_child new_is key ((same key).1 (child_used old_is key (subst (λ u. Uses (states cells) u key) here uses))))
                 | inr differs ↦ other_uses_back user key differs uses
               ];
         };
@@ -237,10 +201,10 @@ module _ (cells cells' : List TreeCell) (changed : ℕ) (state : CellState) (use
             | inl here ↦ subst (λ u. IsUserOf cells' key u) (sym here) (elim (cases_eq key child) [
               | inl at_child ↦ subst (λ k. IsUserOf cells' k changed) (sym at_child)
                   (but.own.1 (subst (λ (c : CellState). HasChild c.uses child) new
-                  (subst (HasChild state.uses) at_child (own_uses key (subst (λ u. Uses (states cells') u key) here uses)))))
+                  (subst (HasChild state.uses) at_child (child_used new_is key (subst (λ u. Uses (states cells') u key) here uses)))))
               | inr apart ↦
                   (but.others key changed apart).1 (users.known key changed
-                  (old_uses_back key ((same key apart).0 (own_uses key (subst (λ u. Uses (states cells') u key) here uses)))))
+                  (uses_child old_is key ((same key apart).0 (child_used new_is key (subst (λ u. Uses (states cells') u key) here uses)))))
             ])
             | inr differs ↦ elim (cases_eq key child) [
               | inl at_child ↦ subst (λ k. IsUserOf cells' k user) (sym at_child)
@@ -251,10 +215,10 @@ module _ (cells cells' : List TreeCell) (changed : ℕ) (state : CellState) (use
           none = λ key user knows. elim (cases_eq user changed) [
             | inl here ↦ subst (λ u. Uses (states cells') u key) (sym here) (elim (cases_eq key child) [
               | inl at_child ↦ subst (Uses (states cells') changed) (sym at_child)
-                  (own_uses_back child (subst (λ (c : CellState). HasChild c.uses child) (sym new)
+                  (uses_child new_is child (subst (λ (c : CellState). HasChild c.uses child) (sym new)
                   (but.own.0 (subst (λ k. IsUserOf cells' k changed) at_child (subst (IsUserOf cells' key) here knows)))))
               | inr apart ↦
-                  own_uses_back key ((same key apart).1 (old_uses key
+                  uses_child new_is key ((same key apart).1 (child_used old_is key
                   (users.none key changed ((but.others key changed apart).0 (subst (IsUserOf cells' key) here knows)))))
             ])
             | inr differs ↦ elim (cases_eq key child) [

@@ -1,10 +1,10 @@
 //! The size that a cell has after an edit.
-ghost use Rattle.std.specs.Prelude.{◌≡◌, ◌<◌, length, Some};
+ghost use Rattle.std.specs.Prelude.{◌≡◌, ◌<◌, ℕ, length, Some, List as Items};
 ghost use Rattle.cell_tree.specs.declared.use_tables.UseBody.{UseBody as IsUse};
 ghost use Rattle.cell_tree.specs.Uses.{IsLawfulUse};
-ghost use Rattle.cell_tree.specs.Sizes.{size_at, size_of, with_or_without, with_use};
+ghost use Rattle.cell_tree.specs.Sizes.{size_at, size_of, with_or_without};
 ghost use Rattle.cell_tree.specs.Cells.{states};
-ghost use Rattle.cell_tree.specs.Trees.{cell_at, with_own, with_uses};
+ghost use Rattle.cell_tree.specs.Trees.{cell_at, with_inserted, with_own, with_uses};
 ghost use Rattle.cell_tree.specs.Books.{AreLawful};
 
 use crate::cells::TreeCell;
@@ -49,7 +49,7 @@ pub fn size_with_placed(cells: &[TreeCell], sizes: &[Size], cell: usize, used: &
     requires within { cell < length cells.now }
     requires used { IsLawfulUse used.now }
     requires child { used.now.child.0 < length cells.now }
-    ensures { result ≡ with_use (size_at sizes.now cell) used.now (size_at sizes.now used.now.child.0) }
+    ensures { (at : ℕ) (id : Items ℕ) → result ≡ size_of (size_at sizes.now) (with_inserted (cell_at (states cells.now) cell) at id used.now) }
 {
     with_use(&sizes[cell], used, &sizes[used.child.0])
 }

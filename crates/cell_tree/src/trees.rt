@@ -226,8 +226,9 @@ impl CellTree {
         ensures refused { IfErr result (RefusesBox self.old cell own) }
         ensures same { self.new ≡ self.old }
     {
-        let size = size_with_box(self.cells.as_slice(), self.book.sizes.as_slice(), cell, own);
-        let fits = self.book.fits(self.cells.as_slice(), cell, &size);
+        let cells = self.cells.as_slice();
+        let size = size_with_box(cells, self.book.sizes.as_slice(), cell, own);
+        let fits = self.book.fits(cells, cell, &size);
         match fits {
             Ok(()) => Ok(()),
             Err(dimension) => Err(TreeFault::Passed(dimension)),
@@ -247,8 +248,9 @@ impl CellTree {
         ensures refused { IfErr result (RefusesBox self.old cell own) }
         ensures same { OnErr result (self.new ≡ self.old) }
     {
-        let size = size_with_box(self.cells.as_slice(), self.book.sizes.as_slice(), cell, own);
-        match self.book.grow(self.cells.as_slice(), cell, &size) {
+        let cells = self.cells.as_slice();
+        let size = size_with_box(cells, self.book.sizes.as_slice(), cell, own);
+        match self.book.grow(cells, cell, &size) {
             Ok(()) => {}
             Err(dimension) => return Err(TreeFault::Passed(dimension)),
         }
@@ -265,8 +267,9 @@ impl CellTree {
         requires edits { self.old.edits < u64.MAX }
         ensures { IsEdited self.old self.new cell (with_own (cell_at self.old.cells cell) own) }
     {
-        let size = size_with_box(self.cells.as_slice(), self.book.sizes.as_slice(), cell, own);
-        match self.book.grow(self.cells.as_slice(), cell, &size) {
+        let cells = self.cells.as_slice();
+        let size = size_with_box(cells, self.book.sizes.as_slice(), cell, own);
+        match self.book.grow(cells, cell, &size) {
             Ok(()) => {}
             Err(_) => unreachable!(),
         }
@@ -328,13 +331,9 @@ impl CellTree {
         ensures same { OnErr result (self.new ≡ self.old) }
     {
         reserve_use(self.cells.as_mut_slice(), cell, used.child.0)?;
-        let size = size_with_placed(
-            self.cells.as_slice(),
-            self.book.sizes.as_slice(),
-            cell,
-            &used,
-        );
-        match self.book.grow(self.cells.as_slice(), cell, &size) {
+        let cells = self.cells.as_slice();
+        let size = size_with_placed(cells, self.book.sizes.as_slice(), cell, &used);
+        match self.book.grow(cells, cell, &size) {
             Ok(()) => {}
             Err(dimension) => return Err(TreeFault::Passed(dimension)),
         }
@@ -370,14 +369,9 @@ impl CellTree {
             placed,
             grid,
         };
-        let size = size_with_use(
-            self.cells.as_slice(),
-            self.book.sizes.as_slice(),
-            cell,
-            k,
-            &Some(used),
-        );
-        match self.book.grow(self.cells.as_slice(), cell, &size) {
+        let cells = self.cells.as_slice();
+        let size = size_with_use(cells, self.book.sizes.as_slice(), cell, k, &Some(used));
+        match self.book.grow(cells, cell, &size) {
             Ok(()) => {}
             Err(dimension) => return Err(TreeFault::Passed(dimension)),
         }
@@ -393,14 +387,9 @@ impl CellTree {
         ensures { IsEdited self.old self.new cell (without_use (cell_at self.old.cells cell) k) }
     {
         let child = self.cells[cell].uses.body(k).child.0;
-        let size = size_with_use(
-            self.cells.as_slice(),
-            self.book.sizes.as_slice(),
-            cell,
-            k,
-            &None,
-        );
-        match self.book.grow(self.cells.as_slice(), cell, &size) {
+        let cells = self.cells.as_slice();
+        let size = size_with_use(cells, self.book.sizes.as_slice(), cell, k, &None);
+        match self.book.grow(cells, cell, &size) {
             Ok(()) => {}
             Err(_) => unreachable!(),
         }

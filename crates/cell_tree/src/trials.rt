@@ -1,12 +1,12 @@
 //! Trying a size: what the cells above a cell grow to.
-ghost use Rattle.std.specs.Prelude.{◌≡◌, ◌≢◌, ◌↔◌, ℕ, ◌-◌, ◌<◌, false, length, slice_get, IsTrue, Some, OnOk, IfErr, List as Items};
+ghost use Rattle.std.specs.Prelude.{◌≡◌, ◌≢◌, ◌↔◌, ℕ, ◌-◌, ◌<◌, false, length, slice_get, IsTrue, Some, OnOk, IfErr};
 ghost use Rattle.cell_tree.specs.declared.sizes.Dimension.{Dimension as IsDimension};
-ghost use Rattle.cell_tree.specs.declared.sizes.Size.{Size as IsSize};
-ghost use Rattle.cell_tree.specs.Cells.{states, KnowUsers};
-ghost use Rattle.cell_tree.specs.Sizes.{CellState, size_at, size_of, IsWithin, AreAlike, AreChildrenWithin};
+ghost use Rattle.cell_tree.specs.Cells.{states};
+ghost use Rattle.cell_tree.specs.Sizes.{CellState, size_at, size_of, IsWithin, AreChildrenWithin};
 ghost use Rattle.cell_tree.specs.Above.{StandsIn, StandsBefore};
-ghost use Rattle.cell_tree.specs.Trials.{AreSettledBut, IsTried, PassesFirst, AreLawfulCells, SetsDimension, IsDone, StopsIn};
+ghost use Rattle.cell_tree.specs.Trials.{IsTried, AreLawfulCells, SetsDimension, IsDone, StopsIn};
 ghost use Rattle.cell_tree.specs.Books.{ListsAbove, AreLawful};
+ghost use Rattle.cell_tree.specs.steps.Passes.{MayPass, IsPass, WouldPassFirst};
 
 use crate::cells::TreeCell;
 use crate::sizes::{Dimension, Size, is_within, measured, with_dimension};
@@ -34,17 +34,11 @@ fn resize(
     order: &[usize],
     next: &mut [Size],
 ) -> bool
-    requires order { ListsAbove cells.now cell order.now }
-    requires long { length next.old ≡ length cells.now }
-    requires lawful { AreLawfulCells (states cells.now) }
-    requires known { KnowUsers cells.now }
-    requires settled { AreSettledBut dimension (states cells.now) cell order.now (length order.now - 1) next.old }
+    requires ready { MayPass dimension cells.now cell order.now next.old }
     requires within { (key : ℕ) → (StandsBefore order.now (length order.now - 1) key → ⊥) → IsWithin dimension (size_at next.old key) }
     ensures done { IsTrue result → IsDone dimension (states cells.now) cell order.now next.new }
     ensures stopped { result ≡ false → StopsIn dimension (states cells.now) cell order.now next.new }
-    ensures kept { size_at next.new cell ≡ size_at next.old cell }
-    ensures others { (key : ℕ) → (StandsIn order.now key → ⊥) → size_at next.new key ≡ size_at next.old key }
-    ensures alike { (other : IsDimension) → other ≢ dimension → (key : ℕ) → AreAlike other (size_at next.new key) (size_at next.old key) }
+    ensures pass { IsPass dimension cell order.now next.old next.new }
 {
     let mut k = order.len() - 1;
     while k > 0 {
@@ -65,17 +59,11 @@ fn try_dimension(
     order: &[usize],
     next: &mut [Size],
 ) -> bool
-    requires order { ListsAbove cells.now cell order.now }
-    requires long { length next.old ≡ length cells.now }
-    requires lawful { AreLawfulCells (states cells.now) }
-    requires known { KnowUsers cells.now }
-    requires settled { AreSettledBut dimension (states cells.now) cell order.now (length order.now - 1) next.old }
+    requires ready { MayPass dimension cells.now cell order.now next.old }
     requires within { (key : ℕ) → key ≢ cell → IsWithin dimension (size_at next.old key) }
     ensures done { IsTrue result → IsDone dimension (states cells.now) cell order.now next.new }
     ensures stopped { result ≡ false → StopsIn dimension (states cells.now) cell order.now next.new }
-    ensures kept { size_at next.new cell ≡ size_at next.old cell }
-    ensures others { (key : ℕ) → (StandsIn order.now key → ⊥) → size_at next.new key ≡ size_at next.old key }
-    ensures alike { (other : IsDimension) → other ≢ dimension → (key : ℕ) → AreAlike other (size_at next.new key) (size_at next.old key) }
+    ensures pass { IsPass dimension cell order.now next.old next.new }
 {
     if !is_within(dimension, &next[cell]) {
         return false;
@@ -96,8 +84,7 @@ pub fn try_size(
     requires lawful { AreLawful cells.now next.old }
     ensures tried { OnOk result (IsTried (states cells.now) next.old next.new cell size.now) }
     ensures within { OnOk result ((dimension : IsDimension) (key : ℕ) → IsWithin dimension (size_at next.new key)) }
-    ensures refused { IfErr result (λ dimension. (tried : Items IsSize) → IsTried (states cells.now) next.old tried cell size.now
-        → PassesFirst dimension (states cells.now) cell tried) }
+    ensures refused { IfErr result (λ dimension. WouldPassFirst dimension (states cells.now) next.old cell size.now) }
     ensures others { (key : ℕ) → (StandsIn order.now key → ⊥) → size_at next.new key ≡ size_at next.old key }
 {
     next[cell] = *size;

@@ -1,6 +1,6 @@
 -- The order in which the walk is done with records, and the places of its faults.
-use Rattle.std.proofs.Common.{◌≡◌, ◌⊎◌, ℕ, zero, suc, ◌<◌, ◌≤◌, ◌+◌, ◌==◌, Bool, true, false, cond, Option, Some, None, List, [], ◌∷◌, ◌++◌, All, length, map}
-use Rattle.std.proofs.Common.{get_or, inl, inr, refl, sym, ◌∙◌, ap, subst, arith, reverse}
+use Rattle.std.proofs.Common.{◌≡◌, ℕ, zero, suc, ◌<◌, ◌≤◌, ◌+◌, ◌==◌, Bool, true, false, cond, Option, Some, None, List, [], ◌∷◌, ◌++◌, length, map}
+use Rattle.std.proofs.Common.{inl, inr, refl, sym, ◌∙◌, ap, subst, arith, reverse}
 use Rattle.std.specs.Prelude.{slice_get}
 use Rattle.std.specs.List.{list_any, position}
 use Rattle.std.specs.Option.{option_or}
@@ -19,13 +19,11 @@ use Rattle.element_tree.specs.steps.Walks.{Graph, uses_of, IsGraph, IsDoneIn, Is
 use Rattle.ext_model.specs.declared.records.UseRec.{UseRec}
 use Rattle.ext_model.specs.declared.records.CellExt.{CellExt}
 use Rattle.circuit_model.specs.declared.faults.FlatFault.{FlatFault}
-use Rattle.circuit_model.specs.declared.faults.FlatFault.TheVariants.{NoCell, Cycle, Memory}
-use Rattle.circuit_model.specs.Elements.{ext_of}
-use Rattle.element_tree.specs.declared.graph.RecordGraph.{RecordGraph}
+use Rattle.circuit_model.specs.declared.faults.FlatFault.TheVariants.{NoCell, Cycle}
 use Rattle.element_tree.specs.Graphs.{LeadTo, AreDone, IsGraphOf, children_of}
 use Rattle.element_tree.specs.steps.Goals.{cells_of, goals_in, goal_graph, found_goals, IsUseAt, IsUseOf, IsNamedFault}
 use Rattle.element_tree.proofs.Cells.{numbered}
-use Rattle.element_tree.proofs.RecordWalks.{fault_named, cell_of_use, cell_named}
+use Rattle.element_tree.proofs.RecordWalks.{fault_named, cell_of_use}
 
 -- ---- lists turned round
 

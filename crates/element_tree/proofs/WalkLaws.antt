@@ -1,6 +1,6 @@
 -- What a walk under way keeps.
 use Rattle.std.proofs.Common.{◌≡◌, ◌⊎◌, ℕ, zero, suc, ◌<◌, ◌≤◌, ◌-◌, ◌==◌, true, false, cond, Option, Some, None, List, [], ◌∷◌, ◌++◌, length, get_or}
-use Rattle.std.proofs.Common.{set, take, drop, inl, inr, refl, sym, ◌∙◌, ap, subst, arith, reverse}
+use Rattle.std.proofs.Common.{set, take, drop, inl, inr, refl, sym, ◌∙◌, ap, subst, arith}
 use Rattle.std.proofs.lemmas.Grind.{common_steps}
 use Rattle.std.proofs.lemmas.List.{get_or-set_same, get_or-set_other}
 use Rattle.std.proofs.Math.Seq.{drop-cons, take-suc}
@@ -15,7 +15,7 @@ use Rattle.element_tree.specs.declared.faults.WalkFault.{WalkFault}
 use Rattle.element_tree.specs.declared.faults.WalkFault.TheVariants.{NoCell, Cycle}
 use Rattle.element_tree.specs.declared.walks.Mark.{Mark}
 use Rattle.element_tree.specs.declared.walks.Mark.TheVariants.{New, Open, Done}
-use Rattle.element_tree.specs.steps.Walks.{Graph, uses_of, fault_from, fault_below, walk_fault, IsDoneIn, IsClosed, IsOrder}
+use Rattle.element_tree.specs.steps.Walks.{Graph, uses_of, fault_from, fault_below, walk_fault, IsDoneIn, IsClosed}
 use Rattle.element_tree.specs.steps.UnderWay.{fault_left, IsWaiting, IsOpen, uses_left, mark_of, IsUnderWay}
 
 -- ---- tests of a list

@@ -1,8 +1,7 @@
-use Rattle.std.proofs.Common.{◌≡◌, ◌∷◌, ◌++◌, [], List, ℕ, Option, Some, None, sym, ap, ◌∙◌}
+use Rattle.std.proofs.Common.{◌∷◌, ◌++◌, [], List, ℕ, Some, None, sym, ap, ◌∙◌}
 use Rattle.std.specs.declared.alloc.Global.{Global}
 use Rattle.std.specs.Prelude.{Vec}
 use Rattle.std.proofs.lemmas.List.{append-nil}
-use Rattle.element_tree.specs.steps.Goals.{found_goals}
 use Rattle.element_tree.proofs.Cells.{found_more}
 use Rattle.element_tree.proofs.graph.found.Goals as goal
 use Rattle.element_tree.proofs.graph.found.Goals.{in-Some+in_ok-push, in_default}

@@ -1,4 +1,4 @@
-use Rattle.std.proofs.Common.{◌≡◌, ◌∷◌, ◌++◌, [], List, ℕ, Bool, cond, sym, ap, ◌∙◌, take}
+use Rattle.std.proofs.Common.{◌∷◌, ◌++◌, [], List, ℕ, Bool, cond, sym, ap, ◌∙◌, take}
 use Rattle.std.specs.List.{list_any}
 use Rattle.std.specs.Str.{bytes_eq}
 use Rattle.element_tree.specs.steps.Goals.{cells_of}

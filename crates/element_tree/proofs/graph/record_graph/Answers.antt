@@ -1,7 +1,6 @@
-use Rattle.std.proofs.Common.{◌≡◌, ◌∷◌, [], List, ℕ, Option, Some, sym, ap, subst, ◌∙◌, inl, inr, map}
+use Rattle.std.proofs.Common.{List, ℕ, Some, sym, ap, subst, ◌∙◌, inl, inr, map}
 use Rattle.std.specs.Option.{option_map}
 use Rattle.std.proofs.lemmas.Option.{get_or_from_slice_get}
-use Rattle.ext_model.specs.declared.records.CellExt.{CellExt}
 use Rattle.element_tree.specs.steps.Walks.{Graph, IsGraph, IsOrder, walk_fault as number_fault}
 use Rattle.element_tree.specs.declared.faults.WalkFault.{WalkFault}
 use Rattle.circuit_model.specs.Refusals.{walk_fault}

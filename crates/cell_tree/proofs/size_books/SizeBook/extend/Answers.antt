@@ -1,6 +1,5 @@
 use Rattle.std.proofs.Common.{List, length, take, replicate, ◌-◌, ap, ◌∙◌, arith}
 use Rattle.cell_tree.specs.declared.sizes.Size.{Size}
-use Rattle.cell_tree.specs.Cells.{states}
 use Rattle.cell_tree.proofs.ArrivalLaws.{start_again}
 use Rattle.std.proofs.lemmas.List.{with_items_is}
 use Rattle.cell_tree.proofs.TableLaws.{on_err_from}
@@ -10,8 +9,7 @@ use Rattle.cell_tree.proofs.size_books.SizeBook.extend.Goals as goal
 
 pub resize_all-sized-requires-clause-old : goal.resize_all-sized-requires-clause-old
 resize_all-sized-requires-clause-old c dimension =
-    start_again (states c.args.cells.now) c.args.new.now.first c.args.new.now.order.items c.requires.sized.sorted dimension c.args.self.now.sizes.items
-    c.as_mut_slice.result.now
+    start_again c.requires.sized.sorted dimension c.args.self.now.sizes.items c.as_mut_slice.result.now
     (filled_old c.args.self.now.sizes.items c.args.self.now.next.items c.fill.new.list.items c.as_mut_slice.result.now _ c.args.new.now.first _
     c.as_mut_slice.ensures.value c.fill.ensures.filled c.requires.ready.next c.requires.sized.count)
     (c.requires.sized.old dimension)

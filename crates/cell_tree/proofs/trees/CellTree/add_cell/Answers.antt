@@ -15,7 +15,7 @@ invariant_of-self-2 c =
     let items = c.push.ensures.items ∙ cond-true _ _ _ ok ∙ ap (λ (cells : List TreeCell). cells ++ new ∷ []) c.reserve-2.ensures.items in
     subst (λ (cells : List TreeCell). IsWhole cells c.add.new.self) (sym items)
     (added_whole c.self.inside.cells.items c.reserve.new.self c.add.new.self
-    (whole_same c.self.inside.cells.items c.self.inside.cells.items c.self.inside.book c.reserve.new.self c.self.invariant refl (λ key. refl)
+    (whole_same c.self.inside.cells.items c.self.invariant refl (λ key. refl)
     c.reserve.ensures.same
     (subst (IsReady c.reserve.new.self) c.self.invariant.ready.sizes c.reserve.ensures.ready))
     new (ap (λ (uses : List (List ℕ × UseBody)). record { own = None; uses = uses }) c.new.ensures) c.new-2.ensures.empty c.add.ensures.sizes
