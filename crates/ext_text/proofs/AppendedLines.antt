@@ -1,13 +1,12 @@
 -- What is appended, one part behind the other, is the line or the text.
 use Rattle.std.proofs.Common.{◌≡◌, ◌≢◌, ◌+◌, ℕ, ℤ, pos, List, [], ◌∷◌, ◌++◌, length, map, refl, sym, ◌∙◌, ap, subst}
-use Rattle.std.proofs.Common.{arith, append_assoc, append-nil}
-use Rattle.std.specs.Prelude.{codes, Some, Result, Err, IfErr}
+use Rattle.std.proofs.Common.{arith, append_assoc}
+use Rattle.std.specs.Prelude.{codes, Result, Err, IfErr}
 use Rattle.std.specs.List.{flat_map}
 use Rattle.std.proofs.lemmas.List.{length-append}
 use Rattle.text_scan.specs.Decimal.{decimal}
 use Rattle.text_scan.specs.Written.{line_of, behind_blanks}
 use Rattle.text_scan.proofs.WrittenLemmas.{blanks-append, line-words}
-use Rattle.geo_core.specs.declared.grids.Grid.{Grid}
 use Rattle.ext_model.specs.declared.records.NodeRec.{NodeRec}
 use Rattle.ext_model.specs.declared.records.TermRec.{TermRec}
 use Rattle.ext_model.specs.declared.records.FetRec.{FetRec}
@@ -17,9 +16,9 @@ use Rattle.ext_model.specs.declared.arrays.ArrayExt.{ArrayExt}
 use Rattle.ext_model.specs.declared.circuits.Circuit.{Circuit}
 use Rattle.ext_text.specs.declared.faults.ExtFault.{ExtFault}
 use Rattle.ext_text.specs.declared.faults.ExtFault.TheVariants.{Memory}
-use Rattle.ext_text.specs.NodeLines.{quoted, measure_words, node_words, node_line}
+use Rattle.ext_text.specs.NodeLines.{quoted, measure_words, node_line}
 use Rattle.ext_text.specs.steps.Appended.{whole_line, nodes_text}
-use Rattle.ext_text.specs.WrittenTexts.{header_words, span_text, use_name, use_words, equiv_words, node_lines, term_words, square_words, fet_words}
+use Rattle.ext_text.specs.WrittenTexts.{header_words, use_name, use_words, node_lines, term_words, square_words, fet_words}
 use Rattle.ext_text.specs.WrittenTexts.{row_path, merge_words}
 use Rattle.ext_text.specs.WrittenTexts.{lines_text, ext_text, flat_text, IsTooLong}
 
@@ -67,10 +66,6 @@ quoted_of a b word name hb is = hb ∙ ap (λ w. a ++ 32 ∷ quoted w) is
 pub line_written : (words : List (List ℕ)) (out a b : List ℕ) → a ≡ out ++ line_of words → b ≡ a ++ 10 ∷ [] → b ≡ out ++ whole_line words
 line_written words out a b ha hb = then out a b (line_of words) (10 ∷ []) ha hb
 
-pub node_with_end : (node : NodeRec) (out a b : List ℕ) → a ≡ out ++ node_line node → b ≡ a ++ 10 ∷ [] → b ≡ out ++ whole_line (node_words node)
-unfolding node_line
-node_with_end node out a b ha hb = line_written (node_words node) out a b ha hb
-
 pub node_appended : (node : NodeRec) (name kind : List ℕ) (measures : List (ℤ × ℤ)) (out a b c d e f g h : List ℕ)
     → a ≡ out ++ codes "node" → b ≡ a ++ 32 ∷ quoted name → name ≡ node.name → c ≡ b ++ codes " 0" → d ≡ c ++ 32 ∷ decimal node.cap
     → e ≡ d ++ 32 ∷ decimal node.x → f ≡ e ++ 32 ∷ decimal node.y → g ≡ f ++ 32 ∷ kind → kind ≡ node.kind
@@ -83,24 +78,6 @@ node_appended node name kind measures out a b c d e f g h ha hb n hc hd he hf hg
     (then a b h _ _ (quoted_of a b name node.name hb n)
     (then b c h _ _ hc (then c d h _ _ hd (then d e h _ _ he (then e f h _ _ hf (then f g h _ _ (word_of f g kind node.kind hg k) last))))))
     ∙ ap (λ v. out ++ v) (sym (line-words (codes "node") words))
-
-pub alias_appended : (name alias first second : List ℕ) (out a b c : List ℕ) → a ≡ out ++ codes "equiv" → b ≡ a ++ 32 ∷ quoted first → first ≡ name
-    → c ≡ b ++ 32 ∷ quoted second → second ≡ alias → c ≡ out ++ line_of (equiv_words name alias)
-alias_appended name alias first second out a b c ha hb n hc m =
-    let last = quoted_of b c second alias hc m ∙ ap (λ v. b ++ v) (sym (append-nil (32 ∷ quoted alias))) in
-    then out a c _ _ ha (then a b c _ _ (quoted_of a b first name hb n) last) ∙ ap (λ v. out ++ v) (sym (line-words (codes "equiv")
-    (quoted name ∷ quoted alias ∷ [])))
-
--- the indices of columns or of rows, and their distance
-pub span_appended : (lo hi sep : ℤ) (out a b c d e f g : List ℕ) → a ≡ out ++ 91 ∷ [] → b ≡ a ++ decimal lo → c ≡ b ++ 58 ∷ [] → d ≡ c ++ decimal hi
-    → e ≡ d ++ 58 ∷ [] → f ≡ e ++ decimal sep → g ≡ f ++ 93 ∷ [] → g ≡ out ++ span_text lo hi sep
-span_appended lo hi sep out a b c d e f g ha hb hc hd he hf hg =
-    then out a g _ _ ha (then a b g _ _ hb (then b c g _ _ hc (then c d g _ _ hd (then d e g _ _ he (then e f g _ _ hf hg)))))
-
--- the id of a use with its grid
-pub array_appended : (id : List ℕ) (grid : Grid) (out a b c : List ℕ) → a ≡ out ++ 32 ∷ id → b ≡ a ++ span_text grid.xlo grid.xhi grid.xsep
-    → c ≡ b ++ span_text grid.ylo grid.yhi grid.ysep → c ≡ out ++ 32 ∷ use_name id (Some grid)
-array_appended id grid out a b c ha hb hc = then out a c (32 ∷ id) _ ha (then a b c _ _ hb hc)
 
 pub use_appended : (used : ArrayUse) (cell id : List ℕ) (out a b c d : List ℕ) → a ≡ out ++ codes "use" → b ≡ a ++ 32 ∷ cell → cell ≡ used.cell
     → c ≡ b ++ 32 ∷ use_name id used.grid → id ≡ used.id → d ≡ c ++ behind_blanks (map decimal used.six) → d ≡ out ++ line_of (use_words used)
