@@ -1,14 +1,12 @@
 -- What is appended, one part behind the other, is the line or the text.
-use Rattle.std.proofs.Common.{◌≡◌, ◌≢◌, ◌+◌, ◌<◌, ℕ, zero, suc, ℤ, pos, List, [], ◌∷◌, ◌++◌, length, map, take, drop, get_or, refl, sym, ◌∙◌, ap, subst}
-use Rattle.std.proofs.Common.{arith, append_assoc, append-nil}
-use Rattle.std.specs.Prelude.{codes, Some, Result, Err, IfErr}
+use Rattle.std.proofs.Common.{◌≡◌, ◌≢◌, ◌+◌, ℕ, ℤ, pos, List, [], ◌∷◌, ◌++◌, length, map, refl, sym, ◌∙◌, ap, subst}
+use Rattle.std.proofs.Common.{arith, append_assoc}
+use Rattle.std.specs.Prelude.{codes, Result, Err, IfErr}
 use Rattle.std.specs.List.{flat_map}
-use Rattle.std.proofs.Math.Seq.{take-suc}
-use Rattle.std.proofs.lemmas.List.{map_more, flat_map_more, length-append}
+use Rattle.std.proofs.lemmas.List.{length-append}
 use Rattle.text_scan.specs.Decimal.{decimal}
 use Rattle.text_scan.specs.Written.{line_of, behind_blanks}
 use Rattle.text_scan.proofs.WrittenLemmas.{blanks-append, line-words}
-use Rattle.geo_core.specs.declared.grids.Grid.{Grid}
 use Rattle.ext_model.specs.declared.records.NodeRec.{NodeRec}
 use Rattle.ext_model.specs.declared.records.TermRec.{TermRec}
 use Rattle.ext_model.specs.declared.records.FetRec.{FetRec}
@@ -18,9 +16,9 @@ use Rattle.ext_model.specs.declared.arrays.ArrayExt.{ArrayExt}
 use Rattle.ext_model.specs.declared.circuits.Circuit.{Circuit}
 use Rattle.ext_text.specs.declared.faults.ExtFault.{ExtFault}
 use Rattle.ext_text.specs.declared.faults.ExtFault.TheVariants.{Memory}
-use Rattle.ext_text.specs.NodeLines.{quoted, measure_words, node_words, node_line}
-use Rattle.ext_text.specs.steps.Appended.{whole_line}
-use Rattle.ext_text.specs.WrittenTexts.{header_words, span_text, use_name, use_words, equiv_words, node_lines, term_words, square_words, fet_words}
+use Rattle.ext_text.specs.NodeLines.{quoted, measure_words, node_line}
+use Rattle.ext_text.specs.steps.Appended.{whole_line, nodes_text}
+use Rattle.ext_text.specs.WrittenTexts.{header_words, use_name, use_words, node_lines, term_words, square_words, fet_words}
 use Rattle.ext_text.specs.WrittenTexts.{row_path, merge_words}
 use Rattle.ext_text.specs.WrittenTexts.{lines_text, ext_text, flat_text, IsTooLong}
 
@@ -29,60 +27,27 @@ use Rattle.ext_text.specs.WrittenTexts.{lines_text, ext_text, flat_text, IsTooLo
 -- ---- lines
 
 -- the text of one line
-pub lines-one : (words : List (List ℕ)) → lines_text (words ∷ []) ≡ whole_line words
+lines-one : (words : List (List ℕ)) → lines_text (words ∷ []) ≡ whole_line words
 unfolding lines_text
 lines-one words = refl
 
-pub lines-none : lines_text [] ≡ []
+lines-none : lines_text [] ≡ []
 unfolding lines_text
 lines-none = refl
 
--- what stands before any line is written
-pub none_yet : (out : List ℕ) → out ≡ out ++ lines_text []
-none_yet out = sym (ap (λ v. out ++ v) lines-none ∙ append-nil out)
-
 -- the text of the lines of two lists
-pub lines-append : (xs ys : List (List (List ℕ))) → lines_text (xs ++ ys) ≡ lines_text xs ++ lines_text ys
+lines-append : (xs ys : List (List (List ℕ))) → lines_text (xs ++ ys) ≡ lines_text xs ++ lines_text ys
 unfolding lines_text
 lines-append [] ys = refl
 lines-append (x ∷ xs) ys =
     ap (λ (rest : List ℕ). line_of x ++ 10 ∷ rest) (lines-append xs ys)
     ∙ sym (append_assoc (line_of x) (10 ∷ lines_text xs) (lines_text ys))
 
--- ---- one more item
-
--- The text of a list's items is made of the texts of its parts.
-abbrev IsText : {Y : Type 0} → (List Y → List ℕ) → Type 0
-IsText {Y} text = (xs ys : List Y) → text (xs ++ ys) ≡ text xs ++ text ys
-
-more_of : {X Y : Type 0} (text : List Y → List ℕ) → IsText text → (f : X → List Y) (xs : List X) (k : ℕ) (x : X) → k < length xs → x ≡ get_or xs k x
-    → (out a b : List ℕ) → a ≡ out ++ text (flat_map f (take k xs)) → b ≡ a ++ text (f x) → b ≡ out ++ text (flat_map f (take (k + 1) xs))
-more_of text joins f xs k x h is out a b ha hb =
-    let next : k + 1 ≡ suc k = omega arith in
-    let items : flat_map f (take k xs) ++ f x ≡ flat_map f (take (k + 1) xs) =
-    flat_map_more f [] (take k xs) x
-    ∙ ap (λ y. flat_map f (take k xs ++ y ∷ [])) is ∙ ap (flat_map f) (sym (take-suc xs k x h)) ∙ ap (λ n. flat_map f (take n xs)) (sym next) in
-    hb ∙ ap (λ v. v ++ text (f x)) ha ∙ append_assoc out (text (flat_map f (take k xs))) (text (f x))
-    ∙ ap (λ v. out ++ v) (sym (joins (flat_map f (take k xs)) (f x)) ∙ ap text items)
-
-one_of : {X Y : Type 0} (text : List Y → List ℕ) → IsText text → (f : X → Y) (xs : List X) (k : ℕ) (x : X) → k < length xs → x ≡ get_or xs k x
-    → (out a b : List ℕ) → a ≡ out ++ text (map f (take k xs)) → b ≡ a ++ text (f x ∷ []) → b ≡ out ++ text (map f (take (k + 1) xs))
-one_of text joins f xs k x h is out a b ha hb =
-    let items : map f (take k xs) ++ f x ∷ [] ≡ map f (take (k + 1) xs) = ap (λ y. map f (take k xs) ++ f y ∷ []) is ∙ sym (map_more f xs k x h) in
-    hb ∙ ap (λ v. v ++ text (f x ∷ [])) ha ∙ append_assoc out (text (map f (take k xs))) (text (f x ∷ []))
-    ∙ ap (λ v. out ++ v) (sym (joins (map f (take k xs)) (f x ∷ [])) ∙ ap text items)
-
--- the lines of one more item
-pub lines_more : {X : Type 0} (f : X → List (List (List ℕ))) (xs : List X) (k : ℕ) (x : X) → k < length xs → x ≡ get_or xs k x
-    → (out a b : List ℕ) → a ≡ out ++ lines_text (flat_map f (take k xs)) → b ≡ a ++ lines_text (f x)
-    → b ≡ out ++ lines_text (flat_map f (take (k + 1) xs))
-lines_more f xs k x h is out a b ha hb = more_of lines_text lines-append f xs k x h is out a b ha hb
-
--- the line of one more item
-pub line_more : {X : Type 0} (f : X → List (List ℕ)) (xs : List X) (k : ℕ) (x : X) → k < length xs → x ≡ get_or xs k x
-    → (out a b : List ℕ) → a ≡ out ++ lines_text (map f (take k xs)) → b ≡ a ++ whole_line (f x) → b ≡ out ++ lines_text (map f (take (k + 1) xs))
-line_more f xs k x h is out a b ha hb =
-    one_of lines_text lines-append f xs k x h is out a b ha (hb ∙ ap (λ v. a ++ v) (sym (lines-one (f x))))
+-- the lines of nodes
+nodes-text : (nodes : List NodeRec) → lines_text (flat_map node_lines nodes) ≡ nodes_text nodes
+nodes-text [] = lines-none
+nodes-text (node ∷ nodes) =
+    lines-append (node_lines node) (flat_map node_lines nodes) ∙ ap (λ v. lines_text (node_lines node) ++ v) (nodes-text nodes)
 
 -- ---- lines and texts by their parts
 
@@ -101,20 +66,6 @@ quoted_of a b word name hb is = hb ∙ ap (λ w. a ++ 32 ∷ quoted w) is
 pub line_written : (words : List (List ℕ)) (out a b : List ℕ) → a ≡ out ++ line_of words → b ≡ a ++ 10 ∷ [] → b ≡ out ++ whole_line words
 line_written words out a b ha hb = then out a b (line_of words) (10 ∷ []) ha hb
 
-pub node_with_end : (node : NodeRec) (out a b : List ℕ) → a ≡ out ++ node_line node → b ≡ a ++ 10 ∷ [] → b ≡ out ++ whole_line (node_words node)
-unfolding node_line
-node_with_end node out a b ha hb = line_written (node_words node) out a b ha hb
-
--- the lines of a node
-pub node_written : (node : NodeRec) (aliases : List (List ℕ)) (a b d : List ℕ) → b ≡ a ++ whole_line (node_words node)
-    → d ≡ b ++ lines_text (map (equiv_words node.name) aliases) → aliases ≡ node.aliases → d ≡ a ++ lines_text (node_lines node)
-node_written node aliases a b d hb hd same =
-    let others = lines_text (map (equiv_words node.name) node.aliases) in
-    let whole : lines_text (node_lines node) ≡ whole_line (node_words node) ++ others =
-    lines-append (node_words node ∷ []) (map (equiv_words node.name) node.aliases) ∙ ap (λ v. v ++ others) (lines-one (node_words node)) in
-    then a b d (whole_line (node_words node)) others hb (hd ∙ ap (λ (names : List (List ℕ)). b ++ lines_text (map (equiv_words node.name) names)) same)
-    ∙ ap (λ v. a ++ v) (sym whole)
-
 pub node_appended : (node : NodeRec) (name kind : List ℕ) (measures : List (ℤ × ℤ)) (out a b c d e f g h : List ℕ)
     → a ≡ out ++ codes "node" → b ≡ a ++ 32 ∷ quoted name → name ≡ node.name → c ≡ b ++ codes " 0" → d ≡ c ++ 32 ∷ decimal node.cap
     → e ≡ d ++ 32 ∷ decimal node.x → f ≡ e ++ 32 ∷ decimal node.y → g ≡ f ++ 32 ∷ kind → kind ≡ node.kind
@@ -127,24 +78,6 @@ node_appended node name kind measures out a b c d e f g h ha hb n hc hd he hf hg
     (then a b h _ _ (quoted_of a b name node.name hb n)
     (then b c h _ _ hc (then c d h _ _ hd (then d e h _ _ he (then e f h _ _ hf (then f g h _ _ (word_of f g kind node.kind hg k) last))))))
     ∙ ap (λ v. out ++ v) (sym (line-words (codes "node") words))
-
-pub alias_appended : (name alias first second : List ℕ) (out a b c : List ℕ) → a ≡ out ++ codes "equiv" → b ≡ a ++ 32 ∷ quoted first → first ≡ name
-    → c ≡ b ++ 32 ∷ quoted second → second ≡ alias → c ≡ out ++ line_of (equiv_words name alias)
-alias_appended name alias first second out a b c ha hb n hc m =
-    let last = quoted_of b c second alias hc m ∙ ap (λ v. b ++ v) (sym (append-nil (32 ∷ quoted alias))) in
-    then out a c _ _ ha (then a b c _ _ (quoted_of a b first name hb n) last) ∙ ap (λ v. out ++ v) (sym (line-words (codes "equiv")
-    (quoted name ∷ quoted alias ∷ [])))
-
--- the indices of columns or of rows, and their distance
-pub span_appended : (lo hi sep : ℤ) (out a b c d e f g : List ℕ) → a ≡ out ++ 91 ∷ [] → b ≡ a ++ decimal lo → c ≡ b ++ 58 ∷ [] → d ≡ c ++ decimal hi
-    → e ≡ d ++ 58 ∷ [] → f ≡ e ++ decimal sep → g ≡ f ++ 93 ∷ [] → g ≡ out ++ span_text lo hi sep
-span_appended lo hi sep out a b c d e f g ha hb hc hd he hf hg =
-    then out a g _ _ ha (then a b g _ _ hb (then b c g _ _ hc (then c d g _ _ hd (then d e g _ _ he (then e f g _ _ hf hg)))))
-
--- the id of a use with its grid
-pub array_appended : (id : List ℕ) (grid : Grid) (out a b c : List ℕ) → a ≡ out ++ 32 ∷ id → b ≡ a ++ span_text grid.xlo grid.xhi grid.xsep
-    → c ≡ b ++ span_text grid.ylo grid.yhi grid.ysep → c ≡ out ++ 32 ∷ use_name id (Some grid)
-array_appended id grid out a b c ha hb hc = then out a c (32 ∷ id) _ ha (then a b c _ _ hb hc)
 
 pub use_appended : (used : ArrayUse) (cell id : List ℕ) (out a b c d : List ℕ) → a ≡ out ++ codes "use" → b ≡ a ++ 32 ∷ cell → cell ≡ used.cell
     → c ≡ b ++ 32 ∷ use_name id used.grid → id ≡ used.id → d ≡ c ++ behind_blanks (map decimal used.six) → d ≡ out ++ line_of (use_words used)
@@ -212,7 +145,7 @@ header_written version tech one other classes out a b c d e f g h i ha hb n hc h
 
 -- the whole files
 pub ext_written : (ext : ArrayExt) (out a b c d e : List ℕ) → out ≡ [] → a ≡ out ++ lines_text (header_words (codes "2") ext.tech ext.classes)
-    → b ≡ a ++ lines_text (map use_words ext.uses) → c ≡ b ++ lines_text (flat_map node_lines ext.nodes) → d ≡ c ++ lines_text (map fet_words ext.fets)
+    → b ≡ a ++ lines_text (map use_words ext.uses) → c ≡ b ++ nodes_text ext.nodes → d ≡ c ++ lines_text (map fet_words ext.fets)
     → e ≡ d ++ lines_text (map merge_words ext.merges) → e ≡ ext_text ext
 ext_written ext out a b c d e ho ha hb hc hd he =
     let header = header_words (codes "2") ext.tech ext.classes in
@@ -221,20 +154,21 @@ ext_written ext out a b c d e ho ha hb hc hd he =
     let fets = map fet_words ext.fets in
     let merges = map merge_words ext.merges in
     let parts = lines-append header (uses ++ (nodes ++ (fets ++ merges))) ∙ ap (λ v. lines_text header ++ v) (lines-append uses (nodes ++ (fets ++ merges))
-    ∙ ap (λ v. lines_text uses ++ v) (lines-append nodes (fets ++ merges) ∙ ap (λ v. lines_text nodes ++ v) (lines-append fets merges))) in
+    ∙ ap (λ v. lines_text uses ++ v) (lines-append nodes (fets ++ merges) ∙ ap (λ v. v ++ lines_text (fets ++ merges)) (nodes-text ext.nodes)
+    ∙ ap (λ v. nodes_text ext.nodes ++ v) (lines-append fets merges))) in
     then out a e _ _ ha (then a b e _ _ hb (then b c e _ _ hc (then c d e _ _ hd he))) ∙ ap (λ v. out ++ v) (sym parts) ∙ ap (λ v. v ++ ext_text ext) ho
 
 flat-parts : (circuit : Circuit) → flat_text circuit
     ≡ lines_text (header_words (codes "1") circuit.tech circuit.classes)
-    ++ (lines_text (flat_map node_lines circuit.nodes) ++ lines_text (map fet_words circuit.fets))
+    ++ (nodes_text circuit.nodes ++ lines_text (map fet_words circuit.fets))
 flat-parts circuit =
     let nodes = flat_map node_lines circuit.nodes in
     let fets = map fet_words circuit.fets in
     lines-append (header_words (codes "1") circuit.tech circuit.classes) (nodes ++ fets)
-    ∙ ap (λ v. lines_text (header_words (codes "1") circuit.tech circuit.classes) ++ v) (lines-append nodes fets)
+    ∙ ap (λ v. lines_text (header_words (codes "1") circuit.tech circuit.classes) ++ v) (lines-append nodes fets ∙ ap (λ v. v ++ lines_text fets) (nodes-text circuit.nodes))
 
 pub flat_written : (circuit : Circuit) (out a b c : List ℕ) → a ≡ out ++ lines_text (header_words (codes "1") circuit.tech circuit.classes)
-    → b ≡ a ++ lines_text (flat_map node_lines circuit.nodes) → c ≡ b ++ lines_text (map fet_words circuit.fets) → c ≡ out ++ flat_text circuit
+    → b ≡ a ++ nodes_text circuit.nodes → c ≡ b ++ lines_text (map fet_words circuit.fets) → c ≡ out ++ flat_text circuit
 flat_written circuit out a b c ha hb hc = then out a c _ _ ha (then a b c _ _ hb hc) ∙ ap (λ v. out ++ v) (sym (flat-parts circuit))
 
 -- ---- texts that are too long
@@ -245,47 +179,15 @@ pub passed_on : {T : Type 0} (answer : Result T ExtFault) (fault : ExtFault) (wh
 passed_on answer fault whole given told =
     subst (λ r. IfErr r (λ f. f ≢ Memory → IsTooLong f whole)) (sym given.1) (subst (λ f. f ≢ Memory → IsTooLong f whole) (sym given.2) told)
 
-map-split : {X Y : Type 0} (f : X → Y) (xs : List X) (k : ℕ) → map f (take k xs) ++ map f (drop k xs) ≡ map f xs
-map-split f [] zero = refl
-map-split f [] (suc k) = refl
-map-split f (x ∷ xs) zero = refl
-map-split f (x ∷ xs) (suc k) = ap (λ ys. f x ∷ ys) (map-split f xs k)
-
-flat_map-split : {X Y : Type 0} (f : X → List Y) (xs : List X) (k : ℕ) → flat_map f (take k xs) ++ flat_map f (drop k xs) ≡ flat_map f xs
-flat_map-split f [] zero = refl
-flat_map-split f [] (suc k) = refl
-flat_map-split f (x ∷ xs) zero = refl
-flat_map-split f (x ∷ xs) (suc k) =
-    append_assoc (f x) (flat_map f (take k xs)) (flat_map f (drop k xs)) ∙ ap (λ ys. f x ++ ys) (flat_map-split f xs k)
-
 -- a text that is too long already is too long with more behind it
 too_long-more : (fault : ExtFault) (text more whole : List ℕ) → text ++ more ≡ whole → IsTooLong fault text → IsTooLong fault whole
 too_long-more fault text more whole is long =
     let count : length (text ++ more) ≡ length text + length more = length-append text more in
     subst (IsTooLong fault) is (long.0, omega (arith, long.1, count))
 
--- what is too long with some of the lines is too long with all
-part_too_long : (fault : ExtFault) (out text : List ℕ) (some more all : List (List (List ℕ))) → some ++ more ≡ all → text ≡ out ++ lines_text some
-    → IsTooLong fault text → IsTooLong fault (out ++ lines_text all)
-part_too_long fault out text some more all is stands long =
-    too_long-more fault text (lines_text more) (out ++ lines_text all)
-    (ap (λ v. v ++ lines_text more) stands ∙ append_assoc out (lines_text some) (lines_text more) ∙ ap (λ v. out ++ v) (sym (lines-append some more)
-    ∙ ap lines_text is)) long
-
-pub some_too_long : {X : Type 0} (f : X → List (List ℕ)) (xs : List X) (k : ℕ) (fault : ExtFault) (out text : List ℕ) → text ≡ out ++ lines_text (map f
-    (take k xs))
-    → IsTooLong fault text → IsTooLong fault (out ++ lines_text (map f xs))
-some_too_long f xs k fault out text = part_too_long fault out text (map f (take k xs)) (map f (drop k xs)) (map f xs) (map-split f xs k)
-
-pub some_nodes_too_long : (nodes : List NodeRec) (k : ℕ) (fault : ExtFault) (out text : List ℕ) → text ≡ out ++ lines_text (flat_map node_lines (take k nodes))
-    → IsTooLong fault text → IsTooLong fault (out ++ lines_text (flat_map node_lines nodes))
-some_nodes_too_long nodes k fault out text =
-    part_too_long fault out text (flat_map node_lines (take k nodes)) (flat_map node_lines (drop k nodes)) (flat_map node_lines nodes)
-    (flat_map-split node_lines nodes k)
-
 pub nodes_too_long : (circuit : Circuit) (fault : ExtFault) (out a text : List ℕ)
     → a ≡ out ++ lines_text (header_words (codes "1") circuit.tech circuit.classes)
-    → text ≡ a ++ lines_text (flat_map node_lines circuit.nodes) → IsTooLong fault text → IsTooLong fault (out ++ flat_text circuit)
+    → text ≡ a ++ nodes_text circuit.nodes → IsTooLong fault text → IsTooLong fault (out ++ flat_text circuit)
 nodes_too_long circuit fault out a text ha ht long =
     too_long-more fault text (lines_text (map fet_words circuit.fets)) (out ++ flat_text circuit)
     (flat_written circuit out a text (text ++ lines_text (map fet_words circuit.fets)) ha ht refl) long

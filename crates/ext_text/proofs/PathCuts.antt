@@ -1,5 +1,5 @@
 -- Texts cut at a byte, and paths at the index of their first name.
-use Rattle.std.proofs.Common.{◌≡◌, ◌+◌, ℕ, ℤ, List, [], ◌∷◌, ◌++◌, ap, ◌∙◌, append_assoc, arith, w32, w64, FitsSigned}
+use Rattle.std.proofs.Common.{◌≡◌, ℕ, ℤ, List, [], ◌∷◌, ◌++◌, ap, ◌∙◌, append_assoc, arith, w32, w64, FitsSigned}
 use Rattle.std.proofs.Common.{pos, ◌<◌, ◌^◌, ◌+ℤ◌, ◌-ℤ◌, sym, subst}
 use Rattle.std.specs.Int.{w128}
 use mir.Val.{of_z, to_z}

@@ -26,6 +26,7 @@ pub fn append_node_line(out: &mut Vec<u8>, node: &NodeRec) -> Result<(), AllocEr
 }
 
 /// Puts the line of a node with its end at the end of a text.
+#[tactic(auto, unfolding(crate::specs::NodeLines::node_line))]
 pub fn write_node(out: &mut Vec<u8>, node: &NodeRec) -> Result<(), AllocError>
     ensures { OnOk result (out.new.items ≡ out.old.items ++ whole_line (node_words node.now)) }
 {

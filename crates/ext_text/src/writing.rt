@@ -1,7 +1,8 @@
 //! Writes circuit files.
-ghost use Rattle.std.specs.Prelude.{◌≡◌, ◌≢◌, ◌≤◌, ◌++◌, map, flat_map, length, All, IfOk, IfErr, OnOk};
+ghost use Rattle.std.specs.Prelude.{◌≡◌, ◌≢◌, ◌≤◌, ◌++◌, map, length, All, IfOk, IfErr, OnOk};
 ghost use Rattle.ext_model.specs.LawfulArrays.{IsMergeRow, IsLawfulArrayExt};
 ghost use Rattle.ext_text.specs.declared.faults.ExtFault.TheVariants.{Memory as OutOfMemory};
+ghost use Rattle.ext_text.specs.steps.Appended.{nodes_text};
 ghost use Rattle.ext_text.specs.WrittenTexts.{use_words, node_lines, equiv_words, fet_words, merge_words, lines_text, ext_text, flat_text, IsTooLong};
 
 use crate::faults::ExtFault;
@@ -12,6 +13,7 @@ use ext_model::{ArrayExt, ArrayUse, Circuit, FetRec, MergeRow, NodeRec};
 use names_lists::Name;
 use std::alloc::{AllocError, Global};
 
+#[tactic(auto, unfolding(crate::specs::WrittenTexts::lines_text))]
 fn write_uses(out: &mut Vec<u8>, uses: &[ArrayUse]) -> Result<(), AllocError>
     ensures { OnOk result (out.new.items ≡ out.old.items ++ lines_text (map use_words uses.now)) }
 {
@@ -21,6 +23,7 @@ fn write_uses(out: &mut Vec<u8>, uses: &[ArrayUse]) -> Result<(), AllocError>
     Ok(())
 }
 
+#[tactic(auto, unfolding(crate::specs::WrittenTexts::lines_text))]
 fn write_aliases(out: &mut Vec<u8>, name: &Name, aliases: &[Name]) -> Result<(), AllocError>
     ensures { OnOk result (out.new.items ≡ out.old.items ++ lines_text (map (equiv_words name.now) aliases.now)) }
 {
@@ -30,16 +33,26 @@ fn write_aliases(out: &mut Vec<u8>, name: &Name, aliases: &[Name]) -> Result<(),
     Ok(())
 }
 
+// The lines of a node and of its aliases.
+#[tactic(auto, unfolding(crate::specs::WrittenTexts::lines_text))]
+fn write_whole_node(out: &mut Vec<u8>, node: &NodeRec) -> Result<(), AllocError>
+    ensures { OnOk result (out.new.items ≡ out.old.items ++ lines_text (node_lines node.now)) }
+{
+    write_node(out, node)?;
+    write_aliases(out, &node.name, node.aliases.items())?;
+    Ok(())
+}
+
 fn write_nodes(out: &mut Vec<u8>, nodes: &[NodeRec]) -> Result<(), AllocError>
-    ensures { OnOk result (out.new.items ≡ out.old.items ++ lines_text (flat_map node_lines nodes.now)) }
+    ensures { OnOk result (out.new.items ≡ out.old.items ++ nodes_text nodes.now) }
 {
     for node in nodes {
-        write_node(out, node)?;
-        write_aliases(out, &node.name, node.aliases.items())?;
+        write_whole_node(out, node)?;
     }
     Ok(())
 }
 
+#[tactic(auto, unfolding(crate::specs::WrittenTexts::lines_text))]
 fn write_fets(out: &mut Vec<u8>, fets: &[FetRec]) -> Result<(), AllocError>
     ensures { OnOk result (out.new.items ≡ out.old.items ++ lines_text (map fet_words fets.now)) }
 {
@@ -49,6 +62,7 @@ fn write_fets(out: &mut Vec<u8>, fets: &[FetRec]) -> Result<(), AllocError>
     Ok(())
 }
 
+#[tactic(auto, unfolding(crate::specs::WrittenTexts::lines_text))]
 fn write_merges(out: &mut Vec<u8>, merges: &[MergeRow]) -> Result<(), AllocError>
     requires { All IsMergeRow merges.now }
     ensures { OnOk result (out.new.items ≡ out.old.items ++ lines_text (map merge_words merges.now)) }
@@ -85,6 +99,7 @@ fn check_length(text: &[u8]) -> Result<(), ExtFault>
 }
 
 // Writes the lines of aliases, as long as what is written is no longer than a text may be.
+#[tactic(auto, unfolding(crate::specs::WrittenTexts::lines_text))]
 fn write_aliases_within(out: &mut Vec<u8>, name: &Name, aliases: &[Name]) -> Result<(), ExtFault>
     ensures written { OnOk result (out.new.items ≡ out.old.items ++ lines_text (map (equiv_words name.now) aliases.now)) }
     ensures refused { IfErr result (λ fault. fault ≢ OutOfMemory
@@ -97,21 +112,32 @@ fn write_aliases_within(out: &mut Vec<u8>, name: &Name, aliases: &[Name]) -> Res
     Ok(())
 }
 
+// The lines of a node and of its aliases, as long as what is written is no longer than a text may be.
+#[tactic(auto, unfolding(crate::specs::WrittenTexts::lines_text))]
+fn write_whole_node_within(out: &mut Vec<u8>, node: &NodeRec) -> Result<(), ExtFault>
+    ensures written { OnOk result (out.new.items ≡ out.old.items ++ lines_text (node_lines node.now)) }
+    ensures refused { IfErr result (λ fault. fault ≢ OutOfMemory
+        → IsTooLong fault (out.old.items ++ lines_text (node_lines node.now))) }
+{
+    check_length(out)?;
+    write_node(out, node)?;
+    write_aliases_within(out, &node.name, node.aliases.items())
+}
+
 // Writes the lines of nodes, as long as what is written is no longer than a text may be.
 fn write_nodes_within(out: &mut Vec<u8>, nodes: &[NodeRec]) -> Result<(), ExtFault>
-    ensures written { OnOk result (out.new.items ≡ out.old.items ++ lines_text (flat_map node_lines nodes.now)) }
+    ensures written { OnOk result (out.new.items ≡ out.old.items ++ nodes_text nodes.now) }
     ensures refused { IfErr result (λ fault. fault ≢ OutOfMemory
-        → IsTooLong fault (out.old.items ++ lines_text (flat_map node_lines nodes.now))) }
+        → IsTooLong fault (out.old.items ++ nodes_text nodes.now)) }
 {
     for node in nodes {
-        check_length(out)?;
-        write_node(out, node)?;
-        write_aliases_within(out, &node.name, node.aliases.items())?;
+        write_whole_node_within(out, node)?;
     }
     Ok(())
 }
 
 // Writes the lines of transistors, as long as what is written is no longer than a text may be.
+#[tactic(auto, unfolding(crate::specs::WrittenTexts::lines_text))]
 fn write_fets_within(out: &mut Vec<u8>, fets: &[FetRec]) -> Result<(), ExtFault>
     ensures written { OnOk result (out.new.items ≡ out.old.items ++ lines_text (map fet_words fets.now)) }
     ensures refused { IfErr result (λ fault. fault ≢ OutOfMemory

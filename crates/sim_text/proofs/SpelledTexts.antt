@@ -24,10 +24,7 @@ use Rattle.sim_text.proofs.WrittenLines.{has_name, says-further}
 -- no line behind the first says a header
 abbrev IsFurther : SimLine → Type 0
 IsFurther (Header name) = ⊥
-IsFurther (Fet fet) = Unit {0}
-IsFurther (Cap node cap) = Unit {0}
-IsFurther (Alias node alias) = Unit {0}
-IsFurther Nothing = Unit {0}
+IsFurther _ = Unit {0}
 
 abbrev SaysFurther : Result SimLine SimFault → Type 0
 SaysFurther (Ok said) = IsFurther said
@@ -36,39 +33,25 @@ SaysFurther (Err fault) = Unit {0}
 further_fet : (letter : Result ℕ SimFault) (gate source drain : Result (List ℕ) SimFault) (numbers : Result (List ℤ) SimFault)
     → SaysFurther (and_then letter (λ letter. and_then gate (λ gate. and_then source (λ source. and_then drain (λ drain. and_then numbers (λ numbers.
     Ok (Fet (record { letter = letter; gate = gate; source = source; drain = drain; numbers = numbers }))))))))
-further_fet (Err fault) gate source drain numbers = tt
-further_fet (Ok letter) (Err fault) source drain numbers = tt
-further_fet (Ok letter) (Ok gate) (Err fault) drain numbers = tt
-further_fet (Ok letter) (Ok gate) (Ok source) (Err fault) numbers = tt
-further_fet (Ok letter) (Ok gate) (Ok source) (Ok drain) (Err fault) = tt
 further_fet (Ok letter) (Ok gate) (Ok source) (Ok drain) (Ok numbers) = tt
+further_fet _ _ _ _ _ = tt
 
 further_cap : (key second : Bool) (node : Result (List ℕ) SimFault) (cap : Result ℤ SimFault)
     → SaysFurther (cond key (and_then node (λ node. cond second (and_then cap (λ cap. Ok (Cap node cap))) (Err BadLine))) (Err BadLine))
-further_cap false second node cap = tt
-further_cap true second (Err fault) cap = tt
 further_cap true false (Ok node) cap = tt
-further_cap true true (Ok node) (Err fault) = tt
 further_cap true true (Ok node) (Ok cap) = tt
+further_cap _ _ _ _ = tt
 
 further_alias : (key : Bool) (node alias : Result (List ℕ) SimFault)
     → SaysFurther (cond key (and_then node (λ node. and_then alias (λ alias. Ok (Alias node alias)))) (Err BadLine))
-further_alias false node alias = tt
-further_alias true (Err fault) alias = tt
-further_alias true (Ok node) (Err fault) = tt
 further_alias true (Ok node) (Ok alias) = tt
+further_alias _ _ _ = tt
 
 further_words : (words : List (List ℕ)) → SaysFurther (words_say words)
-further_words [] = tt
-further_words (a ∷ []) = tt
-further_words (a ∷ b ∷ []) = tt
 further_words (a ∷ b ∷ c ∷ []) = further_alias (bytes_eq a (codes "=")) (name_in b) (name_in c)
 further_words (a ∷ b ∷ c ∷ d ∷ []) = further_cap (bytes_eq a (codes "C")) (bytes_eq c (codes "GND!")) (name_in b) (cap_in d)
-further_words (a ∷ b ∷ c ∷ d ∷ e ∷ []) = tt
-further_words (a ∷ b ∷ c ∷ d ∷ e ∷ f ∷ []) = tt
-further_words (a ∷ b ∷ c ∷ d ∷ e ∷ f ∷ g ∷ []) = tt
 further_words (a ∷ b ∷ c ∷ d ∷ e ∷ f ∷ g ∷ h ∷ []) = further_fet (letter_in a) (name_in b) (name_in c) (name_in d) (four_numbers_in e f g h)
-further_words (a ∷ b ∷ c ∷ d ∷ e ∷ f ∷ g ∷ h ∷ i ∷ more) = tt
+further_words _ = tt
 
 further_line : (bar : Bool) (words : List (List ℕ)) → SaysFurther (cond bar (Ok Nothing) (words_say words))
 further_line true words = tt
@@ -86,10 +69,7 @@ all_further k (line ∷ lines) (x ∷ said) above are = (further_said k line x a
 -- the first line says a header with a name
 abbrev IsHeader : SimLine → Type 0
 IsHeader (Header name) = is_sim_name name ≡ true
-IsHeader (Fet fet) = ⊥
-IsHeader (Cap node cap) = ⊥
-IsHeader (Alias node alias) = ⊥
-IsHeader Nothing = ⊥
+IsHeader _ = ⊥
 
 abbrev SaysHeader : Result SimLine SimFault → Type 0
 SaysHeader (Ok said) = IsHeader said
@@ -107,17 +87,10 @@ header_by_form true name ends = header_by_name name (is_sim_name name) ends refl
 header_by_form false name ends = tt
 
 header_words : (words : List (List ℕ)) → SaysHeader (header_words_say words)
-header_words [] = tt
-header_words (a ∷ []) = tt
-header_words (a ∷ b ∷ []) = tt
-header_words (a ∷ b ∷ c ∷ []) = tt
-header_words (a ∷ b ∷ c ∷ d ∷ []) = tt
-header_words (a ∷ b ∷ c ∷ d ∷ e ∷ []) = tt
-header_words (a ∷ b ∷ c ∷ d ∷ e ∷ f ∷ []) = tt
 header_words (a ∷ b ∷ c ∷ d ∷ e ∷ f ∷ g ∷ []) =
     header_by_form (bytes_eq a (codes "|") && bytes_eq b (codes "units:") && bytes_eq c (codes "1") && bytes_eq d (codes "tech:")) e
     (bytes_eq f (codes "format:") && bytes_eq g (codes "MIT"))
-header_words (a ∷ b ∷ c ∷ d ∷ e ∷ f ∷ g ∷ h ∷ more) = tt
+header_words _ = tt
 
 header_line : (units : Bool) (words : List (List ℕ)) → SaysHeader (cond units (header_words_say words) (Err NoHeader))
 header_line true words = header_words words
@@ -129,36 +102,24 @@ first_said line said is = subst SaysHeader is (header_line (begins_with_units li
 -- what further lines add
 fets_of : (sim : SimFile) (said : List SimLine) → (fold with_line sim said).fets ≡ sim.fets ++ filter_map fet_said said
 fets_of sim [] = sym (append-nil sim.fets)
-fets_of sim (Header name ∷ said) = fets_of (with_line sim (Header name)) said
 fets_of sim (Fet fet ∷ said) = fets_of (with_line sim (Fet fet)) said ∙ append_assoc sim.fets (fet ∷ []) (filter_map fet_said said)
-fets_of sim (Cap node cap ∷ said) = fets_of (with_line sim (Cap node cap)) said
-fets_of sim (Alias node alias ∷ said) = fets_of (with_line sim (Alias node alias)) said
-fets_of sim (Nothing ∷ said) = fets_of sim said
+fets_of sim (one ∷ said) = fets_of (with_line sim one) said
 
 caps_of : (sim : SimFile) (said : List SimLine) → (fold with_line sim said).caps ≡ sim.caps ++ filter_map cap_said said
 caps_of sim [] = sym (append-nil sim.caps)
-caps_of sim (Header name ∷ said) = caps_of (with_line sim (Header name)) said
-caps_of sim (Fet fet ∷ said) = caps_of (with_line sim (Fet fet)) said
 caps_of sim (Cap node cap ∷ said) = caps_of (with_line sim (Cap node cap)) said ∙ append_assoc sim.caps ((node, cap) ∷ []) (filter_map cap_said said)
-caps_of sim (Alias node alias ∷ said) = caps_of (with_line sim (Alias node alias)) said
-caps_of sim (Nothing ∷ said) = caps_of sim said
+caps_of sim (one ∷ said) = caps_of (with_line sim one) said
 
 aliases_of : (sim : SimFile) (said : List SimLine) → (fold with_line sim said).aliases ≡ sim.aliases ++ filter_map alias_said said
 aliases_of sim [] = sym (append-nil sim.aliases)
-aliases_of sim (Header name ∷ said) = aliases_of (with_line sim (Header name)) said
-aliases_of sim (Fet fet ∷ said) = aliases_of (with_line sim (Fet fet)) said
-aliases_of sim (Cap node cap ∷ said) = aliases_of (with_line sim (Cap node cap)) said
 aliases_of sim (Alias node alias ∷ said) =
     aliases_of (with_line sim (Alias node alias)) said ∙ append_assoc sim.aliases ((node, alias) ∷ []) (filter_map alias_said said)
-aliases_of sim (Nothing ∷ said) = aliases_of sim said
+aliases_of sim (one ∷ said) = aliases_of (with_line sim one) said
 
 tech_of : (sim : SimFile) (said : List SimLine) → AllByRecursion IsFurther said → (fold with_line sim said).tech ≡ sim.tech
 tech_of sim [] all = refl
 tech_of sim (Header name ∷ said) all = absurd all.0
-tech_of sim (Fet fet ∷ said) all = tech_of (with_line sim (Fet fet)) said all.1
-tech_of sim (Cap node cap ∷ said) all = tech_of (with_line sim (Cap node cap)) said all.1
-tech_of sim (Alias node alias ∷ said) all = tech_of (with_line sim (Alias node alias)) said all.1
-tech_of sim (Nothing ∷ said) all = tech_of sim said all.1
+tech_of sim (one ∷ said) all = tech_of (with_line sim one) said all.1
 
 -- a text with a first line has a technology's name
 pub tech_said : (line : List ℕ) (lines : List (List ℕ)) (said : List SimLine)
@@ -167,10 +128,7 @@ tech_said line lines [] are = absurd are
 tech_said line lines (Header name ∷ said) are =
     ap (λ (n : List ℕ). length n == 0) (tech_of (record nothing_yet { tech = name }) said (all_further 2 lines said (omega arith) are.1))
     ∙ has_name name (first_said line (Header name) are.0)
-tech_said line lines (Fet fet ∷ said) are = absurd (first_said line (Fet fet) are.0)
-tech_said line lines (Cap node cap ∷ said) are = absurd (first_said line (Cap node cap) are.0)
-tech_said line lines (Alias node alias ∷ said) are = absurd (first_said line (Alias node alias) are.0)
-tech_said line lines (Nothing ∷ said) are = absurd (first_said line Nothing are.0)
+tech_said line lines (one ∷ said) are = absurd (first_said line one are.0)
 
 abbrev circuit : List ℕ → List SimFet → List (List ℕ × ℤ) → List (List ℕ × List ℕ) → SimFile
 circuit tech fets caps aliases = record { tech = tech; fets = fets; caps = caps; aliases = aliases }
@@ -216,10 +174,7 @@ from_said (line ∷ lines) (Header name ∷ said) sim are e some =
       caps_are = sym (ap (λ (s : SimFile). s.caps) e) ∙ caps_of start said;
       aliases_are = sym (ap (λ (s : SimFile). s.aliases) e) ∙ aliases_of start said;
     }
-from_said (line ∷ lines) (Fet fet ∷ said) sim are e some = absurd (first_said line (Fet fet) are.0)
-from_said (line ∷ lines) (Cap node cap ∷ said) sim are e some = absurd (first_said line (Cap node cap) are.0)
-from_said (line ∷ lines) (Alias node alias ∷ said) sim are e some = absurd (first_said line (Alias node alias) are.0)
-from_said (line ∷ lines) (Nothing ∷ said) sim are e some = absurd (first_said line Nothing are.0)
+from_said (line ∷ lines) (one ∷ said) sim are e some = absurd (first_said line one are.0)
 
 read_spelled : (lines : List (List ℕ)) (sim : SimFile) → text_state (saying says with_line) with_header nothing_yet lines ≡ Ok sim → IsSimText lines sim
 read_spelled lines sim e =

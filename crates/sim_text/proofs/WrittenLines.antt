@@ -148,11 +148,7 @@ says-four k fet l w x y above is =
 by_numbers : (k : ℕ) (fet : SimFet) (numbers : List ℤ) → 2 ≤ k → AreFour numbers → IsWritableFet (record fet { numbers = numbers })
     → says k (line_saying (Fet (record fet { numbers = numbers }))) ≡ Ok (Fet (record fet { numbers = numbers }))
 by_numbers k fet (l ∷ w ∷ x ∷ y ∷ []) above four is = says-four k fet l w x y above is
-by_numbers k fet [] above four is = absurd four
-by_numbers k fet (l ∷ []) above four is = absurd four
-by_numbers k fet (l ∷ w ∷ []) above four is = absurd four
-by_numbers k fet (l ∷ w ∷ x ∷ []) above four is = absurd four
-by_numbers k fet (l ∷ w ∷ x ∷ y ∷ z ∷ more) above four is = absurd four
+by_numbers k fet _ above four is = absurd four
 
 pub says-Fet : (k : ℕ) (fet : SimFet) → 2 ≤ k → IsWritableFet fet → says k (line_saying (Fet fet)) ≡ Ok (Fet fet)
 says-Fet k fet above is = by_numbers k fet fet.numbers above is.numbers is

@@ -9,6 +9,7 @@ use crate::faults::SimFault;
 use crate::files::{SimFet, SimLine};
 use crate::parts::{cap_in, four_numbers_in, letter_in, name_in};
 use std::alloc::Global;
+use text_form::next_three;
 use text_scan::{Words, words};
 
 /// What the line of this number says, or its first fault.
@@ -50,18 +51,15 @@ fn words_say(alloc: Global, words: Words<'_>) -> Result<SimLine, SimFault>
     let Some(first) = rest.next() else {
         return Ok(SimLine::Nothing);
     };
-    let Some(second) = rest.next() else {
+    let (Some(second), Some(third)) = (rest.next(), rest.next()) else {
         return Err(SimFault::BadLine);
     };
-    let Some(third) = rest.next() else {
-        return Err(SimFault::BadLine);
-    };
-    let Some(fourth) = rest.next() else {
-        return alias_line(alloc, first, second, third);
-    };
-    match rest.next() {
-        None => cap_line(alloc, first, second, third, fourth),
-        Some(fifth) => long_line(alloc, first, second, third, fourth, fifth, rest),
+    match (rest.next(), rest.next()) {
+        (None, _) => alias_line(alloc, first, second, third),
+        (Some(fourth), None) => cap_line(alloc, first, second, third, fourth),
+        (Some(fourth), Some(fifth)) => {
+            long_line(alloc, first, second, third, fourth, fifth, rest)
+        }
     }
 }
 
@@ -81,26 +79,11 @@ fn long_line(
         words_say (letter.now ∷ gate.now ∷ source.now ∷ drain.now ∷ l.now ∷ words.entry) ≡ Err fault) }
 {
     let mut rest = words;
-    let Some(w) = rest.next() else {
+    let (Some((w, x, y)), None) = (next_three(&mut rest), rest.next()) else {
         return Err(SimFault::BadLine);
     };
-    let Some(x) = rest.next() else {
-        return Err(SimFault::BadLine);
-    };
-    let Some(y) = rest.next() else {
-        return Err(SimFault::BadLine);
-    };
-    match rest.next() {
-        None => fet_line(
-            alloc,
-            letter,
-            gate,
-            source,
-            drain,
-            four_numbers_in(l, w, x, y),
-        ),
-        Some(_) => Err(SimFault::BadLine),
-    }
+    let numbers = four_numbers_in(l, w, x, y);
+    fet_line(alloc, letter, gate, source, drain, numbers)
 }
 
 // The line of a transistor. What its numbers are counts only once its letter and its names are such.
@@ -197,48 +180,14 @@ fn header_words_say(alloc: Global, words: Words<'_>) -> Result<SimLine, SimFault
     ensures refused { IfErr result (λ fault. fault ≢ OutOfMemory → header_words_say words.entry ≡ Err fault) }
 {
     let mut rest = words;
-    let Some(bar) = rest.next() else {
+    let (Some((bar, units, one)), Some((tech, name, format)), Some(mit), None) = (
+        next_three(&mut rest),
+        next_three(&mut rest),
+        rest.next(),
+        rest.next(),
+    ) else {
         return Err(SimFault::Header);
     };
-    let Some(units) = rest.next() else {
-        return Err(SimFault::Header);
-    };
-    let Some(one) = rest.next() else {
-        return Err(SimFault::Header);
-    };
-    let Some(tech) = rest.next() else {
-        return Err(SimFault::Header);
-    };
-    header_from_name(alloc, bar, units, one, tech, rest)
-}
-
-// The header, of which the first four words are found.
-fn header_from_name(
-    alloc: Global,
-    bar: &[u8],
-    units: &[u8],
-    one: &[u8],
-    tech: &[u8],
-    words: Words<'_>,
-) -> Result<SimLine, SimFault>
-    ensures read { IfOk result (λ said.
-        header_words_say (bar.now ∷ units.now ∷ one.now ∷ tech.now ∷ words.entry) ≡ Ok said) }
-    ensures refused { IfErr result (λ fault. fault ≢ OutOfMemory →
-        header_words_say (bar.now ∷ units.now ∷ one.now ∷ tech.now ∷ words.entry) ≡ Err fault) }
-{
-    let mut rest = words;
-    let Some(name) = rest.next() else {
-        return Err(SimFault::Header);
-    };
-    let Some(format) = rest.next() else {
-        return Err(SimFault::Header);
-    };
-    let Some(mit) = rest.next() else {
-        return Err(SimFault::Header);
-    };
-    if rest.next().is_some() {
-        return Err(SimFault::Header);
-    }
     if bar == b"|".as_slice()
         && units == b"units:".as_slice()
         && one == b"1".as_slice()

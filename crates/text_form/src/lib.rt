@@ -16,10 +16,12 @@
 #![tactic(auto)]
 
 mod laws;
+mod next_words;
 mod reading;
 
 pub use laws::{
     lines_are_refused_at_the_first_faulty_one, lines_say_what_they_give,
     parts_are_refused_at_the_first_faulty_one,
 };
+pub use next_words::next_three;
 pub use reading::{At, LineReader, read_lines, read_text};

@@ -125,15 +125,9 @@ fn set_line(alloc: Global, names: &NodeNames, words: Words<'_>) -> Result<VecLin
     ensures refused { IfErr result (λ fault. fault ≢ OutOfMemory → set_line names.now words.entry ≡ Err fault) }
 {
     let mut rest = words;
-    let Some(name) = rest.next() else {
+    let (Some(name), Some(level), None) = (rest.next(), rest.next(), rest.next()) else {
         return Err(VecFault::Vector);
     };
-    let Some(level) = rest.next() else {
-        return Err(VecFault::Vector);
-    };
-    if rest.next().is_some() {
-        return Err(VecFault::Vector);
-    }
     let level = level_in(level)?;
     let node = changed_node(alloc, names, name)?;
     Ok(VecLine::Set(node, level))
@@ -144,12 +138,9 @@ fn free_line(alloc: Global, names: &NodeNames, words: Words<'_>) -> Result<VecLi
     ensures refused { IfErr result (λ fault. fault ≢ OutOfMemory → free_line names.now words.entry ≡ Err fault) }
 {
     let mut rest = words;
-    let Some(name) = rest.next() else {
+    let (Some(name), None) = (rest.next(), rest.next()) else {
         return Err(VecFault::Vector);
     };
-    if rest.next().is_some() {
-        return Err(VecFault::Vector);
-    }
     let node = changed_node(alloc, names, name)?;
     Ok(VecLine::Free(node))
 }
@@ -159,15 +150,9 @@ fn size_line(alloc: Global, names: &NodeNames, words: Words<'_>) -> Result<VecLi
     ensures refused { IfErr result (λ fault. fault ≢ OutOfMemory → size_line names.now words.entry ≡ Err fault) }
 {
     let mut rest = words;
-    let Some(name) = rest.next() else {
+    let (Some(name), Some(size), None) = (rest.next(), rest.next(), rest.next()) else {
         return Err(VecFault::Vector);
     };
-    let Some(size) = rest.next() else {
-        return Err(VecFault::Vector);
-    };
-    if rest.next().is_some() {
-        return Err(VecFault::Vector);
-    }
     let size = size_in(size)?;
     let node = changed_node(alloc, names, name)?;
     Ok(VecLine::Size(node, size))

@@ -1,11 +1,10 @@
 use Rattle.std.proofs.Common.{ℕ, List, ◌++◌, map, ap, ◌∙◌}
 use Rattle.std.specs.Prelude.{codes}
-use Rattle.std.specs.List.{flat_map}
 use Rattle.ext_model.specs.declared.arrays.ArrayUse.{ArrayUse}
-use Rattle.ext_model.specs.declared.records.NodeRec.{NodeRec}
 use Rattle.ext_model.specs.declared.records.FetRec.{FetRec}
 use Rattle.ext_model.specs.declared.arrays.MergeRow.{MergeRow}
-use Rattle.ext_text.specs.WrittenTexts.{header_words, use_words, node_lines, fet_words, merge_words, lines_text}
+use Rattle.ext_text.specs.steps.Appended.{nodes_text}
+use Rattle.ext_text.specs.WrittenTexts.{header_words, use_words, fet_words, merge_words, lines_text}
 use Rattle.ext_text.proofs.AppendedLines.{ext_written}
 use Rattle.ext_text.proofs.writing.write_ext.Goals as goal
 
@@ -16,6 +15,6 @@ returns-clause-written c =
     c.write_merges.new.out.items c.new-out.ensures.items
     (c.in_ok-write_header.ensures ∙ ap (λ (classes : List ℕ). c.new-out.result.items ++ lines_text (header_words (codes "2") ext.tech classes)) c.items.ensures)
     (c.in_ok-write_uses.ensures ∙ ap (λ (uses : List ArrayUse). c.write_header.new.out.items ++ lines_text (map use_words uses)) c.items-2.ensures)
-    (c.in_ok-write_nodes.ensures ∙ ap (λ (nodes : List NodeRec). c.write_uses.new.out.items ++ lines_text (flat_map node_lines nodes)) c.items-3.ensures)
+    (c.in_ok-write_nodes.ensures ∙ ap (λ nodes. c.write_uses.new.out.items ++ nodes_text nodes) c.items-3.ensures)
     (c.in_ok-write_fets.ensures ∙ ap (λ (fets : List FetRec). c.write_nodes.new.out.items ++ lines_text (map fet_words fets)) c.items-4.ensures)
     (c.in_ok-write_merges.ensures ∙ ap (λ (merges : List MergeRow). c.write_fets.new.out.items ++ lines_text (map merge_words merges)) c.items-5.ensures)
