@@ -14,7 +14,7 @@
 //! A cell stands behind all that are below it, and each cell is listed once (`OrderLaws`, and `CleanOrders` of `hier_merge`). So what is below
 //! the cell at hand is not dirty any more, where new records were kept of the dirty cells so far (`MakingLaws`): it has a record, which is of the
 //! cell as it is, and is clean. The cell itself is dirty if it was at the start. `LoopLaws` has how the extraction goes on with it. Its labels are
-//! such as may name nodes (`LabelLaws` of `library_labels`), and a record with the nodes and transistors of its own paint, its uses and its merges
+//! such as may name nodes (`LabelLaws` of `library_trees`), and a record with the nodes and transistors of its own paint, its uses and its merges
 //! is its record (`MadeLaws`). The steps are those of each dirty cell, one after another (`WorkLaws`). From the list of the records that were made,
 //! one after another, follows how far they are counted, and that their serials follow the count (`SerialLaws`).
 //!

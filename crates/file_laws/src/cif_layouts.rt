@@ -1,6 +1,6 @@
 //! The laws that the CIF text of a cell is held to. The functions here do nothing; their contracts are the laws.
 //!
-//! `cif_written` has what such a text says (`IsCellCif`), `cif_model` what any text means (`Means`), and `layout_model` the flat layout of a
+//! `specs/CellCifs.antt` has what such a text says (`IsCellCif`), `cif_model` what any text means (`Means`), and `layout_model` the flat layout of a
 //! cell with all that stands below it (`flat_sets`). `specs/CellMeanings.antt` has the law: the layer of each part has exactly the squares where
 //! the flat layout has the part.
 //!
@@ -15,7 +15,7 @@
 //! calls are those of the elements of the cell's uses, but for children without a hull (`UseCalls`), in which no place has a part
 //! (`LibraryMeanings`), and the steps of a call are the element's transform. So a symbol means the tree of its cell if those that it calls
 //! do (`SymbolMeanings`); they stand before it, as children stand before parents in library order (`SymbolPlaces`). The top level calls the
-//! root's symbol without steps (`CellMeanings`). And what the text of a cell is read as is what the cell says (`cif_written`).
+//! root's symbol without steps (`CellMeanings`). And what the text of a cell is read as is what the cell says (`cif_texts`).
 
 ghost use Rattle.file_laws.specs.CellMeanings.{CellTextsAreReadAsTheLayout, CellTextsMeanTheLayout};
 

@@ -3,7 +3,7 @@
 //! # How the proof goes
 //!
 //! The named tree of a clean cell is clean, and so two records of the cell say the same with each element and each merge by itself
-//! (`record_uniqueness`). The uses are those of the cell, and merges have their rows in one way (`merge_rows`).
+//! (`records`). The uses are those of the cell, and merges have their rows in one way (`merge_rows`).
 
 ghost use Rattle.std.specs.Prelude.{◌<◌, length};
 ghost use Rattle.uniqueness.specs.LibraryRecords.{RecordIsUnique};

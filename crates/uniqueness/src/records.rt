@@ -7,7 +7,7 @@
 //! total, and a group adds one number to its members (`SameTotals`). Groups with one name have the same places, and so the same members,
 //! which stand in name order, and the same adjustment (`SameGroups`). A group of one member with nothing to add may be listed or not, but it
 //! has no merge. Each other group has a place, which has material in a clean cell, so it is in the other list too; and groups stand in name
-//! order (`SameMerges`). With the nodes and the transistors of the own layout (`own_record_uniqueness`) this is the cell's record, and by
+//! order (`SameMerges`). With the nodes and the transistors of the own layout (`own_records`) this is the cell's record, and by
 //! recursion over what stands below it that of each cell there (`SameTreeRecords`).
 
 ghost use Rattle.uniqueness.specs.RecordUniqueness.{GroupMergesAreUnique, RecordsOfTreesAreUnique, TreeRecordsAreUnique};
