@@ -10,7 +10,9 @@ use Rattle.tile_plane.specs.declared.tiles.Tile.{Tile}
 use Rattle.tile_plane.specs.Tiles.{Tiles, tile_at, IsTaken, Owns, IsPartition, IsPut, square_above, square_below}
 use Rattle.tile_plane.specs.Walks.{square_at}
 use Rattle.tile_plane.specs.steps.Mends.{Side, Above, Right, Below, Left, stitch_of, square_of, with_stitch, LeadTo, IsUpperSide, IsRightSide, IsLowerSide}
-use Rattle.tile_plane.specs.steps.Mends.{IsLeftSide}
+use Rattle.tile_plane.specs.steps.Cuts.{opposite}
+use Rattle.tile_plane.specs.steps.Mends.{IsLeftSide, IsSideOf}
+use Rattle.tile_plane.specs.steps.Sides.{along, GoesOn, IsLast, end_of, ComesBefore}
 use Rattle.tile_plane.proofs.TileLaws.{owner_taken}
 use Rattle.tile_plane.proofs.SideLaws.{strangers, beside_above, beside_below}
 use Rattle.tile_plane.proofs.WalkLaws.{extent_falls, extent_falls_down}
@@ -383,3 +385,76 @@ module _ {old : Tiles} {area : Rect} {first id : ℕ} (partition : IsPartition o
           → IsMendingLeft old put area id tile.above tile.area.yhi
       left_goes_on put on is_put = lower_goes_on (partition_over old partition) (left_over side) walk more (read_over next tile new is) (transposed put) on
           (subst (λ (t : Tile). IsPut next (record t { above = id }) (transposed new) (transposed put)) (sym (tile_at-transposed new next)) (put_over is_put))
+
+-- the walk along any of the sides
+abbrev pub IsMending : Side → Tiles → Tiles → Rect → ℕ → ℕ → ℤ → Type 0
+IsMending Above old new area id next c = IsMendingUpper old new area id next c
+IsMending Right old new area id next c = IsMendingRight old new area id next c
+IsMending Below old new area id next c = IsMendingLower old new area id next c
+IsMending Left old new area id next c = IsMendingLeft old new area id next c
+
+abbrev pub way_left : Side → ℤ → ℤ → ℕ
+way_left Above c end = extent end c
+way_left Right c end = extent end c
+way_left Below c end = extent c end
+way_left Left c end = extent c end
+
+module _ (old : Tiles) (area : Rect) (first id : ℕ) (partition : IsPartition old) where
+  pub mend_none : (side : Side) → IsSideOf side old area first id → IsLast side area → LeadTo (opposite side) area id old old
+  mend_none Above side edge = upper_none partition side edge
+  mend_none Right side edge = right_none partition side edge
+  mend_none Below side edge = lower_none partition side edge
+  mend_none Left side edge = left_none partition side edge
+
+  pub mend_begins : (side : Side) → IsSideOf side old area first id → GoesOn side area
+      → IsMending side old old area id first (end_of (opposite (along side)) area)
+  mend_begins Above side inside = upper_begins partition side inside
+  mend_begins Right side inside = right_begins partition side inside
+  mend_begins Below side inside = lower_begins partition side inside
+  mend_begins Left side inside = left_begins partition side inside
+
+  module _ (new : Tiles) (next : ℕ) (c : ℤ) where
+    pub mend_taken : (side : Side) → IsSideOf side old area first id → IsMending side old new area id next c → ComesBefore side c (end_of (along side) area)
+        → IsTaken new next
+    mend_taken Above side walk more = upper_next_taken partition side walk more
+    mend_taken Right side walk more = right_next_taken partition side new walk more
+    mend_taken Below side walk more = lower_next_taken partition side walk more
+    mend_taken Left side walk more = left_next_taken partition side new walk more
+
+    pub mend_ends : (side : Side) → IsSideOf side old area first id → IsMending side old new area id next c
+        → (ComesBefore side c (end_of (along side) area) → ⊥) → LeadTo (opposite side) area id old new
+    mend_ends Above side walk over = by_lt_z area.xlo c (λ more. absurd (over more)) (λ past. upper_ends partition side walk past)
+    mend_ends Right side walk over = by_lt_z area.ylo c (λ more. absurd (over more)) (λ past. right_ends partition side new walk past)
+    mend_ends Below side walk over = by_lt_z c area.xhi (λ more. absurd (over more)) (λ past. lower_ends partition side walk past)
+    mend_ends Left side walk over = by_lt_z c area.yhi (λ more. absurd (over more)) (λ past. left_ends partition side new walk past)
+
+    -- at a tile, as it was read
+    module _ (tile : Tile) (is : tile ≡ tile_at new next) where
+      pub mend_falls : (side : Side) → IsSideOf side old area first id → IsMending side old new area id next c
+          → ComesBefore side c (end_of (along side) area)
+          → way_left side (end_of (along side) tile.area) (end_of (along side) area) < way_left side c (end_of (along side) area)
+      mend_falls Above side walk more = upper_falls partition side walk more is
+      mend_falls Right side walk more = right_falls partition side new walk more is
+      mend_falls Below side walk more = lower_falls partition side walk more is
+      mend_falls Left side walk more = left_falls partition side new walk more is
+
+      pub mend_last : (side : Side) → IsSideOf side old area first id → IsMending side old new area id next c
+          → ComesBefore side c (end_of (along side) area) → ComesBefore side (end_of (along side) area) (end_of (along side) tile.area)
+          → LeadTo (opposite side) area id old new
+      mend_last Above side walk more past = upper_last partition side walk more is past
+      mend_last Right side walk more past = right_last partition side new walk more is past
+      mend_last Below side walk more past = lower_last partition side walk more is past
+      mend_last Left side walk more past = left_last partition side new walk more is past
+
+      pub mend_goes_on : (side : Side) (put : Tiles) → IsSideOf side old area first id → IsMending side old new area id next c
+          → ComesBefore side c (end_of (along side) area) → (ComesBefore side (end_of (along side) area) (end_of (along side) tile.area) → ⊥)
+          → IsPut next (with_stitch (opposite side) (tile_at new next) id) new put
+          → IsMending side old put area id (stitch_of (along side) tile) (end_of (along side) tile.area)
+      mend_goes_on Above put side walk more on is_put = by_lt_z tile.area.xlo area.xlo (λ past. absurd (on past))
+          (λ within. upper_goes_on partition side walk more is put within is_put)
+      mend_goes_on Right put side walk more on is_put = by_lt_z tile.area.ylo area.ylo (λ past. absurd (on past))
+          (λ within. right_goes_on partition side new walk more is put within is_put)
+      mend_goes_on Below put side walk more on is_put = by_lt_z area.xhi tile.area.xhi (λ past. absurd (on past))
+          (λ within. lower_goes_on partition side walk more is put within is_put)
+      mend_goes_on Left put side walk more on is_put = by_lt_z area.yhi tile.area.yhi (λ past. absurd (on past))
+          (λ within. left_goes_on partition side new walk more is put within is_put)

@@ -8,10 +8,10 @@ use Rattle.geo_core.specs.Areas.{LiesWithin}
 use Rattle.geo_core.specs.Covering.{Covers, IsProper}
 use Rattle.geo_core.specs.Planes.{AreSame}
 use Rattle.tile_plane.specs.declared.tiles.Tile.{Tile}
-use Rattle.tile_plane.specs.Tiles.{Tiles, tile_at, IsTaken, Owns, Leads, IsPartition, HasStitches, IsPut, value_at}
+use Rattle.tile_plane.specs.Tiles.{Tiles, tile_at, IsTaken, Owns, Leads, IsPartition, HasStitches, IsPut, square_above, square_right, square_below, square_left, value_at}
 use Rattle.tile_plane.specs.Walks.{square_at}
 use Rattle.tile_plane.specs.steps.Cuts.{AreAlike, IsHandedOver, opposite, low_of, high_of, part_at, square_at_cut, IsInTwo, IsCutAt}
-use Rattle.tile_plane.specs.steps.Mends.{Side, Above, Right, Below, Left, stitch_of, square_of, AreRedirected, IsEnd}
+use Rattle.tile_plane.specs.steps.Mends.{Side, Above, Right, Below, Left, stitch_of, square_of, AreRedirected, IsUpperSide, IsRightSide, IsLowerSide, IsLeftSide, IsEnd}
 use Rattle.tile_plane.proofs.TileLaws.{owner_taken}
 use Rattle.tile_plane.proofs.RowCuts.{IsSamePlane}
 use Rattle.tile_plane.proofs.GivenLaws.{LeadsElsewhere, own_stitches, IsGiven, given_partition, upper_side, right_side, lower_side, left_side, up_into, down_into, right_into, left_into, last_partition, last_stitches, last_values}
@@ -379,68 +379,48 @@ module _ {side : Side} {old mid new : Tiles} {id other near far : ℕ} {at : ℤ
     }
 
 module _ {old mid new : Tiles} {id other near far : ℕ} {at : ℤ} {tile part rest : Tile} where
+  module _ (side : Side) (cut : IsCutting side old mid new id other near far at tile part rest) where
+    there : (tile_at new other).area ≡ (part_at side at id near (tile_at old id)).area
+    there = ap (λ (t : Tile). t.area) (halved cut).split.there
+
+    -- the sides of the part, where a stitch leads to what is beside
+    above_is : {n : ℕ} → Leads old n (square_above (part_at side at id near (tile_at old id))) → IsUpperSide new (part_at side at id near (tile_at old id)).area n other
+    above_is leads = upper_side cut.off.partition (halved cut).given _ (ap (λ (r : Rect). r.yhi) there) leads
+
+    right_is : {n : ℕ} → Leads old n (square_right (part_at side at id near (tile_at old id))) → IsRightSide new (part_at side at id near (tile_at old id)).area n other
+    right_is leads = right_side cut.off.partition (halved cut).given _ (ap (λ (r : Rect). r.xhi) there) leads
+
+    below_is : {n : ℕ} → Leads old n (square_below (part_at side at id near (tile_at old id))) → IsLowerSide new (part_at side at id near (tile_at old id)).area n other
+    below_is leads = lower_side cut.off.partition (halved cut).given _ (ap (λ (r : Rect). r.ylo) there) leads
+
+    left_is : {n : ℕ} → Leads old n (square_left (part_at side at id near (tile_at old id))) → IsLeftSide new (part_at side at id near (tile_at old id)).area n other
+    left_is leads = left_side cut.off.partition (halved cut).given _ (ap (λ (r : Rect). r.xlo) there) leads
+
+    own_leads : (s : Side) → Leads old (stitch_of s (tile_at old id)) (square_of s (tile_at old id))
+    own_leads = own_stitches old id cut.off.stitches cut.off.taken
+
+  -- stitches from the rest lead into the part
+  into_is : (side : Side) → (cut : IsCutting side old mid new id other near far at tile part rest) → (k : ℕ) → IsTaken new k
+      → Covers (part_at side at id near (tile_at old id)).area (square_of side (tile_at new k)) → stitch_of side (tile_at new k) ≡ other
+  into_is Above cut k its covers = up_into cut.off.partition (halved cut).given k (ap (λ (r : Rect). r.yhi) (there Above cut)) its covers
+      (λ w low high owns. rest_leads cut k _ owns (let from = cut.from in let to = cut.to in omega (arith, ints)))
+  into_is Right cut k its covers = right_into cut.off.partition (halved cut).given k (ap (λ (r : Rect). r.xhi) (there Right cut)) its covers
+      (λ w low high owns. rest_leads cut k _ owns (let from = cut.from in let to = cut.to in omega (arith, ints)))
+  into_is Below cut k its covers = down_into cut.off.partition (halved cut).given k (ap (λ (r : Rect). r.ylo) (there Below cut)) its covers
+      (λ w low high owns. rest_leads cut k _ owns (let from = cut.from in let to = cut.to in omega (arith, ints)))
+  into_is Left cut k its covers = left_into cut.off.partition (halved cut).given k (ap (λ (r : Rect). r.xlo) (there Left cut)) its covers
+      (λ w low high owns. rest_leads cut k _ owns (let from = cut.from in let to = cut.to in omega (arith, ints)))
+
   -- it is the end at the side that goes to the new number
   end_is : (side : Side) → IsCutting side old mid new id other near far at tile part rest → IsEnd side new (part_at side at id near (tile_at old id)) other
-  end_is Above cut =
-      let partition = cut.off.partition in
-      let stitches = cut.off.stitches in
-      let taken = cut.off.taken in
-      let given = (halved cut).given in
-      let there = ap (λ (t : Tile). t.area) (halved cut).split.there in
-      let from = cut.from in
-      let to = cut.to in
-      record {
-        above = upper_side partition given _ (ap (λ (r : Rect). r.yhi) there) (stitches.above id taken);
-        left = left_side partition given _ (ap (λ (r : Rect). r.xlo) there) cut.near_leads;
-        right = right_side partition given _ (ap (λ (r : Rect). r.xhi) there) (stitches.right id taken);
-        below = λ k its covers. up_into partition given k (ap (λ (r : Rect). r.yhi) there) its covers
-            (λ w low high owns. rest_leads cut k _ owns (omega (arith, ints)));
-      }
-  end_is Right cut =
-      let partition = cut.off.partition in
-      let stitches = cut.off.stitches in
-      let taken = cut.off.taken in
-      let given = (halved cut).given in
-      let there = ap (λ (t : Tile). t.area) (halved cut).split.there in
-      let from = cut.from in
-      let to = cut.to in
-      record {
-        right = right_side partition given _ (ap (λ (r : Rect). r.xhi) there) (stitches.right id taken);
-        below = lower_side partition given _ (ap (λ (r : Rect). r.ylo) there) cut.near_leads;
-        above = upper_side partition given _ (ap (λ (r : Rect). r.yhi) there) (stitches.above id taken);
-        left = λ k its covers. right_into partition given k (ap (λ (r : Rect). r.xhi) there) its covers
-            (λ w low high owns. rest_leads cut k _ owns (omega (arith, ints)));
-      }
-  end_is Below cut =
-      let partition = cut.off.partition in
-      let stitches = cut.off.stitches in
-      let taken = cut.off.taken in
-      let given = (halved cut).given in
-      let there = ap (λ (t : Tile). t.area) (halved cut).split.there in
-      let from = cut.from in
-      let to = cut.to in
-      record {
-        left = left_side partition given _ (ap (λ (r : Rect). r.xlo) there) (stitches.left id taken);
-        right = right_side partition given _ (ap (λ (r : Rect). r.xhi) there) cut.near_leads;
-        below = lower_side partition given _ (ap (λ (r : Rect). r.ylo) there) (stitches.below id taken);
-        above = λ k its covers. down_into partition given k (ap (λ (r : Rect). r.ylo) there) its covers
-            (λ w low high owns. rest_leads cut k _ owns (omega (arith, ints)));
-      }
-  end_is Left cut =
-      let partition = cut.off.partition in
-      let stitches = cut.off.stitches in
-      let taken = cut.off.taken in
-      let given = (halved cut).given in
-      let there = ap (λ (t : Tile). t.area) (halved cut).split.there in
-      let from = cut.from in
-      let to = cut.to in
-      record {
-        left = left_side partition given _ (ap (λ (r : Rect). r.xlo) there) (stitches.left id taken);
-        above = upper_side partition given _ (ap (λ (r : Rect). r.yhi) there) cut.near_leads;
-        below = lower_side partition given _ (ap (λ (r : Rect). r.ylo) there) (stitches.below id taken);
-        right = λ k its covers. left_into partition given k (ap (λ (r : Rect). r.xlo) there) its covers
-            (λ w low high owns. rest_leads cut k _ owns (omega (arith, ints)));
-      }
+  end_is Above cut = let own = own_leads Above cut in
+      record { above = above_is Above cut (own Above); left = left_is Above cut cut.near_leads; right = right_is Above cut (own Right); below = into_is Above cut }
+  end_is Right cut = let own = own_leads Right cut in
+      record { right = right_is Right cut (own Right); below = below_is Right cut cut.near_leads; above = above_is Right cut (own Above); left = into_is Right cut }
+  end_is Below cut = let own = own_leads Below cut in
+      record { left = left_is Below cut (own Left); right = right_is Below cut cut.near_leads; below = below_is Below cut (own Below); above = into_is Below cut }
+  end_is Left cut = let own = own_leads Left cut in
+      record { left = left_is Left cut (own Left); above = above_is Left cut cut.near_leads; below = below_is Left cut (own Below); right = into_is Left cut }
 
   pub cutting_end : (side : Side) → IsCutting side old mid new id other near far at tile part rest → IsEnd side new part other
   cutting_end side cut = subst (λ (t : Tile). IsEnd side new t other) (sym (part_is cut.off)) (end_is side cut)

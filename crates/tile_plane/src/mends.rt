@@ -1,12 +1,15 @@
 //! Stitches that lead to squares of an area, from the tiles around it.
-ghost use Rattle.tile_plane.specs.Tiles.{IsPartition};
-ghost use Rattle.tile_plane.specs.steps.Mends.{Above, Right, Below, Left, LeadTo, AreRedirected, IsUpperSide, IsRightSide, IsLowerSide, IsLeftSide, IsUpperEnd};
-ghost use Rattle.tile_plane.specs.steps.Mends.{IsLowerEnd, IsRightEnd, IsLeftEnd, IsEnd};
+ghost use Rattle.std.specs.Prelude.{◌↔◌, IsTrue};
+ghost use Rattle.tile_plane.specs.Tiles.{tile_at, IsTaken, IsPartition, IsPut};
+ghost use Rattle.tile_plane.specs.steps.Cuts.{opposite};
+ghost use Rattle.tile_plane.specs.steps.Mends.{with_stitch, LeadTo, AreRedirected, IsSideOf, IsUpperEnd, IsLowerEnd, IsRightEnd, IsLeftEnd, IsEnd};
+ghost use Rattle.tile_plane.specs.steps.Sides.{along, end_of, ComesBefore};
 
 use crate::sides::Side;
 use crate::stores::Store;
 use crate::tiles::Tile;
-use geo_core::{PLANE_EDGE, Rect};
+use crate::walks::is_last;
+use geo_core::Rect;
 
 /// Leads all stitches into the end of a tile at this side to that tile. The end is given as a tile of its own.
 #[inline(always)]
@@ -29,9 +32,9 @@ pub fn mend_upper_end(store: &mut Store, end: &Tile, id: u32)
     requires end { IsUpperEnd store.old end.now id }
     ensures { AreRedirected end.now.area id store.old store.new }
 {
-    mend_above(store, &end.area, end.above, id);
-    mend_left(store, &end.area, end.left, id);
-    mend_right(store, &end.area, end.right, id);
+    mend_side(store, Side::Above, &end.area, end.above, id);
+    mend_side(store, Side::Left, &end.area, end.left, id);
+    mend_side(store, Side::Right, &end.area, end.right, id);
 }
 
 /// Leads all stitches into the lower end of a tile to that tile. The end is given as a tile of its own.
@@ -40,9 +43,9 @@ fn mend_lower_end(store: &mut Store, end: &Tile, id: u32)
     requires end { IsLowerEnd store.old end.now id }
     ensures { AreRedirected end.now.area id store.old store.new }
 {
-    mend_left(store, &end.area, end.left, id);
-    mend_right(store, &end.area, end.right, id);
-    mend_below(store, &end.area, end.below, id);
+    mend_side(store, Side::Left, &end.area, end.left, id);
+    mend_side(store, Side::Right, &end.area, end.right, id);
+    mend_side(store, Side::Below, &end.area, end.below, id);
 }
 
 /// Leads all stitches into the right end of a tile to that tile. The end is given as a tile of its own.
@@ -51,9 +54,9 @@ pub fn mend_right_end(store: &mut Store, end: &Tile, id: u32)
     requires end { IsRightEnd store.old end.now id }
     ensures { AreRedirected end.now.area id store.old store.new }
 {
-    mend_right(store, &end.area, end.right, id);
-    mend_below(store, &end.area, end.below, id);
-    mend_above(store, &end.area, end.above, id);
+    mend_side(store, Side::Right, &end.area, end.right, id);
+    mend_side(store, Side::Below, &end.area, end.below, id);
+    mend_side(store, Side::Above, &end.area, end.above, id);
 }
 
 /// Leads all stitches into the left end of a tile to that tile. The end is given as a tile of its own.
@@ -62,95 +65,69 @@ fn mend_left_end(store: &mut Store, end: &Tile, id: u32)
     requires end { IsLeftEnd store.old end.now id }
     ensures { AreRedirected end.now.area id store.old store.new }
 {
-    mend_left(store, &end.area, end.left, id);
-    mend_above(store, &end.area, end.above, id);
-    mend_below(store, &end.area, end.below, id);
+    mend_side(store, Side::Left, &end.area, end.left, id);
+    mend_side(store, Side::Above, &end.area, end.above, id);
+    mend_side(store, Side::Below, &end.area, end.below, id);
 }
 
-/// Leads the stitches of the tiles on the upper side of an area to a tile. The rightmost of them is the first.
-fn mend_above(store: &mut Store, area: &Rect, first: u32, id: u32)
+/// Leads the stitches of the tiles at this side of an area to a tile. The first of them is the one at which a walk along the side begins.
+#[inline(always)]
+fn mend_side(store: &mut Store, side: Side, area: &Rect, first: u32, id: u32)
     requires partition { IsPartition store.old }
-    requires side { IsUpperSide store.old area.now first id }
-    ensures { LeadTo Below area.now id store.old store.new }
+    requires side { IsSideOf side store.old area.now first id }
+    ensures { LeadTo (opposite side) area.now id store.old store.new }
 {
-    if PLANE_EDGE <= area.yhi {
+    if is_last(side, area) {
         return;
     }
     let mut next = first;
-    let mut x = area.xhi;
-    'leftward: while area.xlo < x {
+    let mut at = side.along().opposite().end(area);
+    'along: while is_on(side, area, at) {
         let tile = store.get(next);
-        if tile.area.xlo < area.xlo {
+        if goes_past(side, area, &tile.area) {
             return;
         }
-        store.set_below(next, id);
-        next = tile.left;
-        x = tile.area.xlo;
+        set_stitch(store, side.opposite(), next, id);
+        next = side.along().stitch(&tile);
+        at = side.along().end(&tile.area);
     }
 }
 
-/// Leads the stitches of the tiles on the lower side of an area to a tile. The leftmost of them is the first.
-fn mend_below(store: &mut Store, area: &Rect, first: u32, id: u32)
-    requires partition { IsPartition store.old }
-    requires side { IsLowerSide store.old area.now first id }
-    ensures { LeadTo Above area.now id store.old store.new }
+/// Whether a walk along this side of an area has not come to its end.
+#[inline(always)]
+fn is_on(side: Side, area: &Rect, at: i64) -> bool
+    ensures { IsTrue result ↔ ComesBefore side at (end_of (along side) area.now) }
 {
-    if area.ylo <= -PLANE_EDGE {
-        return;
-    }
-    let mut next = first;
-    let mut x = area.xlo;
-    'rightward: while x < area.xhi {
-        let tile = store.get(next);
-        if area.xhi < tile.area.xhi {
-            return;
-        }
-        store.set_above(next, id);
-        next = tile.right;
-        x = tile.area.xhi;
+    match side {
+        Side::Above => area.xlo < at,
+        Side::Right => area.ylo < at,
+        Side::Below => at < area.xhi,
+        Side::Left => at < area.yhi,
     }
 }
 
-/// Leads the stitches of the tiles on the left side of an area to a tile. The lowest of them is the first.
-fn mend_left(store: &mut Store, area: &Rect, first: u32, id: u32)
-    requires partition { IsPartition store.old }
-    requires side { IsLeftSide store.old area.now first id }
-    ensures { LeadTo Right area.now id store.old store.new }
+/// Whether another area goes past the end of a walk along this side of an area.
+#[inline(always)]
+fn goes_past(side: Side, area: &Rect, other: &Rect) -> bool
+    ensures { IsTrue result ↔ ComesBefore side (end_of (along side) area.now) (end_of (along side) other.now) }
 {
-    if area.xlo <= -PLANE_EDGE {
-        return;
-    }
-    let mut next = first;
-    let mut y = area.ylo;
-    'upward: while y < area.yhi {
-        let tile = store.get(next);
-        if area.yhi < tile.area.yhi {
-            return;
-        }
-        store.set_right(next, id);
-        next = tile.above;
-        y = tile.area.yhi;
+    match side {
+        Side::Above => other.xlo < area.xlo,
+        Side::Right => other.ylo < area.ylo,
+        Side::Below => area.xhi < other.xhi,
+        Side::Left => area.yhi < other.yhi,
     }
 }
 
-/// Leads the stitches of the tiles on the right side of an area to a tile. The highest of them is the first.
-fn mend_right(store: &mut Store, area: &Rect, first: u32, id: u32)
-    requires partition { IsPartition store.old }
-    requires side { IsRightSide store.old area.now first id }
-    ensures { LeadTo Left area.now id store.old store.new }
+#[inline(always)]
+fn set_stitch(store: &mut Store, side: Side, id: u32, stitch: u32)
+    requires { IsTaken store.old id }
+    ensures { IsPut id (with_stitch side (tile_at store.old id) stitch) store.old store.new }
 {
-    if PLANE_EDGE <= area.xhi {
-        return;
-    }
-    let mut next = first;
-    let mut y = area.yhi;
-    'downward: while area.ylo < y {
-        let tile = store.get(next);
-        if tile.area.ylo < area.ylo {
-            return;
-        }
-        store.set_left(next, id);
-        next = tile.below;
-        y = tile.area.ylo;
+    match side {
+        Side::Above => store.set_above(id, stitch),
+        Side::Right => store.set_right(id, stitch),
+        Side::Below => store.set_below(id, stitch),
+        Side::Left => store.set_left(id, stitch),
     }
 }

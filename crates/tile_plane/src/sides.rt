@@ -2,9 +2,10 @@
 ghost use Rattle.std.specs.Prelude.{◌≡◌};
 ghost use Rattle.tile_plane.specs.steps.Cuts.{opposite};
 ghost use Rattle.tile_plane.specs.steps.Mends.{stitch_of};
-ghost use Rattle.tile_plane.specs.steps.Sides.{along};
+ghost use Rattle.tile_plane.specs.steps.Sides.{along, end_of};
 
 use crate::tiles::Tile;
+use geo_core::Rect;
 
 /// A side of a tile, at which it has a stitch.
 #[derive(Clone, Copy, Debug, PartialEq, Eq)]
@@ -51,6 +52,19 @@ impl Side {
             Side::Right => tile.right,
             Side::Below => tile.below,
             Side::Left => tile.left,
+        }
+    }
+
+    /// Where an area ends at this side.
+    #[inline(always)]
+    pub fn end(self, area: &Rect) -> i64
+        ensures { result ≡ end_of self area.now }
+    {
+        match self {
+            Side::Above => area.yhi,
+            Side::Right => area.xhi,
+            Side::Below => area.ylo,
+            Side::Left => area.xlo,
         }
     }
 }

@@ -155,7 +155,7 @@ fn beside_at(store: &Store, side: Side, id: u32, at: i64) -> u32
 
 /// Whether the range ends at this side of an area.
 #[inline(always)]
-fn is_last(side: Side, area: &Rect) -> bool
+pub fn is_last(side: Side, area: &Rect) -> bool
     ensures { IsTrue result ↔ IsLast side area.now }
 {
     match side {

@@ -80,6 +80,13 @@ pub record IsLeftSide (tiles : Tiles) (area : Rect) (first id : ℕ) : Type 0 wh
   pub along : (k : ℕ) (c : ℤ) → area.ylo ≤ℤ c → c <ℤ area.yhi → Owns tiles k (square_at (area.xlo -ℤ pos 1) c)
       → Leads tiles (tile_at tiles k).above (square_above (tile_at tiles k))
 
+-- The same of any of its sides.
+abbrev pub IsSideOf : Side → Tiles → Rect → ℕ → ℕ → Type 0
+IsSideOf Above tiles area first id = IsUpperSide tiles area first id
+IsSideOf Right tiles area first id = IsRightSide tiles area first id
+IsSideOf Below tiles area first id = IsLowerSide tiles area first id
+IsSideOf Left tiles area first id = IsLeftSide tiles area first id
+
 -- The upper end of the tile of this number, given as a tile of its own: its stitches lead to the tiles beside it, and stitches into it
 -- from below lead to that tile.
 pub record IsUpperEnd (tiles : Tiles) (end : Tile) (id : ℕ) : Type 0 where

@@ -48,3 +48,17 @@ IsShort Above area x = x <ℤ area.xlo
 IsShort Right area y = y <ℤ area.ylo
 IsShort Below area x = area.xhi ≤ℤ x
 IsShort Left area y = area.yhi ≤ℤ y
+
+-- where an area ends at the side
+abbrev pub end_of : Side → Rect → ℤ
+end_of Above area = area.yhi
+end_of Right area = area.xhi
+end_of Below area = area.ylo
+end_of Left area = area.xlo
+
+-- on a walk along the side the first comes before the second
+abbrev pub ComesBefore : Side → ℤ → ℤ → Type 0
+ComesBefore Above c d = d <ℤ c
+ComesBefore Right c d = d <ℤ c
+ComesBefore Below c d = c <ℤ d
+ComesBefore Left c d = c <ℤ d
