@@ -141,10 +141,11 @@ read_amount (pos n) small = to_z-of_z w128 (pos n) (omega (arith, ints, small))
 read_amount (negsuc n) small = to_z-of_z w128 (negsuc n) (omega (arith, ints, small))
 
 -- one step, as it is read: a thing of the list, the number of its node, and that node's sums so far
-module _ {X : Type 0} (f : X → Addend) (xs : List X) (i : ℕ) (x : X) (is : x ≡ get_or xs i x) (inside : i < length xs) (labels : List ℕ) (classes : ℕ)
-    (old sums : List NodeSum) (below : All (λ label. label < length old) labels) (long : length sums ≡ length old) (number : ℕ)
-    (label : IsLabel labels number) (d : NodeSum) (lawful : AreLawfulAmounts classes (λ y. (f y).cap) (λ y. (f y).measures) xs)
-    (so_far : AddAll (map f (take i xs)) old sums) (measures : List (ℤ × ℤ)) (measured : measures ≡ (f x).measures) where
+module _ {X : Type 0} (f : X → Addend) (xs : List X) (i : ℕ) {x : X} (is : x ≡ get_or xs i x) (inside : i < length xs) (labels : List ℕ)
+    (old : List NodeSum) (below : All (λ label. label < length old) labels) {sums : List NodeSum} (long : length sums ≡ length old) {number : ℕ}
+    (label : IsLabel labels number) (d : NodeSum)
+    (room : (classes : ℕ) × (HaveRoomFor (length xs) classes old × AreLawfulAmounts classes (λ y. (f y).cap) (λ y. (f y).measures) xs))
+    (so_far : AddAll (map f (take i xs)) old sums) {measures : List (ℤ × ℤ)} (measured : measures ≡ (f x).measures) where
   found : slice_get sums number ≡ Some (get_or sums number d)
   found =
       slice_get-get_or sums number d (let low = label_within labels (length old) number below label in omega (arith, low, long))
@@ -152,14 +153,13 @@ module _ {X : Type 0} (f : X → Addend) (xs : List X) (i : ℕ) (x : X) (is : x
   cap_is : to_z w128 (of_z w128 (f x).cap) ≡ (f (get_or xs i x)).cap
   cap_is =
       let P : X → Type 0 = λ y. IsMeasure (f y).cap in
-      read_amount (f x).cap (subst P (sym is) (lawful i x inside).small) ∙ ap (λ y. (f y).cap) is
+      read_amount (f x).cap (subst P (sym is) (room.1.1 i x inside).small) ∙ ap (λ y. (f y).cap) is
 
   -- it fits
-  pub step_fits : HaveRoomFor (length xs) classes old
-      → Fits number (get_or sums number d) (record { node = number; cap = to_z w128 (of_z w128 (f x).cap); measures = measures })
-  step_fits room =
+  pub step_fits : Fits number (get_or sums number d) (record { node = number; cap = to_z w128 (of_z w128 (f x).cap); measures = measures })
+  step_fits =
       let sum = get_or sums number d in
-      let fits = next_fits f xs i x classes old sums room lawful so_far inside number sum found in
+      let fits = next_fits f xs i x room.0 old sums room.1.0 room.1.1 so_far inside number sum found in
       let all = measured ∙ ap (λ y. (f y).measures) is in
       let P : List (ℤ × ℤ) → Type 0 = λ l. FitAmounts sum (f (get_or xs i x)).cap l in
       let Q : ℤ → Type 0 = λ z. FitAmounts sum z measures in

@@ -1,5 +1,5 @@
 -- The faults and the meaning of records with arrays are those of the records that are made of them.
-use Rattle.std.proofs.Common.{◌≡◌, ℕ, true, false, List, length, refl, sym, ◌∙◌, ap, subst}
+use Rattle.std.proofs.Common.{◌≡◌, ℕ, true, false, List, length, refl, sym, ◌∙◌, ap, subst, ◌⊎◌, inl, inr}
 use Rattle.std.specs.Prelude.{Option, Some, None, slice_get, IsSome}
 use Rattle.std.specs.Option.{option_or, option_map}
 use Rattle.std.proofs.lemmas.Option.{same_Some}
@@ -49,6 +49,11 @@ number_is_fault : (exts : List CellExt) (top : CellExt) (fault : FlatFault) → 
 number_is_fault exts top fault sound told =
     fault-stages exts top ∙ ap (λ o. option_or o (option_or (number_fault exts top) (late_fault exts top))) sound
     ∙ ap (λ o. option_or o (late_fault exts top)) told
+
+-- beside another refusal, what follows from what is told
+pub told_by : {A B C : Type 0} → (B → C) → A ⊎ B → A ⊎ C
+told_by f (inl other) = inl other
+told_by f (inr told) = inr (f told)
 
 module _ (exts : List ArrayExt) (root : ℕ) (bare : List CellExt) (are : IsExpandedAt false exts root bare) (sound : HasNoReachFault (plains exts) root) where
   node_same : (top : CellExt) → slice_get (plains exts) root ≡ Some top → node_fault bare (with_merges false top) ≡ node_fault (plains exts) top

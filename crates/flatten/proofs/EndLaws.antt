@@ -32,10 +32,10 @@ pub record IsEndHere (names : FullNames) (number : ℕ) (merge : MergeRec) (end 
   pub is_spot : IsSpotOf names (cell_at names (number + end.step)) name end.spot
   pub full : name_in (element_at names (number + end.step)) name ≡ name_in (element_at names number) merge.first
 
-pub end_here : (names : FullNames) (number : ℕ) (merges : List MergeRec) (ends : List MergeEnd) → merges ≡ (element_at names number).ext.merges
-    → HasEnds names number (element_at names number) ends → (at : ℕ) → at < length merges → (merge : MergeRec) → merge ≡ get_or merges at merge
+pub end_here : {names : FullNames} (number : ℕ) {merges : List MergeRec} {ends : List MergeEnd} → merges ≡ (element_at names number).ext.merges
+    → HasEnds names number (element_at names number) ends → (at : ℕ) → at < length merges → {merge : MergeRec} → merge ≡ get_or merges at merge
     → (d : MergeEnd) → IsEndHere names number merge (get_or ends at d)
-end_here names number merges ends all has at inside merge is d =
+end_here {names} number {merges} {ends} all has at inside {merge} is d =
     let element = element_at names number in
     let long = has.long in
     let many = ap length all in

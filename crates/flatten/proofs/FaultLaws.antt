@@ -1,8 +1,9 @@
 -- What trees without a fault keep to.
-use Rattle.std.proofs.Common.{◌≡◌, ℕ, ◌≤◌, Bool, cond, eqb, List, [], length, inl, inr, refl, sym, ◌∙◌, ap}
+use Rattle.std.proofs.Common.{◌≡◌, ℕ, ◌≤◌, get_or, arith, Bool, cond, eqb, List, [], length, inl, inr, refl, sym, ◌∙◌, ap}
 use Rattle.std.specs.Prelude.{Option, Some, None, Result, Ok, Err, IfOk, slice_get, IsSome}
 use Rattle.std.specs.Option.{option_or}
 use Rattle.std.proofs.lemmas.Bool.{cases_Bool, cases_lt, lt-ltb, eqb-true}
+use Rattle.std.proofs.lemmas.Option.{slice_get-get_or}
 use Rattle.finite_sets.proofs.Searches.{option_or-none}
 use Rattle.ext_model.specs.declared.records.CellExt.{CellExt}
 use Rattle.ext_model.specs.declared.records.FetRec.{FetRec}
@@ -12,7 +13,7 @@ use Rattle.circuit_model.specs.declared.limits.CircuitLimit.{CircuitLimit}
 use Rattle.circuit_model.specs.declared.limits.CircuitLimit.TheVariants.{Depth, Elements, Nodes, Merges}
 use Rattle.circuit_model.specs.Elements.{Element, ext_of, elements_of}
 use Rattle.full_names.specs.declared.names.FullNames.{FullNames}
-use Rattle.full_names.specs.Names.{elements_in}
+use Rattle.full_names.specs.Names.{AreNames, elements_in}
 use Rattle.circuit_model.specs.Refusals.{past, class_fault, node_count, merge_count, walk_fault, depth_of, count_fault, flat_fault, IsFlatFaultOf, IsFlatOf}
 use Rattle.circuit_model.specs.declared.limits.TheConstants.{LONGEST_CHAIN, MOST_FLAT_ELEMENTS, MOST_NODES, MOST_MERGES}
 use Rattle.element_tree.specs.Trees.{tree_fault}
@@ -49,6 +50,13 @@ elements_at_root names exts all root at top is =
     ∙ ap (λ (l : List CellExt). slice_get l root) (sym all) ∙ is in
     ap (λ (o : Option CellExt). elim o [ None ↦ [] | Some one ↦ elements_of names.exts.now one ]) found
     ∙ ap (λ (l : List CellExt). elements_of l top) (sym all)
+
+-- so they are where a record stands there
+pub root_here : {names : FullNames} → AreNames names → {exts : List CellExt} → exts ≡ names.exts.now → {root : ℕ} → root ≡ names.root → (d : CellExt)
+    → (slice_get exts root ≡ Some (get_or exts root d)) × (elements_in names ≡ elements_of exts (get_or exts root d))
+root_here {names} are {exts} all {root} at d =
+    let is = slice_get-get_or exts root d (omega (arith, are.root, at, ap length all)) in
+    (is, elements_at_root names exts all root at (get_or exts root d) is)
 
 -- a tree with no number past its limit has few enough nodes
 pub few_nodes : (exts : List CellExt) (top : CellExt) → number_fault exts top ≡ None → node_count (elements_of exts top) ≤ MOST_NODES

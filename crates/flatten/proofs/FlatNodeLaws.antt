@@ -31,9 +31,9 @@ order_from_places (x ∷ y ∷ names) before =
     (before 0 1 x y (omega arith) refl refl, order_from_places (y ∷ names) (λ a b p q less h k. before (suc a) (suc b) p q (omega (arith, less)) h k))
 
 -- nodes with their sums have their names still
-pub named_filled : (list : List (List ℕ)) (labels : List ℕ) (count : ℕ) (nodes new : List NodeRec) (sums : List NodeSum) → length sums ≡ length nodes
+pub named_filled : {list : List (List ℕ)} {labels : List ℕ} {count : ℕ} {nodes new : List NodeRec} {sums : List NodeSum} → length sums ≡ length nodes
     → AreFilled nodes sums new → AreNamed list labels count nodes → AreNamed list labels count new
-named_filled list labels count nodes new sums many filled named = record {
+named_filled {list} {labels} {count} {nodes} {new} {sums} many filled named = record {
   groups = map-pointwise names_of names_of new nodes filled.long
       (λ k x y p q. (let within = slice_get_within nodes k y q in
       let s = slice_get-below sums k (omega (arith, within, many)) in
@@ -42,8 +42,8 @@ named_filled list labels count nodes new sums many filled named = record {
       ∙ named.groups;
 }
 
-module _ (elements : List Element) (list : List (List ℕ)) (is_list : IsFullNameList elements list) (labels : List ℕ) (count classes : ℕ)
-    (are : AreLabels elements list labels count) (nodes new : List NodeRec) (sums : List NodeSum) (many : length sums ≡ length nodes)
+module _ {elements : List Element} {list : List (List ℕ)} (is_list : IsFullNameList elements list) {labels : List ℕ} {count classes : ℕ}
+    (are : AreLabels elements list labels count) {nodes new : List NodeRec} {sums : List NodeSum} (many : length sums ≡ length nodes)
     (filled : AreFilled nodes sums new) (named : AreNamed list labels count new) (placed : (node : NodeRec) → In node nodes → IsPlaced elements node)
     (summed : AreSums elements list labels count classes sums) where
   -- a node has the names that are of one with its preferred one
@@ -62,7 +62,7 @@ module _ (elements : List Element) (list : List (List ℕ)) (is_list : IsFullNam
 
   flat_node : (number : ℕ) (node : NodeRec) → slice_get new number ≡ Some node → IsFlatNode elements classes node
   flat_node number node at =
-      let group = (node_at list labels count new named number node at).names in
+      let group = (node_at named number node at).names in
       let within = slice_get_within new number node at in
       let long = filled.long in
       let old = slice_get-below nodes number (omega (arith, within, long)) in
@@ -104,7 +104,7 @@ module _ (elements : List Element) (list : List (List ℕ)) (is_list : IsFullNam
         (let among = (is_list.all name).1 full in
         let number = label_of list labels name in
         let r = node_found elements list labels count new is_list.in_order are named name among in
-        let group = (node_at list labels count new named number r.0 r.1.0).names in
+        let group = (node_at named number r.0 r.1.0).names in
         let P : List (List ℕ) → Type 0 = λ l. In name l in
         (r.0, (In-slice_get new number r.0 r.1.0, subst P (sym group) (in_group list labels number name are.long among refl))));
   }

@@ -32,7 +32,7 @@ pub record IsNodeAt (list : List (List ℕ)) (labels : List ℕ) (count number :
   pub within : number < count
   pub names : names_of node ≡ group_of list labels number
 
-module _ (list : List (List ℕ)) (labels : List ℕ) (count : ℕ) (nodes : List NodeRec) (named : AreNamed list labels count nodes) where
+module _ {list : List (List ℕ)} {labels : List ℕ} {count : ℕ} {nodes : List NodeRec} (named : AreNamed list labels count nodes) where
   -- there are as many nodes as labels
   pub so_many : length nodes ≡ count
   so_many = sym (length-map nodes names_of) ∙ ap length named.groups ∙ length-map-range_with_len (group_of list labels) 0 count
@@ -69,14 +69,14 @@ module _ (elements : List Element) (list : List (List ℕ)) (labels : List ℕ) 
       ((slice_get nodes (label_of list labels name) ≡ Some node) × (node_name nodes name ≡ node.name))
   node_found name here =
       let number = label_of list labels name in
-      let many = so_many list labels count nodes named in
+      let many = so_many named in
       let below = label_below elements list labels count ordered are name here in
       let r = slice_get-below nodes number (omega (arith, many, below)) in
       let found : find (λ node. has_name node name) nodes ≡ Some r.0 =
       find-at (λ node. has_name node name) nodes number r.0 r.1
-      (has_name_is elements list labels count ordered are r.0 number (node_at list labels count nodes named number r.0 r.1).names name here
+      (has_name_is elements list labels count ordered are r.0 number (node_at named number r.0 r.1).names name here
       ∙ eq-eqb number number refl)
-      (λ j other less at. has_name_is elements list labels count ordered are other j (node_at list labels count nodes named j other at).names name here
+      (λ j other less at. has_name_is elements list labels count ordered are other j (node_at named j other at).names name here
       ∙ apart number j (omega (arith, less))) in
       (r.0, (r.1, ap (λ (o : Option NodeRec). elim o [ Some node ↦ node.name | None ↦ [] ]) found))
     where
@@ -87,8 +87,8 @@ module _ (elements : List Element) (list : List (List ℕ)) (labels : List ℕ) 
   pub before_node : (a b : ℕ) (first second : NodeRec) → a < b → slice_get nodes a ≡ Some first → slice_get nodes b ≡ Some second
       → name_cmp first.name second.name ≡ Less
   before_node a b first second less p q =
-      let x = node_at list labels count nodes named a first p in
-      let y = node_at list labels count nodes named b second q in
+      let x = node_at named a first p in
+      let y = node_at named b second q in
       let P : List (List ℕ) → Type 0 = λ l. In second.name l in
       let r = before_group elements list labels count ordered are a b less y.within second.name (subst P y.names (inl refl)) in
       let Q : List (List ℕ) → Type 0 = λ l. In r.0 l in

@@ -17,6 +17,7 @@ use Rattle.ext_model.specs.Lawful.{IsLawfulNode}
 use Rattle.circuit_model.specs.Elements.{Element}
 use Rattle.circuit_model.specs.FlatNodes.{IsPlaced}
 use Rattle.element_tree.specs.declared.tree.TreeElement.{TreeElement}
+use Rattle.element_tree.specs.declared.tree.ElementTree.{ElementTree}
 use Rattle.full_names.specs.declared.names.FullNames.{FullNames}
 use Rattle.full_names.specs.declared.names.Origin.{Origin}
 use Rattle.full_names.specs.Names.{AreNames, ComesFrom, GivesText, elements_in}
@@ -24,7 +25,7 @@ use Rattle.flatten.proofs.FlatLimits.TreeLaws.{no_flat}
 use Rattle.flatten.specs.steps.Spots.{element_at}
 use Rattle.flatten.proofs.LabelLaws.{one_list}
 use Rattle.flatten.proofs.PlaceLaws.{place_of, place_set_cases}
-use Rattle.flatten.proofs.SpotLaws.{IsHere, element_here, lawful_cell}
+use Rattle.flatten.proofs.SpotLaws.{IsRead, element_read}
 use Rattle.flatten.specs.steps.Named.{HasText, HasAlias, ArePlaced}
 
 -- the text of a number is its full name
@@ -40,41 +41,48 @@ has_text names are number inside old text empty gives list is_list =
 -- The node that a name comes from, as it is read.
 pub record IsOriginHere (names : FullNames) (name : List ℕ) (origin : Origin) (exts : List CellExt) (flats : List TreeElement) : Type 0 where
   pub within : origin.element < length flats
-  pub here : IsHere names origin.element (get_or flats origin.element no_flat)
+  pub read : IsRead names origin.element exts (get_or flats origin.element no_flat)
   pub came : ComesFrom names name origin
   pub same : element_at names origin.element ≡ came.element
-  pub cell_within : (get_or flats origin.element no_flat).cell < length exts
-  pub ext : (d : CellExt) → get_or exts (get_or flats origin.element no_flat).cell d ≡ (element_at names origin.element).ext
   pub node_within : origin.node < length (element_at names origin.element).ext.nodes
   pub node : (d : NodeRec) → get_or (element_at names origin.element).ext.nodes origin.node d ≡ came.node
   pub lawful : IsLawfulNode (length (element_at names origin.element).ext.classes) came.node
 
-pub origin_here : (names : FullNames) → AreNames names → (name : List ℕ) (origin : Origin) → ComesFrom names name origin → (exts : List CellExt)
-    → exts ≡ names.exts.now → (flats : List TreeElement) → flats ≡ names.tree.now.elements → IsOriginHere names name origin exts flats
-origin_here names are name origin came exts all_exts flats all =
-    let tree = tree_of_names names are in
+pub origin_here : {names : FullNames} → AreNames names → {name : List ℕ} {origin : Origin} → ComesFrom names name origin → {exts : List CellExt}
+    → exts ≡ names.exts.now → {tree : ElementTree} → tree ≡ names.tree.now → {flats : List TreeElement} → flats ≡ tree.elements
+    → IsOriginHere names name origin exts flats
+origin_here {names} are {name} {origin} came all_exts {tree} all_tree {flats} all =
     let inside = slice_get_within (elements_in names) origin.element came.element came.stands in
-    let long = tree.long in
-    let many = ap length all in
+    let long = (tree_of_names names are).long in
+    let many = ap length (all ∙ ap (λ (tree : ElementTree). tree.elements) all_tree) in
     let within : origin.element < length flats = omega (arith, inside, long, many) in
-    let here = element_here names are flats all origin.element within no_flat in
-    let cell = (get_or flats origin.element no_flat).cell in
+    let read = element_read are all_exts all_tree all within in
     let ext = (element_at names origin.element).ext in
-    let found : slice_get exts cell ≡ Some ext = ap (λ (l : List CellExt). slice_get l cell) all_exts ∙ here.of.found in
     let same : element_at names origin.element ≡ came.element = get_or_from_slice_get (elements_in names) origin.element came.element _ came.stands in
     let node : slice_get ext.nodes origin.node ≡ Some came.node = ap (λ (e : Element). slice_get e.ext.nodes origin.node) same ∙ came.node_stands in
     record {
       within = within;
-      here = here;
+      read = read;
       came = came;
       same = same;
-      cell_within = slice_get_within exts cell ext found;
-      ext = λ d. get_or_from_slice_get exts cell ext d found;
       node_within = slice_get_within ext.nodes origin.node came.node node;
       node = λ d. get_or_from_slice_get ext.nodes origin.node came.node d node;
-      lawful = All-In (IsLawfulNode (length ext.classes)) ext.nodes came.node (lawful_cell names cell ext are here.of).nodes
+      lawful = All-In (IsLawfulNode (length ext.classes)) ext.nodes came.node read.lawful.nodes
           (In-slice_get ext.nodes origin.node came.node node);
     }
+
+-- and what is read of its element's nodes
+module _ {names : FullNames} {name : List ℕ} {origin : Origin} {exts : List CellExt} {flats : List TreeElement}
+    (o : IsOriginHere names name origin exts flats) (d : CellExt) {nodes : List NodeRec}
+    (all : nodes ≡ (get_or exts (get_or flats origin.element no_flat).cell d).nodes) where
+  nodes_are : nodes ≡ (element_at names origin.element).ext.nodes
+  nodes_are = all ∙ ap (λ (ext : CellExt). ext.nodes) (o.read.ext d)
+
+  pub node_within : origin.node < length nodes
+  node_within = omega (arith, o.node_within, ap length nodes_are)
+
+  pub node_read : {node : NodeRec} → node ≡ get_or nodes origin.node node → node ≡ o.came.node
+  node_read {node} is = is ∙ ap (λ (l : List NodeRec). get_or l origin.node node) nodes_are ∙ o.node node
 
 -- places of lawful nodes lie in reach
 pub lies_in_reach : (x y : ℤ) → FitsSigned w32 x → FitsSigned w32 y → LiesInReach (record { x = x; y = y })

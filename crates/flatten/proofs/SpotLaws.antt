@@ -21,6 +21,7 @@ use Rattle.full_names.specs.declared.names.FullNames.{FullNames}
 use Rattle.full_names.specs.declared.names.Spot.{Spot}
 use Rattle.full_names.specs.Names.{AreNames, IsElement, IsSpotOf, HasSpot, GivesName, elements_in}
 use Rattle.element_tree.specs.declared.tree.TreeElement.{TreeElement}
+use Rattle.element_tree.specs.declared.tree.ElementTree.{ElementTree}
 use Rattle.element_tree.specs.Trees.{StandsFor, AreAt}
 use Rattle.full_names.specs.NameLists.{IsFullNameList}
 use Rattle.flat_limits.proofs.TreeLaws.{no_flat}
@@ -117,38 +118,39 @@ has_name_at names are number inside spot result gives list is_list name is_spot 
     gives list is_list (element_at names number) (get_or names.tree.now.elements number no_flat) name here.is (subst P here.cell is_spot)
 
 -- The record of an element, as it is read.
-pub record IsRead (names : FullNames) (number : ℕ) (exts : List CellExt) (cell : ℕ) : Type 0 where
-  pub within : number < length (elements_in names)
-  pub cell_is : cell_at names number ≡ cell
-  pub cell_within : cell < length exts
-  pub ext : (d : CellExt) → get_or exts cell d ≡ (element_at names number).ext
+pub record IsRead (names : FullNames) (number : ℕ) (exts : List CellExt) (flat : TreeElement) : Type 0 where
+  pub here : IsHere names number flat
+  pub within : flat.cell < length exts
+  pub ext : (d : CellExt) → get_or exts flat.cell d ≡ (element_at names number).ext
   pub lawful : IsLawful (element_at names number).ext
 
-pub element_read : (names : FullNames) → AreNames names → (exts : List CellExt) → exts ≡ names.exts.now → (flats : List TreeElement)
-    → flats ≡ names.tree.now.elements → (number : ℕ) → number < length flats → IsRead names number exts (get_or flats number no_flat).cell
-element_read names are exts all_exts flats all number inside =
-    let here = element_here names are flats all number inside no_flat in
-    let cell = (get_or flats number no_flat).cell in
+pub element_read : {names : FullNames} → AreNames names → {exts : List CellExt} → exts ≡ names.exts.now → {tree : ElementTree}
+    → tree ≡ names.tree.now → {flats : List TreeElement} → flats ≡ tree.elements → {number : ℕ} → number < length flats
+    → IsRead names number exts (get_or flats number no_flat)
+element_read {names} are {exts} all_exts same {flats} all {number} inside =
+    let flat = get_or flats number no_flat in
+    let here = element_here names are flats (all ∙ ap (λ (tree : ElementTree). tree.elements) same) number inside no_flat in
     let ext = (element_at names number).ext in
-    let found : slice_get exts cell ≡ Some ext = ap (λ (l : List CellExt). slice_get l cell) all_exts ∙ here.of.found in
+    let found : slice_get exts flat.cell ≡ Some ext = ap (λ (l : List CellExt). slice_get l flat.cell) all_exts ∙ here.of.found in
     record {
-      within = here.within;
-      cell_is = here.cell;
-      cell_within = slice_get_within exts cell ext found;
-      ext = λ d. get_or_from_slice_get exts cell ext d found;
-      lawful = lawful_cell names cell ext are here.of;
+      here = here;
+      within = slice_get_within exts flat.cell ext found;
+      ext = λ d. get_or_from_slice_get exts flat.cell ext d found;
+      lawful = lawful_cell names flat.cell ext are here.of;
     }
 
--- so are its spots
-pub spots_read : (names : FullNames) (spots : List CellSpots) → AreCellSpots names spots → (number : ℕ) (exts : List CellExt) (cell : ℕ)
-    → exts ≡ names.exts.now
-    → IsRead names number exts cell → (d : CellSpots) → AreSpotsIn names (cell_at names number) (element_at names number).ext (get_or spots cell d)
-spots_read names spots are number exts cell all here d =
-    let long = are.long in
-    let many = ap length all in
-    let within = here.cell_within in
-    are.each number (get_or spots cell d) here.within
-    (ap (slice_get spots) here.cell_is ∙ slice_get-get_or spots cell d (omega (arith, within, long, many)))
+-- there are spots of it
+pub spots_within : {names : FullNames} {spots : List CellSpots} → AreCellSpots names spots → {exts : List CellExt} → exts ≡ names.exts.now
+    → {number : ℕ} {flat : TreeElement} → IsRead names number exts flat → flat.cell < length spots
+spots_within are all read = omega (arith, are.long, ap length all, read.within)
+
+-- and these are they
+pub spots_read : {names : FullNames} {spots : List CellSpots} → AreCellSpots names spots → {exts : List CellExt} → exts ≡ names.exts.now
+    → {number : ℕ} {flat : TreeElement} → IsRead names number exts flat → (d : CellSpots)
+    → AreSpotsIn names (cell_at names number) (element_at names number).ext (get_or spots flat.cell d)
+spots_read {names} {spots} are all {number} {flat} read d =
+    are.each number (get_or spots flat.cell d) read.here.within
+    (ap (slice_get spots) read.here.cell ∙ slice_get-get_or spots flat.cell d (spots_within are all read))
 
 -- a name with a spot in an element's record has one of the full names there
 pub spot_named : (names : FullNames) → AreNames names → (number : ℕ) → number < length (elements_in names) → (name : List ℕ) (spot : Spot)

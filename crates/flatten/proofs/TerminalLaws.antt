@@ -1,7 +1,8 @@
 -- Terminals by the names of their nodes.
 use Rattle.std.proofs.Common.{◌≡◌, ℕ, ◌<◌, pos, Bool, cond, eqb, List, [], ◌∷◌, length, map, get_or, inl, inr, refl, sym, ◌∙◌, ap, subst, arith}
 use Rattle.std.proofs.Common.{eq-eqb}
-use Rattle.std.specs.Prelude.{Some, slice_get}
+use Rattle.std.specs.Prelude.{Some, All, slice_get}
+use Rattle.finite_sets.proofs.Searches.{All-from_In}
 use Rattle.std.specs.Option.{option_map}
 use Rattle.std.specs.Str.{bytes_eq}
 use Rattle.std.specs.declared.cmp.Ordering.TheVariants.{Less}
@@ -26,7 +27,7 @@ use Rattle.flatten.proofs.LabelLaws.{bytes_eq-same, bytes_eq-true}
 use Rattle.flatten.proofs.NodeLaws.{node_found, before_node, one_number}
 use Rattle.flatten.proofs.PlaceLaws.{place_of, AreAlong-at}
 use Rattle.flatten.proofs.SpotLaws.{spot_named}
-use Rattle.flatten.specs.steps.Spots.{AreSpotsOf, element_at, cell_at}
+use Rattle.flatten.specs.steps.Spots.{AreSpotsOf, AreLabelsOf, AreNamedOf, element_at, cell_at}
 use Rattle.full_names.specs.declared.names.FullNames.{FullNames}
 use Rattle.full_names.specs.declared.names.Spot.{Spot}
 use Rattle.full_names.specs.declared.names.Spot.TheVariants.{Local}
@@ -93,7 +94,7 @@ module _ (elements : List Element) (list : List (List ℕ)) (labels : List ℕ) 
         (t.0, (t.1.0, ap (λ (side : Side). side.node) t.1.1 ∙ s.1.1))
 
     -- nodes of joined sides are nodes
-    pub joined_within : (side : Side) → In side joined → side.node < length nodes
+    joined_within : (side : Side) → In side joined → side.node < length nodes
     unfolding label
     joined_within side here =
         let t = from_terminal side.node (In-map (λ (s : Side). s.node) side joined here) in
@@ -149,7 +150,7 @@ module _ (elements : List Element) (list : List (List ℕ)) (labels : List ℕ) 
         (one_test number (joined_within s.0 s.1.0) part h
         ∙ ap (λ (name : List ℕ). bytes_eq name (side_name nodes element part)) (ap (λ (side : TermRec). side.node) s.1.1)))
 
-    pub flat_terminals_are : AreFlatTerminals nodes element terminals (map (named_side nodes) joined)
+    flat_terminals_are : AreFlatTerminals nodes element terminals (map (named_side nodes) joined)
     flat_terminals_are = record {
       in_order = in_order joined joins.ascending joined_within;
       each = λ name. (flat_names name, flat_names_back name);
@@ -161,7 +162,7 @@ pub name_read : (nodes : List NodeRec) (number : ℕ) → number < length nodes 
 name_read nodes number inside d = sym (name_at_node nodes number (get_or nodes number d) (slice_get-get_or nodes number d inside))
 
 -- terminals with spots have full names
-pub terminals_named : (names : FullNames) → AreNames names → (number : ℕ) → number < length (elements_in names) → (terminals : List TermRec)
+terminals_named : (names : FullNames) → AreNames names → (number : ℕ) → number < length (elements_in names) → (terminals : List TermRec)
     → (spots : List Spot) → AreSpotsOf names (cell_at names number) (map (λ side. side.node) terminals) spots → (list : List (List ℕ))
     → IsFullNameList (elements_in names) list → (side : TermRec) → In side terminals → In (name_in (element_at names number) side.node) list
 terminals_named names are number inside terminals spots along list is_list side here =
@@ -170,3 +171,22 @@ terminals_named names are number inside terminals spots along list is_list side 
     let is : side ≡ get_or terminals r.0 side = sym (get_or_from_slice_get terminals r.0 side side r.1.1) in
     spot_named names are number inside side.node spot
     (AreAlong-at (IsSpotOf names (cell_at names number)) (λ (t : TermRec). t.node) terminals spots along r.0 r.1.0 side is (Local 0)) list is_list
+
+-- joined sides of an element's transistor are of nodes, and are its flat terminals
+pub terminals_flat : {names : FullNames} → AreNames names → {labels : List ℕ} {nodes : List NodeRec} → AreLabelsOf names labels (length nodes)
+    → AreNamedOf names labels (length nodes) nodes → (number : ℕ) → number < length (elements_in names) → (terminals : List TermRec) {spots : List Spot}
+    → AreSpotsOf names (cell_at names number) (map (λ side. side.node) terminals) spots → {sides joined : List Side}
+    → ((list : List (List ℕ)) → IsFullNameList (elements_in names) list → sides ≡ map (side_of list labels (element_at names number)) terminals)
+    → AreJoined sides joined
+    → All (λ side. side.node < length nodes) joined × AreFlatTerminals nodes (element_at names number) terminals (map (named_side nodes) joined)
+terminals_flat {names} are {labels} {nodes} divided named number inside terminals {spots} has {sides} {joined} sides_are joins =
+    let list = are.list in
+    let is_list = are.is_list in
+    let element = element_at names number in
+    let within = terminals_named names are number inside terminals spots has list is_list in
+    let all = subst (λ (l : List Side). AreJoined l joined) (sides_are list is_list) joins in (
+      All-from_In (λ (side : Side). side.node < length nodes) joined (joined_within (elements_in names) list labels nodes is_list.in_order
+          (divided list is_list) (named list is_list) element terminals within joined all),
+      flat_terminals_are (elements_in names) list labels nodes is_list.in_order (divided list is_list) (named list is_list) element terminals within joined
+          all,
+    )

@@ -154,10 +154,10 @@ module _ (list : List (List ℕ)) (labels : List ℕ) (quantity : Quantity) (nod
       ∙ ap (λ (z : ℤ). share_of node of_node of_merge element +ℤ z) (sum_is elements (λ e h. nodes e (inr h)) (λ e h. merges e (inr h)))
 
 -- the elements of a tree are lawful
-pub lawful_elements : (names : FullNames) → AreNames names → (classes : ℕ)
+pub lawful_elements : {names : FullNames} → AreNames names → {classes : ℕ}
     → ((element : Element) → In element (elements_in names) → length element.ext.classes ≡ classes) → (element : Element) → In element (elements_in names)
     → IsLawfulElement classes element
-lawful_elements names are classes measured element here =
+lawful_elements {names} are measured element here =
     let r = place_of element (elements_in names) here in
     let flat = flat_here names are r.0 r.1.0 in
     let same : element_at names r.0 ≡ element = get_or_from_slice_get (elements_in names) r.0 element no_element r.1.1 in
@@ -187,10 +187,10 @@ module _ (list : List (List ℕ)) (labels : List ℕ) (elements : List Element) 
       (All-take (IsLawfulElement classes) n elements (All-from_In (IsLawfulElement classes) elements lawful)) h)
 
   -- there is room for the nodes of the next element
-  pub room_for_nodes : (sums : List NodeSum) → HaveSums count classes (flat_map (addends_in list labels) (take n elements)) sums → (nodes : List NodeRec)
+  pub room_for_nodes : {sums : List NodeSum} → HaveSums count classes (flat_map (addends_in list labels) (take n elements)) sums → {nodes : List NodeRec}
       → nodes ≡ (get_or elements n d).ext.nodes → HaveRoomForNodes nodes sums
   unfolding so_far this
-  room_for_nodes sums have nodes all =
+  room_for_nodes {sums} have {nodes} all =
       let P : List NodeRec → Type 0 = λ l. HaveRoomForNodes l sums in
       let Q : ℕ → Type 0 = λ k. HaveSums k classes (flat_map (addends_in list labels) (take n elements)) sums in
       let few = count_so_far list labels elements n d inside in
@@ -204,11 +204,11 @@ module _ (list : List (List ℕ)) (labels : List ℕ) (elements : List Element) 
       subst P (sym all) (classes, (room, lawful_nodes classes this here))
 
   -- and then for its merges
-  pub room_for_merges : (sums : List NodeSum)
+  pub room_for_merges : {sums : List NodeSum}
       → HaveSums count classes (flat_map (addends_in list labels) (take n elements) ++ node_addends list labels (get_or elements n d)) sums
-      → (merges : List MergeRec) → merges ≡ (get_or elements n d).ext.merges → HaveRoomForMerges merges sums
+      → {merges : List MergeRec} → merges ≡ (get_or elements n d).ext.merges → HaveRoomForMerges merges sums
   unfolding so_far this
-  room_for_merges sums have merges all =
+  room_for_merges {sums} have {merges} all =
       let P : List MergeRec → Type 0 = λ l. HaveRoomForMerges l sums in
       let before = flat_map (addends_in list labels) (take n elements) in
       let more = node_addends list labels this in

@@ -10,53 +10,29 @@ use Rattle.circuit_model.specs.Refusals.{node_count, merge_count, class_fault}
 use Rattle.circuit_model.specs.declared.limits.TheConstants.{MOST_NODES, MOST_MERGES}
 use Rattle.full_names.specs.Names.{elements_in}
 use Rattle.flatten.specs.Sinks.{with_fets}
-use Rattle.flatten.proofs.FaultLaws.{few_nodes, few_merges, alike_classes, elements_at_root}
+use Rattle.flatten.proofs.FaultLaws.{few_nodes, few_merges, alike_classes, elements_at_root, root_here}
+use Rattle.flatten.specs.steps.Spots.{no_element}
 use Rattle.flatten.proofs.flat.meant_circuit.Goals as goal
-
-abbrev no_ext : CellExt
-no_ext = record { cell = []; tech = []; classes = []; uses = []; nodes = []; fets = []; merges = [] }
 
 pub circuit_of-requires-clause-measured : goal.circuit_of-requires-clause-measured
 circuit_of-requires-clause-measured g c element here =
     let exts = c.args.exts.now in
-    let root = c.args.root in
-    let names = c.args.names.now in
-    let inside : root < length exts = (let a = c.requires.names.root in let b = c.requires.root in let same = ap length c.requires.exts in
-    omega (arith, a, b, same)) in
-    let top : CellExt = get_or exts root no_ext in
-    let is : slice_get exts root ≡ Some top = slice_get-get_or exts root no_ext inside in
-    let elements = elements_at_root names exts c.requires.exts root c.requires.root top is in
-    let P : List Element → Type 0 = λ l. In element l in
-    alike_classes top element (first_some-none_In (class_fault top) (elements_of exts top) (c.in_ok-check_classes.ensures.alike top is) element
-    (subst P elements here))
+    let top = get_or exts c.args.root no_element.ext in
+    let at = root_here c.requires.names c.requires.exts c.requires.root no_element.ext in
+    alike_classes top element (first_some-none_In (class_fault top) (elements_of exts top) (c.in_ok-check_classes.ensures.alike top at.0) element
+    (subst (In element) at.1 here))
     ∙ ap (λ (e : CellExt). length e.classes)
-    (sym (get_or_from_slice_get exts root top c.index-exts-root.result is) ∙ sym c.index-exts-root.is)
+    (sym (get_or_from_slice_get exts c.args.root top c.index-exts-root.result at.0) ∙ sym c.index-exts-root.is)
 
 pub circuit_of-requires-clause-few_nodes : goal.circuit_of-requires-clause-few_nodes
 circuit_of-requires-clause-few_nodes g c =
-    let exts = c.args.exts.now in
-    let root = c.args.root in
-    let names = c.args.names.now in
-    let inside : root < length exts = (let a = c.requires.names.root in let b = c.requires.root in let same = ap length c.requires.exts in
-    omega (arith, a, b, same)) in
-    let top : CellExt = get_or exts root no_ext in
-    let is : slice_get exts root ≡ Some top = slice_get-get_or exts root no_ext inside in
-    let elements = elements_at_root names exts c.requires.exts root c.requires.root top is in
-    let P : List Element → Type 0 = λ l. node_count l ≤ MOST_NODES in
-    subst P (sym elements) (few_nodes exts top (c.requires.few top is))
+    let at = root_here c.requires.names c.requires.exts c.requires.root no_element.ext in
+    subst (λ (l : List Element). node_count l ≤ MOST_NODES) (sym at.1) (few_nodes c.args.exts.now _ (c.requires.few _ at.0))
 
 pub circuit_of-requires-clause-few_merges : goal.circuit_of-requires-clause-few_merges
 circuit_of-requires-clause-few_merges g c =
-    let exts = c.args.exts.now in
-    let root = c.args.root in
-    let names = c.args.names.now in
-    let inside : root < length exts = (let a = c.requires.names.root in let b = c.requires.root in let same = ap length c.requires.exts in
-    omega (arith, a, b, same)) in
-    let top : CellExt = get_or exts root no_ext in
-    let is : slice_get exts root ≡ Some top = slice_get-get_or exts root no_ext inside in
-    let elements = elements_at_root names exts c.requires.exts root c.requires.root top is in
-    let P : List Element → Type 0 = λ l. merge_count l ≤ MOST_MERGES in
-    subst P (sym elements) (few_merges exts top (c.requires.few top is))
+    let at = root_here c.requires.names c.requires.exts c.requires.root no_element.ext in
+    subst (λ (l : List Element). merge_count l ≤ MOST_MERGES) (sym at.1) (few_merges c.args.exts.now _ (c.requires.few _ at.0))
 
 pub returns-clause-meaning : goal.returns-clause-meaning
 returns-clause-meaning g c =

@@ -20,41 +20,27 @@ node_of-number-requires-clause-spot c = (
       c.loop-at-test.true c.index-nodes-at.result c.index-nodes-at.is (Local 0),
 )
 
-pub add_amounts-requires-clause-long : goal.add_amounts-requires-clause-long
-add_amounts-requires-clause-long c =
-    let labels = c.args.labels.now in
-    let nodes = c.args.nodes.now in
-    let node = c.index-nodes-at.result in
-    let f = node_addend c.requires.names.list labels (element_at c.args.names.now c.args.element) in
-    (step_fits f nodes c.loop-at.at node c.index-nodes-at.is c.loop-at-test.true labels c.requires.room.0 c.args.sums.now c.loop-at.sums
-    c.requires.below c.loop-at.invariant.long c.node_of-number.result c.node_of-number.ensures.label c.index-sums-number.result c.requires.room.1.1
-    (c.loop-at.invariant.adds c.requires.names.list c.requires.names.is_list) c.items.result.now c.items.ensures c.requires.room.1.0).long
-
-pub add_amounts-requires-clause-fit : goal.add_amounts-requires-clause-fit
-add_amounts-requires-clause-fit c =
-    let labels = c.args.labels.now in
-    let nodes = c.args.nodes.now in
-    let node = c.index-nodes-at.result in
-    let f = node_addend c.requires.names.list labels (element_at c.args.names.now c.args.element) in
-    (step_fits f nodes c.loop-at.at node c.index-nodes-at.is c.loop-at-test.true labels c.requires.room.0 c.args.sums.now c.loop-at.sums
-    c.requires.below c.loop-at.invariant.long c.node_of-number.result c.node_of-number.ensures.label c.index-sums-number.result c.requires.room.1.1
-    (c.loop-at.invariant.adds c.requires.names.list c.requires.names.is_list) c.items.result.now c.items.ensures c.requires.room.1.0).fit
+pub add_amounts-requires : goal.add_amounts-requires
+add_amounts-requires c =
+    let are = c.requires.names in
+    let fits = step_fits (node_addend are.list c.args.labels.now (element_at c.args.names.now c.args.element)) c.args.nodes.now c.loop-at.at c.index-nodes-at.is
+    c.loop-at-test.true c.args.labels.now c.args.sums.now c.requires.below c.loop-at.invariant.long c.node_of-number.ensures.label c.index-sums-number.result
+    c.requires.room (c.loop-at.invariant.adds are.list are.is_list) c.items.ensures in
+    record { long = fits.long; fit = fits.fit }
 
 pub loop-at-preserved : goal.loop-at-preserved
 loop-at-preserved c = record {
   long = length-set c.loop-at.sums c.node_of-number.result c.add_amounts.new.sum ∙ c.loop-at.invariant.long;
   adds = λ list is_list.
-      (let labels = c.args.labels.now in
-      let nodes = c.args.nodes.now in
+      (let nodes = c.args.nodes.now in
       let node = c.index-nodes-at.result in
-      let f = node_addend list labels (element_at c.args.names.now c.args.element) in
       let is_spot = AreAlong-at (IsSpotOf c.args.names.now (cell_at c.args.names.now c.args.element)) name_of nodes c.args.spots.now c.requires.spots
       c.loop-at.at
       c.loop-at-test.true node c.index-nodes-at.is (Local 0) in
-      step_adds f nodes c.loop-at.at node c.index-nodes-at.is c.loop-at-test.true labels c.requires.room.0 c.args.sums.now c.loop-at.sums
-      c.requires.below c.loop-at.invariant.long c.node_of-number.result c.node_of-number.ensures.label c.index-sums-number.result c.requires.room.1.1
-      (c.loop-at.invariant.adds list is_list) c.items.result.now c.items.ensures
-      (c.node_of-number.ensures.node list is_list node.name is_spot) c.add_amounts.new.sum c.add_amounts.ensures);
+      step_adds (node_addend list c.args.labels.now (element_at c.args.names.now c.args.element)) nodes c.loop-at.at c.index-nodes-at.is c.loop-at-test.true
+      c.args.labels.now c.args.sums.now c.requires.below c.loop-at.invariant.long c.node_of-number.ensures.label c.index-sums-number.result c.requires.room
+      (c.loop-at.invariant.adds list is_list) c.items.ensures (c.node_of-number.ensures.node list is_list node.name is_spot)
+      c.add_amounts.new.sum c.add_amounts.ensures);
 }
 
 pub returns : goal.returns
