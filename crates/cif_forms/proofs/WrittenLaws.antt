@@ -125,16 +125,12 @@ moves_in-said (Toward p q ∷ moves) = ap (λ rest. Toward p q ∷ rest) (moves_
 goes_on-said : (moves : List SaidMove) → goes_on (flat_map step_said moves) ≡ false
 goes_on-said [] = refl
 goes_on-said (Shift x y ∷ moves) = goes_on-said moves
-goes_on-said (MirrorX ∷ moves) = goes_on-said moves
-goes_on-said (MirrorY ∷ moves) = goes_on-said moves
-goes_on-said (Toward p q ∷ moves) = goes_on-said moves
+goes_on-said (move ∷ moves) = goes_on-said moves
 
 is_broken-said : (moves : List SaidMove) → list_any is_broken (flat_map step_said moves) ≡ false
 is_broken-said [] = refl
 is_broken-said (Shift x y ∷ moves) = is_broken-said moves
-is_broken-said (MirrorX ∷ moves) = is_broken-said moves
-is_broken-said (MirrorY ∷ moves) = is_broken-said moves
-is_broken-said (Toward p q ∷ moves) = is_broken-said moves
+is_broken-said (move ∷ moves) = is_broken-said moves
 
 said_by-call : (n : ℤ) (moves : List SaidMove) → said_by (C ∷ Number n ∷ flat_map step_said moves) ≡ Call n moves false
 said_by-call n moves =

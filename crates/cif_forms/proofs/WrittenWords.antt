@@ -60,11 +60,8 @@ numerals-one byte (next ∷ bytes) all =
     ∙ ap (onto_first byte) (numerals-one next bytes parts.1))
 
 letter_if : (digit minus upper mark : Bool) → upper ≡ true → not (digit || minus || upper || mark) ≡ false
-letter_if true true upper mark is = refl
-letter_if true false upper mark is = refl
-letter_if false true upper mark is = refl
-letter_if false false true mark is = refl
 letter_if false false false mark is = absurd (cc)
+letter_if _ _ _ mark is = refl
 
 none_behind : (numeral : Bool) (one other : List (List ℕ)) → cond (numeral && false) one other ≡ other
 none_behind true one other = refl

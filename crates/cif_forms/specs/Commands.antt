@@ -34,16 +34,6 @@ trimmed bytes = without_last_blanks (from_first_word bytes)
 abbrev pub layer_said : List ℕ → CifCommand
 layer_said name = Layer (if is_layer_name name then Some name else None)
 
--- a number stands first
-abbrev pub begins_with_number : List CifWord → Bool
-begins_with_number (Number x ∷ words) = true
-begins_with_number words = false
-
--- two numbers stand first
-abbrev pub begins_with_two_numbers : List CifWord → Bool
-begins_with_two_numbers (Number x ∷ Number y ∷ words) = true
-begins_with_two_numbers words = false
-
 -- the steps that words begin with
 abbrev pub moves_in : List CifWord → List SaidMove
 moves_in (M ∷ X ∷ words) = MirrorX ∷ moves_in words

@@ -8,8 +8,7 @@
 //! Comments are taken out by one walk over the bytes (`specs/Comments.antt`), which keeps the place of each byte and each line feed, so that
 //! lines may be counted afterwards. What is left is split at its semicolons (`specs/Cutting.antt`). The loop over commands keeps one
 //! equation: what the rest of the text makes of the present state is what the text makes of the first one. Words are found from
-//! the front, each by one law (`proofs/WordLaws.antt`), and what they say is read word by word, where `proofs/FormLaws.antt` says what words
-//! say that lack the numbers of a form.
+//! the front, each by one law (`proofs/WordLaws.antt`), and what they say is read off them by patterns.
 //!
 //! What is written is read again (`src/laws.rt`). A written text has no comment and is split into the commands that it was made of, so that
 //! reading it is one fold over them (`proofs/WrittenTexts.antt`). The words of a line are those of its parts, and the text of a number is one
