@@ -104,7 +104,8 @@ returns-clause-few c =
     let records = c.in_ok-records.records.items in
     let here = (goal.at.returns-clause-few c).After-check_bytes in
     few_bytes c.args.exts.now c.args.root c.args.tree.now c.requires.records c.requires.root c.requires.tree c.in_ok-cells.field-0.cells.items
-    c.in_ok-cells.field-0.firsts.items c.in_ok-cells.ensures.reached records (all_named here) c.in_ok-globals.globals.items (globals_made here) (few_bytes_of (goal.at.returns-clause-few c).After-all_places)
+    c.in_ok-cells.field-0.firsts.items c.in_ok-cells.ensures.reached records (all_named here) c.in_ok-globals.globals.items (globals_made here)
+    (few_bytes_of (goal.at.returns-clause-few c).After-all_places)
 
 pub returns-clause-names : goal.returns-clause-names
 returns-clause-names c =
