@@ -89,8 +89,7 @@ module _ (cells : List TreeCell) (book : SizeBook) (whole : IsWhole cells book) 
   old_above first is low up stay within = (within, omega arith)
   old_above first is low up (go {b = user} uses rest) within =
       let above = old_above first is user up rest within in
-      let deeper = user_is_deeper (states cells) book.sizes.items whole.lawful.cells whole.lawful.sizes user low
-      (old_uses user low (omega (arith, above.0, is, length-states cells)) uses) in
+      let deeper = user_is_deeper whole.lawful.cells whole.lawful.sizes user low (old_uses user low (omega (arith, above.0, is, length-states cells)) uses) in
       (old_children first is user low above.0 uses, omega (arith, above.1, deeper))
 
   -- and none of them stands below itself
@@ -98,7 +97,7 @@ module _ (cells : List TreeCell) (book : SizeBook) (whole : IsWhole cells book) 
   old_acyclic first is key low below =
       let child = old_children first is key below.child low below.used in
       let above = old_above first is key below.child below.above child in
-      let deeper = user_is_deeper (states cells) book.sizes.items whole.lawful.cells whole.lawful.sizes key below.child
+      let deeper = user_is_deeper whole.lawful.cells whole.lawful.sizes key below.child
       (old_uses key below.child (omega (arith, low, is, length-states cells)) below.used) in
       omega (arith, above.1, deeper)
 

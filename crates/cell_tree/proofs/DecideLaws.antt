@@ -7,8 +7,8 @@ use Rattle.cell_tree.specs.declared.sizes.Size.{Size}
 use Rattle.cell_tree.specs.declared.use_tables.UseBody.{UseBody}
 use Rattle.cell_tree.specs.Sizes.{CellState, size_at}
 use Rattle.cell_tree.specs.Cells.{Uses, IsAbove}
-use Rattle.cell_tree.specs.Trials.{AreLawfulCells, AreLawfulSizes}
-use Rattle.cell_tree.proofs.EditLaws.{user_is_deeper, user_above}
+use Rattle.cell_tree.specs.Trials.{IsTried, AreLawfulCells, AreLawfulSizes}
+use Rattle.cell_tree.proofs.EditLaws.{user_is_deeper, user_above, tried_exists}
 
 -- a use with a child of some kind
 record FindsUse (P : ℕ → Type 0) (uses : List (List ℕ × UseBody)) : Type 0 where
@@ -49,7 +49,7 @@ last_step cells low up (go {b = user} step rest) =
       | inr last ↦ inr (record { mid = last.mid; below = go step last.below; uses = last.uses })
     ]
 
-module _ (cells : List CellState) (sizes : List Size) (lawful : AreLawfulCells cells) (sound : AreLawfulSizes cells sizes) (low : ℕ) where
+module _ {cells : List CellState} {sizes : List Size} (lawful : AreLawfulCells cells) (sound : AreLawfulSizes cells sizes) (low : ℕ) where
   tell_below : (bound key : ℕ) → (size_at sizes key).depth < bound → IsAbove cells low key ⊎ (IsAbove cells low key → ⊥)
   tell_below zero key deep = absurd (omega (arith, deep))
   tell_below (suc bound) key deep =
@@ -67,7 +67,7 @@ module _ (cells : List CellState) (sizes : List Size) (lawful : AreLawfulCells c
               tell_below bound entry.1.child.0 (omega (
                 arith,
                 deep,
-                user_is_deeper cells sizes lawful sound key entry.1.child.0
+                user_is_deeper lawful sound key entry.1.child.0
                     (record { cell = cell; is = is; k = k; entry = entry; stands = stands; child = refl }),
               )))) [
                 | inl f ↦ inl (user_above cells low f.entry.1.child.0 key f.holds
@@ -93,3 +93,7 @@ module _ (cells : List CellState) (sizes : List Size) (lawful : AreLawfulCells c
   -- it does or it doesn't
   pub above_or_not : (key : ℕ) → IsAbove cells low key ⊎ (IsAbove cells low key → ⊥)
   above_or_not key = tell_below (suc (size_at sizes key).depth) key (omega arith)
+
+  -- So there are the sizes that all cells would have, were the cell of this size.
+  pub would_have : (size : Size) → low < length cells → (tried : List Size) × (length tried ≡ length cells) × IsTried cells sizes tried low size
+  would_have size within = tried_exists lawful sound low size above_or_not within

@@ -65,7 +65,7 @@ pub user_above : (cells : List CellState) (low up user : ℕ) → IsAbove cells 
 user_above cells low up user stay uses = go uses stay
 user_above cells low up user (go {b = next} step rest) uses = go step (user_above cells next up user rest uses)
 
-module _ (cells : List CellState) (sizes : List Size) (lawful : AreLawfulCells cells) (sound : AreLawfulSizes cells sizes) where
+module _ {cells : List CellState} {sizes : List Size} (lawful : AreLawfulCells cells) (sound : AreLawfulSizes cells sizes) where
   -- A user is deeper.
   pub user_is_deeper : (user low : ℕ) → Uses cells user low → (size_at sizes low).depth < (size_at sizes user).depth
   user_is_deeper user low uses =

@@ -49,7 +49,7 @@ module _ (cells : List TreeCell) where
   lawful_ranked sizes lawful =
       record {
         within = λ key user uses. omega (arith, user_within user key (lawful.users.none key user uses), lawful.measured.count, length-states cells);
-        rises = λ key user uses. user_is_deeper (states cells) sizes lawful.uses lawful.measured user key (lawful.users.none key user uses);
+        rises = λ key user uses. user_is_deeper lawful.uses lawful.measured user key (lawful.users.none key user uses);
         most = λ key. lawful.measured.within Depth key;
       }
 

@@ -71,7 +71,7 @@ pub lawful_acyclic : (cells : List CellState) (sizes : List Size) (root : ℕ) �
     → IsAcyclicBelow (children_of cells) root
 lawful_acyclic cells sizes root lawful sound =
     acyclic_by_rank (children_of cells) (λ key. (size_at sizes key).depth) root
-    (λ parent child uses. user_is_deeper cells sizes lawful sound parent child (graph_uses cells parent child uses))
+    (λ parent child uses. user_is_deeper lawful sound parent child (graph_uses cells parent child uses))
 
 -- the children of a cell that is read
 pub used_by-read : (cells : List TreeCell) (key : ℕ) (d : TreeCell) → key < length cells

@@ -248,7 +248,7 @@ module _ {cells : List TreeCell} {book : SizeBook} (whole : IsWhole cells book) 
 
   old_free : (k : ℕ) (entry : Entry) → slice_get (cell_at (states cells) changed).uses k ≡ Some entry → IsAbove (states cells) changed entry.1.child.0 → ⊥
   old_free k entry stands =
-      child_is_not_above (states cells) book.sizes.items whole.lawful.cells whole.lawful.sizes changed entry.1.child.0 (old_uses k entry stands)
+      child_is_not_above whole.lawful.cells whole.lawful.sizes changed entry.1.child.0 (old_uses k entry stands)
 
   old_below : AreUsesBelow (length (states cells)) (cell_at (states cells) changed).uses
   old_below = whole.lawful.cells.uses changed _ was
@@ -323,7 +323,8 @@ module _ {cells : List TreeCell} {book : SizeBook} (whole : IsWhole cells book) 
 
   -- what a use placed otherwise passes first
   pub moved_refused : (k : ℕ) (used : UseBody) → IsMove (states cells) changed k used → (dimension : Dimension)
-      → WouldPassFirst dimension (states cells) book.sizes.items changed (size_of (size_at book.sizes.items) (with_use_set (cell_at (states cells) changed) k used))
+      → WouldPassFirst dimension (states cells) book.sizes.items changed (size_of (size_at book.sizes.items)
+      (with_use_set (cell_at (states cells) changed) k used))
       → RefusesMove (tree_of cells book) changed k used.placed used.grid (Passed dimension)
   moved_refused k used move Depth passes =
       never_passes whole changed inside Depth _ (omega (

@@ -19,8 +19,8 @@ use Rattle.cell_tree.specs.steps.Edits.{AreUsersKept, AreUsersBut}
 use Rattle.cell_tree.specs.steps.Passes.{WouldPassFirst}
 use Rattle.cell_tree.proofs.SizeLaws.{size_is}
 use Rattle.cell_tree.proofs.ShrinkLaws.{IsUpright, IsSmaller, AreAmong}
-use Rattle.cell_tree.proofs.EditLaws.{child_is_not_above, shrunk_within, smaller_keeps, tried_exists}
-use Rattle.cell_tree.proofs.DecideLaws.{above_or_not}
+use Rattle.cell_tree.proofs.EditLaws.{child_is_not_above, shrunk_within, smaller_keeps}
+use Rattle.cell_tree.proofs.DecideLaws.{would_have}
 use Rattle.std.proofs.lemmas.List.{length-set}
 use Rattle.std.proofs.lemmas.Option.{same_Some}
 use Rattle.finite_sets.proofs.Places.{slice_get-set_same}
@@ -68,7 +68,7 @@ module _ {cells : List TreeCell} {book : SizeBook} (whole : IsWhole cells book) 
         uses = whole.lawful.cells.uses changed _ was;
         cell = record { ids = (whole.lawful.each changed _ was).ids; own = lawful };
         free = λ k entry stands above.
-            child_is_not_above (states cells) book.sizes.items whole.lawful.cells whole.lawful.sizes changed entry.1.child.0
+            child_is_not_above whole.lawful.cells whole.lawful.sizes changed entry.1.child.0
             (record { cell = cell_at (states cells) changed; is = was; k = k; entry = entry; stands = stands; child = refl }) above;
       }
 
@@ -76,11 +76,9 @@ module _ {cells : List TreeCell} {book : SizeBook} (whole : IsWhole cells book) 
   pub never_passes : (dimension : Dimension) (size : Size) → IsSmaller dimension size (size_at book.sizes.items changed)
       → WouldPassFirst dimension (states cells) book.sizes.items changed size → ⊥
   never_passes dimension size base passes =
-      let there = tried_exists (states cells) book.sizes.items whole.lawful.cells whole.lawful.sizes changed size
-      (above_or_not (states cells) book.sizes.items whole.lawful.cells whole.lawful.sizes changed) in_states in
+      let there = would_have whole.lawful.cells whole.lawful.sizes changed size in_states in
       let first = passes there.0 there.2 in
-      first.passes (smaller_keeps (states cells) book.sizes.items whole.lawful.cells whole.lawful.sizes uprights dimension changed size there.0 base there.2
-      first.key)
+      first.passes (smaller_keeps whole.lawful.cells whole.lawful.sizes uprights dimension changed size there.0 base there.2 first.key)
 
   -- what another own box passes first is the range
   pub own_refused : (own : Option Rect) → IsLawfulOwn own → (dimension : Dimension)
@@ -101,10 +99,9 @@ module _ {cells : List TreeCell} {book : SizeBook} (whole : IsWhole cells book) 
       → AreAmong state.uses (cell_at (states cells) changed).uses
       → WouldPassFirst dimension (states cells) book.sizes.items changed (size_of (size_at book.sizes.items) state) → ⊥
   shrunk_passes state dimension within up among passes =
-      let there = tried_exists (states cells) book.sizes.items whole.lawful.cells whole.lawful.sizes changed (size_of (size_at book.sizes.items) state)
-      (above_or_not (states cells) book.sizes.items whole.lawful.cells whole.lawful.sizes changed) in_states in
+      let there = would_have whole.lawful.cells whole.lawful.sizes changed (size_of (size_at book.sizes.items) state) in_states in
       let first = passes there.0 there.2 in
-      first.passes (shrunk_within (states cells) book.sizes.items whole.lawful.cells whole.lawful.sizes uprights changed state _ there.0 was within up among
+      first.passes (shrunk_within whole.lawful.cells whole.lawful.sizes uprights changed state _ there.0 was within up among
       there.2 dimension first.key)
 
 -- An edit of one cell, for which cells and sizes were shown that are those of the tree.

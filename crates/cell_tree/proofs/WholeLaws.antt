@@ -19,8 +19,8 @@ use Rattle.cell_tree.specs.Books.{IsReady, AreLawful, IsBooked}
 use Rattle.cell_tree.specs.Whole.{tree_of, IsWhole}
 use Rattle.cell_tree.specs.steps.Edits.{AreUsersKept, AreUsersBut}
 use Rattle.cell_tree.specs.steps.Passes.{WouldPassFirst}
-use Rattle.cell_tree.proofs.EditLaws.{tried_is_right, tried_exists}
-use Rattle.cell_tree.proofs.DecideLaws.{above_or_not}
+use Rattle.cell_tree.proofs.EditLaws.{tried_is_right}
+use Rattle.cell_tree.proofs.DecideLaws.{above_or_not, would_have}
 use Rattle.cell_tree.proofs.FindLaws.{length-states}
 
 -- what a trial asks for holds of a whole tree
@@ -74,7 +74,7 @@ module _ {cells cells' : List TreeCell} {book book' : SizeBook} {changed : ℕ} 
 
   past : (key : ℕ) → stamp_at book'.stamps.items key ≤ book'.edits
   past key =
-      elim (above_or_not (states cells) book.sizes.items whole.lawful.cells whole.lawful.sizes changed key) [
+      elim (above_or_not whole.lawful.cells whole.lawful.sizes changed key) [
         | inl up ↦ omega (arith, booked.stamps.raised key up)
         | inr apart ↦ omega (arith, booked.stamps.others key apart, whole.lawful.past key, booked.edits)
       ]
@@ -96,7 +96,7 @@ module _ {cells cells' : List TreeCell} {book book' : SizeBook} {changed : ℕ} 
           sizes = record {
             count = ready.sizes ∙ sym many ∙ sym (length-states cells');
             right = subst (λ s. AreSizes s book'.sizes.items) (sym change.states)
-                (tried_is_right (states cells) book.sizes.items whole.lawful.cells whole.lawful.sizes changed state book'.sizes.items in_states lawful.free
+                (tried_is_right whole.lawful.cells whole.lawful.sizes changed state book'.sizes.items in_states lawful.free
                 booked.sizes);
             within = within;
           };
@@ -116,7 +116,7 @@ module _ {cells : List TreeCell} {book : SizeBook} {changed : ℕ} {state : Cell
       record {
         sizes = fits.tried;
         count = fits.count;
-        right = tried_is_right (states cells) book.sizes.items whole.lawful.cells whole.lawful.sizes changed state fits.tried
+        right = tried_is_right whole.lawful.cells whole.lawful.sizes changed state fits.tried
             (omega (arith, inside, length-states cells)) lawful.free fits.is_tried;
         within = fits.within;
       }
@@ -126,12 +126,11 @@ module _ {cells : List TreeCell} {book : SizeBook} {changed : ℕ} {state : Cell
       → WouldPass dimension (tree_of cells book) changed state
   would_pass dimension passes =
       let in_states : changed < length (states cells) = omega (arith, inside, length-states cells) in
-      let there = tried_exists (states cells) book.sizes.items whole.lawful.cells whole.lawful.sizes changed (size_of (size_at book.sizes.items) state)
-      (above_or_not (states cells) book.sizes.items whole.lawful.cells whole.lawful.sizes changed) in_states in
+      let there = would_have whole.lawful.cells whole.lawful.sizes changed (size_of (size_at book.sizes.items) state) in_states in
       record {
         sizes = there.0;
         count = there.1;
-        right = tried_is_right (states cells) book.sizes.items whole.lawful.cells whole.lawful.sizes changed state there.0 in_states lawful.free there.2;
+        right = tried_is_right whole.lawful.cells whole.lawful.sizes changed state there.0 in_states lawful.free there.2;
         passes = passes there.0 there.2;
       }
 

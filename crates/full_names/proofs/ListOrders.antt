@@ -1,6 +1,6 @@
 -- Lists of names in name order.
 use Rattle.std.proofs.Common.{◌≡◌, ℕ, zero, suc, ◌+◌, false, List, []}
-use Rattle.std.proofs.Common.{◌∷◌, ◌++◌, get_or, refl, ◌∙◌, ap, arith}
+use Rattle.std.proofs.Common.{◌∷◌, get_or, refl, ◌∙◌, ap, arith}
 use Rattle.std.specs.Prelude.{IsSorted}
 use Rattle.std.specs.declared.cmp.Ordering.{Ordering}
 use Rattle.std.specs.declared.cmp.Ordering.TheVariants.{Less, Equal, Greater}

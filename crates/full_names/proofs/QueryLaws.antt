@@ -16,7 +16,6 @@ use Rattle.circuit_model.specs.FullNames.{name_in}
 use Rattle.element_tree.specs.declared.tree.TreeElement.{TreeElement}
 use Rattle.element_tree.specs.Trees.{IsTreeOfElements}
 use Rattle.full_names.specs.declared.names.FullNames.{FullNames}
-use Rattle.full_names.specs.declared.names.Spot.{Spot}
 use Rattle.full_names.specs.declared.names.Spot.TheVariants.{Local, Global}
 use Rattle.full_names.specs.declared.own_names.OwnName.{OwnName}
 use Rattle.full_names.specs.declared.own_names.RecordNames.{RecordNames}

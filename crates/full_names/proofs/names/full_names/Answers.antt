@@ -15,6 +15,26 @@ use Rattle.full_names.specs.steps.Keys.{IsFitPlace, AreKeys}
 use Rattle.full_names.specs.Orders.{AreStandings}
 use Rattle.full_names.proofs.NamesMade.{of_records, firsts_within, many_bytes, few_bytes, fits, slots_below, names_made}
 use Rattle.full_names.proofs.names.full_names.Goals as goal
+use Rattle.full_names.proofs.names.full_names.Goals.{After-check_bytes, After-all_places}
+
+all_named : (c : After-check_bytes) → AreAllNames c.args.exts.now c.in_ok-cells.field-0.cells.items c.in_ok-records.records.items
+all_named c = subst (λ (cells : List Bool). AreAllNames c.args.exts.now cells c.in_ok-records.records.items) c.deref.ensures.value c.in_ok-records.ensures
+
+globals_made : (c : After-check_bytes)
+    → AreGlobalNames c.args.tree.now.elements c.in_ok-records.records.items c.in_ok-cells.field-0.firsts.items c.in_ok-globals.globals.items
+globals_made c =
+    let flats = c.args.tree.now.elements in
+    subst (λ (list : List ℕ). AreGlobalNames flats c.in_ok-records.records.items list c.in_ok-globals.globals.items) c.deref-2.ensures.value
+    (subst (λ (own : List RecordNames). AreGlobalNames flats own c.deref-2.result.now c.in_ok-globals.globals.items) c.deref-3.ensures.value
+    c.in_ok-globals.ensures)
+
+few_bytes_of : (c : After-all_places)
+    → global_bytes c.in_ok-globals.globals.items + element_bytes c.in_ok-records.records.items c.args.tree.now.elements ≤ MOST_NAME_BYTES
+few_bytes_of c =
+    let flats = c.args.tree.now.elements in
+    subst (λ (list : List GlobalName). global_bytes list + element_bytes c.in_ok-records.records.items flats ≤ MOST_NAME_BYTES) c.deref-5.ensures.value
+    (subst (λ (own : List RecordNames). global_bytes c.deref-5.result.now + element_bytes own flats ≤ MOST_NAME_BYTES) c.deref-4.ensures.value
+    c.in_ok-check_bytes.ensures.few)
 
 pub reached_records-requires : goal.reached_records-requires
 reached_records-requires c = of_records c.args.exts.now c.args.root c.args.tree.now c.requires.records c.requires.root c.requires.tree
@@ -40,10 +60,7 @@ pub returns-in_err-check_bytes-clause-fault : goal.returns-in_err-check_bytes-cl
 returns-in_err-check_bytes-clause-fault c =
     let flats = c.args.tree.now.elements in
     let records = c.in_ok-records.records.items in
-    let all = subst (λ (cells : List Bool). AreAllNames c.args.exts.now cells records) c.deref.ensures.value c.in_ok-records.ensures in
-    let globals = subst (λ (list : List ℕ). AreGlobalNames flats records list c.in_ok-globals.globals.items) c.deref-2.ensures.value
-    (subst (λ (own : List RecordNames). AreGlobalNames flats own c.deref-2.result.now c.in_ok-globals.globals.items) c.deref-3.ensures.value
-    c.in_ok-globals.ensures) in
+    let here = (goal.at.returns-in_err-check_bytes-clause-fault c).After-check_bytes in
     let many : MOST_NAME_BYTES < global_bytes c.in_ok-globals.globals.items + element_bytes records flats =
     subst (λ (list : List GlobalName). MOST_NAME_BYTES < global_bytes list + element_bytes records flats) c.deref-5.ensures.value
     (subst (λ (own : List RecordNames). MOST_NAME_BYTES < global_bytes c.deref-5.result.now + element_bytes own flats) c.deref-4.ensures.value
@@ -51,7 +68,7 @@ returns-in_err-check_bytes-clause-fault c =
     let p = err_from_is_err_and c.from_residual-in_err-check_bytes.result c.from_residual-in_err-check_bytes.ensures.1 in
     rw p.1 (inr (subst (IsNameFaultOf c.args.exts.now c.args.root) (sym (p.2 ∙ c.in_err-check_bytes.ensures.fault))
     (many_bytes c.args.exts.now c.args.root c.args.tree.now c.requires.records c.requires.root c.requires.tree c.in_ok-cells.field-0.cells.items
-    c.in_ok-cells.field-0.firsts.items c.in_ok-cells.ensures.reached records all c.in_ok-globals.globals.items globals many)))
+    c.in_ok-cells.field-0.firsts.items c.in_ok-cells.ensures.reached records (all_named here) c.in_ok-globals.globals.items (globals_made here) many)))
 
 pub all_places-requires : goal.all_places-requires
 all_places-requires c = of_records c.args.exts.now c.args.root c.args.tree.now c.requires.records c.requires.root c.requires.tree
@@ -67,15 +84,12 @@ sorted_keys-requires-clause-places c =
     let records = c.in_ok-records.records.items in
     let globals = c.in_ok-globals.globals.items in
     let made = c.in_ok-bases.field-0 in
-    let few : global_bytes globals + element_bytes records flats ≤ MOST_NAME_BYTES =
-    subst (λ (list : List GlobalName). global_bytes list + element_bytes records flats ≤ MOST_NAME_BYTES) c.deref-5.ensures.value
-    (subst (λ (own : List RecordNames). global_bytes c.deref-5.result.now + element_bytes own flats ≤ MOST_NAME_BYTES) c.deref-4.ensures.value
-    c.in_ok-check_bytes.ensures.few) in
+    let here = (goal.at.sorted_keys-requires-clause-places c).After-all_places in
     let placed = subst (λ (own : List RecordNames). ArePlaces flats own made.bases.items made.places.items) c.deref-6.ensures.value c.in_ok-bases.ensures in
     subst (λ (places : List Place). All (IsFitPlace flats c.deref-7.result.now) places) (sym c.deref-8.ensures.value)
     (subst (λ (own : List RecordNames). All (IsFitPlace flats own) made.places.items) (sym c.deref-7.ensures.value)
     (fits c.args.exts.now c.args.root c.args.tree.now c.requires.records c.requires.root c.requires.tree records globals made.bases.items made.places.items
-    few placed))
+    (few_bytes_of here) placed))
 
 pub standings-requires : goal.standings-requires
 standings-requires c =
@@ -88,16 +102,10 @@ pub returns-clause-few : goal.returns-clause-few
 returns-clause-few c =
     let flats = c.args.tree.now.elements in
     let records = c.in_ok-records.records.items in
-    let all = subst (λ (cells : List Bool). AreAllNames c.args.exts.now cells records) c.deref.ensures.value c.in_ok-records.ensures in
-    let globals = subst (λ (list : List ℕ). AreGlobalNames flats records list c.in_ok-globals.globals.items) c.deref-2.ensures.value
-    (subst (λ (own : List RecordNames). AreGlobalNames flats own c.deref-2.result.now c.in_ok-globals.globals.items) c.deref-3.ensures.value
-    c.in_ok-globals.ensures) in
-    let few : global_bytes c.in_ok-globals.globals.items + element_bytes records flats ≤ MOST_NAME_BYTES =
-    subst (λ (list : List GlobalName). global_bytes list + element_bytes records flats ≤ MOST_NAME_BYTES) c.deref-5.ensures.value
-    (subst (λ (own : List RecordNames). global_bytes c.deref-5.result.now + element_bytes own flats ≤ MOST_NAME_BYTES) c.deref-4.ensures.value
-    c.in_ok-check_bytes.ensures.few) in
+    let here = (goal.at.returns-clause-few c).After-check_bytes in
     few_bytes c.args.exts.now c.args.root c.args.tree.now c.requires.records c.requires.root c.requires.tree c.in_ok-cells.field-0.cells.items
-    c.in_ok-cells.field-0.firsts.items c.in_ok-cells.ensures.reached records all c.in_ok-globals.globals.items globals few
+    c.in_ok-cells.field-0.firsts.items c.in_ok-cells.ensures.reached records (all_named here) c.in_ok-globals.globals.items (globals_made here)
+    (few_bytes_of (goal.at.returns-clause-few c).After-all_places)
 
 pub returns-clause-names : goal.returns-clause-names
 returns-clause-names c =
@@ -112,9 +120,8 @@ returns-clause-names c =
       inside = c.requires.root;
       of = c.requires.tree;
       reached = c.in_ok-cells.ensures.reached;
-      records_are = subst (λ (cells : List Bool). AreAllNames c.args.exts.now cells records.items) c.deref.ensures.value c.in_ok-records.ensures;
-      globals_are = subst (λ (list : List ℕ). AreGlobalNames flats records.items list globals.items) c.deref-2.ensures.value
-          (subst (λ (own : List RecordNames). AreGlobalNames flats own c.deref-2.result.now globals.items) c.deref-3.ensures.value c.in_ok-globals.ensures);
+      records_are = all_named (goal.at.returns-clause-names c).After-check_bytes;
+      globals_are = globals_made (goal.at.returns-clause-names c).After-check_bytes;
       placed = subst (λ (own : List RecordNames). ArePlaces flats own made.bases.items made.places.items) c.deref-6.ensures.value c.in_ok-bases.ensures;
       keyed = subst (λ (places : List Place). AreKeys flats records.items places keys) c.deref-8.ensures.value
           (subst (λ (own : List RecordNames). AreKeys flats own c.deref-8.result.now keys) c.deref-7.ensures.value c.in_ok-keys.ensures);

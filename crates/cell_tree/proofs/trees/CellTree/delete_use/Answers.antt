@@ -49,6 +49,7 @@ invariant_of-self c =
     let here = (goal.at.invariant_of-self c).After-body in
     run_changed c.self.invariant (λ (cell : CellState). without_use cell c.args.k) c.args.cell c.as_slice-cells.ensures.value c.as_slice.ensures.value
     c.size_with_use-size.ensures c.in-Ok.ensures.booked c.as_mut_slice.ensures.value c.drop_use.ensures.states
-    (with_items_is c.self.inside.cells c.drop_use.new.cells (c.drop_use.auto.cells ∙ c.as_mut_slice.ensures.len)) c.in-Ok.ensures.limits c.grow.ensures.ready (inside here)
+    (with_items_is c.self.inside.cells c.drop_use.new.cells (c.drop_use.auto.cells ∙ c.as_mut_slice.ensures.len)) c.in-Ok.ensures.limits
+    c.grow.ensures.ready (inside here)
     (removed_lawful c.self.invariant c.args.cell (inside here) c.args.k) c.body.result.now.child.0 c.drop_use.ensures.users
     (child_removed (cell_at (states c.self.inside.cells.items) c.args.cell).uses c.args.k (found here).0 c.body.result.now (found here).1)

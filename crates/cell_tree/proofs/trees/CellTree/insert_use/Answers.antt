@@ -88,7 +88,8 @@ invariant_of-self-2 c =
     c.in-Ok.ensures.limits c.grow.ensures.ready (inside here)
     (inserted_lawful (room here).whole c.args.cell (inside here) c.args.at c.args.id.items c.args.used (may here)) c.args.used.child.0
     c.add_use.ensures.users
-    (child_inserted (cell_at (states (with_items c.self.inside.cells c.reserve_use.new.cells).items) c.args.cell).uses c.args.at (c.args.id.items, c.args.used))
+    (child_inserted (cell_at (states (with_items c.self.inside.cells c.reserve_use.new.cells).items) c.args.cell).uses c.args.at
+    (c.args.id.items, c.args.used))
 
 pub returns-clause-edited : goal.returns-clause-edited
 returns-clause-edited c =

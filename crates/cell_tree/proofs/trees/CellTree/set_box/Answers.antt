@@ -20,5 +20,6 @@ invariant_of-self-2 c =
     let inside = is_inside c.self.invariant c.self.view_is c.args.cell c.requires.within in
     run_kept c.self.invariant (λ (cell : CellState). with_own cell c.args.own) c.args.cell c.as_slice-cells.ensures.value c.as_slice.ensures.value
     c.size_with_box-size.ensures c.in-Ok.ensures.booked c.as_mut_slice.ensures.value c.set_own.ensures.states
-    (with_items_is c.self.inside.cells c.set_own.new.cells (c.set_own.auto.cells ∙ c.as_mut_slice.ensures.len)) c.in-Ok.ensures.limits c.grow.ensures.ready inside
+    (with_items_is c.self.inside.cells c.set_own.new.cells (c.set_own.auto.cells ∙ c.as_mut_slice.ensures.len)) c.in-Ok.ensures.limits
+    c.grow.ensures.ready inside
     (own_lawful c.self.invariant c.args.cell inside c.args.own c.requires.lawful) c.set_own.ensures.users (λ key. ((λ has. has), (λ has. has)))

@@ -30,8 +30,10 @@ move c =
 pub size_with_use-size-requires-clause-body : goal.size_with_use-size-requires-clause-body
 size_with_use-size-requires-clause-body c body is =
     let here = (goal.at.size_with_use-size-requires-clause-body c).After-body in
-    subst (λ (u : UseBody). IsLawfulUse u × (u.child.0 < length c.as_slice-cells.result.now)) (same_Some _ body is)
-    ((move here).lawful, omega (arith, moved_child c.self.invariant c.args.cell (inside here) c.args.k _ (move here), ap length c.as_slice-cells.ensures.value))
+    subst (λ (u : UseBody). IsLawfulUse u × (u.child.0 < length c.as_slice-cells.result.now)) (same_Some _ body is) (
+      (move here).lawful,
+      omega (arith, moved_child c.self.invariant c.args.cell (inside here) c.args.k _ (move here), ap length c.as_slice-cells.ensures.value),
+    )
 
 pub returns-in-Err-clause-refused : goal.returns-in-Err-clause-refused
 returns-in-Err-clause-refused c =
@@ -47,7 +49,8 @@ invariant_of-self-2 c =
     run_kept c.self.invariant (set here) c.args.cell
     c.as_slice-cells.ensures.value c.as_slice.ensures.value c.size_with_use-size.ensures c.in-Ok.ensures.booked c.as_mut_slice.ensures.value
     c.set_body.ensures.states
-    (with_items_is c.self.inside.cells c.set_body.new.cells (c.set_body.auto.cells ∙ c.as_mut_slice.ensures.len)) c.in-Ok.ensures.limits c.grow.ensures.ready (inside here)
+    (with_items_is c.self.inside.cells c.set_body.new.cells (c.set_body.auto.cells ∙ c.as_mut_slice.ensures.len)) c.in-Ok.ensures.limits
+    c.grow.ensures.ready (inside here)
     (moved_lawful c.self.invariant c.args.cell (inside here) c.args.k _ (move here)) c.set_body.ensures.users
     (moved_children c.self.invariant c.args.cell (inside here) c.args.k _ (move here))
 
