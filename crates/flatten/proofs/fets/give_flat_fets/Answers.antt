@@ -1,4 +1,4 @@
-use Rattle.std.proofs.Common.{◌≡◌, ◌≤◌, ◌<◌, List, ◌++◌, length, map, take, get_or, sym, ◌∙◌, ap, subst, arith, rules}
+use Rattle.std.proofs.Common.{◌≤◌, List, ◌++◌, length, map, take, sym, ◌∙◌, ap, subst, arith, rules}
 use Rattle.std.specs.Prelude.{All}
 use Rattle.ext_model.specs.declared.records.FetRec.{FetRec}
 use Rattle.ext_model.specs.declared.records.CellExt.{CellExt}
@@ -7,7 +7,6 @@ use Rattle.circuit_model.specs.Elements.{Element}
 use Rattle.circuit_model.specs.FlatFets.{fets_of}
 use Rattle.element_tree.specs.declared.tree.ElementTree.{ElementTree}
 use Rattle.full_names.specs.Names.{elements_in}
-use Rattle.flatten.proofs.FlatLimits.TreeLaws.{no_flat}
 use Rattle.flatten.specs.declared.spots.FetSpots.{FetSpots}
 use Rattle.flatten.specs.Sinks.{GivesFets}
 use Rattle.flatten.specs.steps.Spots.{AreFetSpotsOf, element_at, cell_at, no_element}

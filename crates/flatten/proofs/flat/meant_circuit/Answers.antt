@@ -1,6 +1,5 @@
-use Rattle.std.proofs.Common.{◌≡◌, ◌<◌, ◌≤◌, List, [], length, arith, get_or, sym, ◌∙◌, ap, subst}
-use Rattle.std.specs.Prelude.{Some, slice_get}
-use Rattle.std.proofs.lemmas.Option.{slice_get-get_or, get_or_from_slice_get}
+use Rattle.std.proofs.Common.{◌≤◌, List, length, get_or, sym, ◌∙◌, ap, subst}
+use Rattle.std.proofs.lemmas.Option.{get_or_from_slice_get}
 use Rattle.finite_sets.specs.Lists.{In}
 use Rattle.finite_sets.proofs.Firsts.{first_some-none_In}
 use Rattle.ext_model.specs.declared.records.CellExt.{CellExt}

@@ -1,15 +1,12 @@
-use Rattle.std.proofs.Common.{◌≡◌, ◌<◌, List, length, get_or, ◌∙◌, sym, ap, subst, rules, arith, to_z, of_z, ℤ}
+use Rattle.std.proofs.Common.{◌≡◌, get_or, ◌∙◌, sym, ap, subst, rules, to_z, of_z, ℤ}
 use Rattle.std.specs.Int.{w32, w64}
 use Rattle.std.specs.Int.RustNames.{FitsSigned}
 use Rattle.std.proofs.lemmas.Int.{to_z-of_z}
 use Rattle.geo_core.specs.declared.squares.Square.{Square}
 use Rattle.ext_model.specs.declared.records.NodeRec.{NodeRec}
-use Rattle.ext_model.specs.declared.records.CellExt.{CellExt}
-use Rattle.element_tree.specs.declared.tree.ElementTree.{ElementTree}
 use Rattle.geo_core.specs.Images.{image}
 use Rattle.circuit_model.specs.Elements.{Element, placed}
 use Rattle.flatten.proofs.FlatLimits.TreeLaws.{no_flat}
-use Rattle.flatten.specs.steps.Spots.{element_at}
 use Rattle.flatten.proofs.PlacedLaws.{IsOriginHere, origin_here, lies_in_reach, node_within, node_read}
 use Rattle.flatten.proofs.SpotLaws.{read_small}
 use Rattle.flatten.proofs.nodes.placed_node.Goals as goal

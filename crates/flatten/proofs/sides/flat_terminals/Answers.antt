@@ -1,12 +1,9 @@
-use Rattle.std.proofs.Common.{◌≡◌, ◌<◌, List, length, map, sym, ◌∙◌, ap, subst, Vec, Global}
+use Rattle.std.proofs.Common.{◌≡◌, ◌<◌, length, map, sym, ◌∙◌, ap, subst, Vec, Global}
 use Rattle.std.specs.Prelude.{All}
 use Rattle.std.proofs.lemmas.Result.{IfOk-weaker}
-use Rattle.finite_sets.proofs.Searches.{All-from_In}
 use Rattle.ext_model.specs.declared.records.TermRec.{TermRec}
-use Rattle.full_names.specs.Names.{elements_in}
 use Rattle.flatten.specs.steps.Spots.{element_at}
-use Rattle.flatten.specs.declared.sides.Side.{Side}
-use Rattle.flatten.specs.steps.Sides.{side_of, AreJoined, named_side, AreFlatTerminals}
+use Rattle.flatten.specs.steps.Sides.{named_side, AreFlatTerminals}
 use Rattle.flatten.proofs.TerminalLaws.{terminals_flat}
 use Rattle.flatten.proofs.sides.flat_terminals.Goals as goal
 

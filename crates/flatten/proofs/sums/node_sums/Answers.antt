@@ -1,11 +1,10 @@
-use Rattle.std.proofs.Common.{◌≡◌, ◌<◌, ◌+◌, ℕ, List, [], ◌++◌, length, map, take, get_or, sym, ◌∙◌, ap, subst, arith, rules, append_assoc}
+use Rattle.std.proofs.Common.{◌≡◌, ◌<◌, ℕ, List, [], ◌++◌, length, map, take, get_or, sym, ◌∙◌, ap, subst, arith, rules, append_assoc}
 use Rattle.std.specs.List.{flat_map}
 use Rattle.ext_model.specs.declared.records.NodeRec.{NodeRec}
 use Rattle.ext_model.specs.declared.records.CellExt.{CellExt}
 use Rattle.circuit_model.specs.Elements.{Element}
 use Rattle.element_tree.specs.declared.tree.ElementTree.{ElementTree}
 use Rattle.element_tree.specs.declared.tree.TreeElement.{TreeElement}
-use Rattle.full_names.specs.declared.names.Spot.{Spot}
 use Rattle.full_names.specs.declared.names.FullNames.{FullNames}
 use Rattle.full_names.specs.NameLists.{IsFullNameList}
 use Rattle.full_names.specs.Names.{elements_in}
@@ -16,7 +15,6 @@ use Rattle.name_classes.proofs.TreeLaws.{tree_of_names}
 use Rattle.flatten.proofs.FlatLimits.TreeLaws.{no_flat}
 use Rattle.flatten.specs.steps.Spots.{AreSpotsOf, element_at, cell_at, no_element}
 use Rattle.flatten.proofs.SpotLaws.{IsRead, element_read, spots_read, spots_within}
-use Rattle.flatten.specs.declared.sums.NodeSum.{NodeSum}
 use Rattle.flatten.specs.steps.Sums.{HaveSums, AddNodes, AddMerges, Addend, addends_in, node_addends, merge_addends}
 use Rattle.flatten.specs.steps.Sums.Quantity.{Capacitance, Area, Perimeter}
 use Rattle.flatten.proofs.EndLaws.{node_named, merge_named}
