@@ -206,10 +206,10 @@ steps_along names are number element flat stands cell same id branch is =
     }
 
 -- a walk with one more step
-pub walk_step : (names : FullNames) → AreNames names → (number : ℕ) (path : List ℕ) (at : ℕ) (rest first behind : List ℕ)
+pub walk_step : {names : FullNames} → AreNames names → {number : ℕ} {path : List ℕ} {at : ℕ} {rest first behind : List ℕ}
     (walk : IsWalk names number path at rest) → IsSplit rest first behind → (branch : Branch) → IsBranchOf names walk.here.cell first branch
     → IsWalk names number path (at + branch.step) behind
-walk_step names are number path at rest first behind walk split branch is =
+walk_step {names} are {number} {path} {at} {rest} {first} {behind} walk split branch is =
     let tree = tree_of_names names are in
     let now = element_at names are at walk.here walk.stands in
     let to = steps_along names are at now.0 walk.here now.1 walk.here.cell refl first branch is in
@@ -264,10 +264,10 @@ walk_within : (names : FullNames) (number : ℕ) (path : List ℕ) (at : ℕ) (r
 walk_within names number path at rest walk = slice_get_within names.tree.now.elements at walk.here walk.stands
 
 -- the end of a walk whose last name is there
-pub walk_end : (names : FullNames) → AreNames names → (number : ℕ) (path : List ℕ) (at : ℕ) (rest : List ℕ) (walk : IsWalk names number path at rest)
+pub walk_end : {names : FullNames} → AreNames names → {number : ℕ} {path : List ℕ} {at : ℕ} {rest : List ℕ} (walk : IsWalk names number path at rest)
     → slashes_in rest ≡ 0 → (spot : Spot) → IsSpotOf names walk.here.cell rest spot → (step : ℕ) → step ≡ at - number
     → IsEndFrom names number path (record { step = step; spot = spot })
-walk_end names are number path at rest walk whole spot is step steps =
+walk_end {names} are {number} {path} {at} {rest} walk whole spot is step steps =
     let same : is.record_ ≡ walk.next = slice_get-one names.exts.now walk.here.cell is.record_ walk.next is.found walk.next_record in
     let named : In rest (node_names walk.next) = subst (λ (e : CellExt). In rest (node_names e)) same is.named in
     let so_many : step ≡ walk.step = omega (arith, walk.steps, steps) in record {
@@ -294,9 +294,9 @@ walk_end names are number path at rest walk whole spot is step steps =
     }
 
 -- the end of a walk whose last name is not there
-pub walk_lost : (names : FullNames) → AreNames names → (number : ℕ) (path : List ℕ) (at : ℕ) (rest : List ℕ) (walk : IsWalk names number path at rest)
+pub walk_lost : {names : FullNames} {number : ℕ} {path : List ℕ} {at : ℕ} {rest : List ℕ} (walk : IsWalk names number path at rest)
     → slashes_in rest ≡ 0 → LacksName names walk.here.cell rest → LeadsNowhere names number path
-walk_lost names are number path at rest walk whole lacks = record {
+walk_lost {names} {rest = rest} walk whole lacks = record {
   flat = walk.start;
   ext = walk.ext;
   stands = walk.starts;
@@ -305,9 +305,9 @@ walk_lost names are number path at rest walk whole lacks = record {
 }
 
 -- the end of a walk where no use has the next name
-pub walk_stuck : (names : FullNames) → AreNames names → (number : ℕ) (path : List ℕ) (at : ℕ) (rest first behind : List ℕ)
+pub walk_stuck : {names : FullNames} {number : ℕ} {path : List ℕ} {at : ℕ} {rest first behind : List ℕ}
     (walk : IsWalk names number path at rest) → IsSplit rest first behind → LacksUse names walk.here.cell first → LeadsNowhere names number path
-walk_stuck names are number path at rest first behind walk split lacks = record {
+walk_stuck {names} {rest = rest} {first} {behind} walk split lacks = record {
   flat = walk.start;
   ext = walk.ext;
   stands = walk.starts;
@@ -316,17 +316,17 @@ walk_stuck names are number path at rest first behind walk split lacks = record 
 }
 
 -- the element of a walk as it is read
-pub walk_here : (resolver : Resolver) → IsResolver resolver → (number : ℕ) (path : List ℕ) (at : ℕ) (rest : List ℕ)
-    (walk : IsWalk resolver.names.now number path at rest) (elements : List TreeElement) → elements ≡ resolver.tree.now.elements → (d : TreeElement)
+pub walk_here : {resolver : Resolver} → IsResolver resolver → {number : ℕ} {path : List ℕ} {at : ℕ} {rest : List ℕ}
+    (walk : IsWalk resolver.names.now number path at rest) {elements : List TreeElement} → elements ≡ resolver.tree.now.elements → (d : TreeElement)
     → get_or elements at d ≡ walk.here
-walk_here resolver is number path at rest walk elements same d =
+walk_here {resolver} is {at = at} walk same d =
     ap (λ (all : List TreeElement). get_or all at d) (same ∙ ap (λ (tree : ElementTree). tree.elements) is.tree)
     ∙ get_or_from_slice_get resolver.names.now.tree.now.elements at walk.here d walk.stands
 
 -- and it is there
-pub walk_inside : (resolver : Resolver) → IsResolver resolver → (number : ℕ) (path : List ℕ) (at : ℕ) (rest : List ℕ)
-    → IsWalk resolver.names.now number path at rest → (elements : List TreeElement) → elements ≡ resolver.tree.now.elements → at < length elements
-walk_inside resolver is number path at rest walk elements same =
+pub walk_inside : {resolver : Resolver} → IsResolver resolver → {number : ℕ} {path : List ℕ} {at : ℕ} {rest : List ℕ}
+    → IsWalk resolver.names.now number path at rest → {elements : List TreeElement} → elements ≡ resolver.tree.now.elements → at < length elements
+walk_inside {resolver} is {number} {path} {at} {rest} walk same =
     omega (
       arith,
       walk_within resolver.names.now number path at rest walk,
@@ -335,19 +335,19 @@ walk_inside resolver is number path at rest walk elements same =
     )
 
 -- the record of a walk is that of an element
-pub walk_reaches : (resolver : Resolver) → IsResolver resolver → (number : ℕ) (path : List ℕ) (at : ℕ) (rest : List ℕ)
-    → IsWalk resolver.names.now number path at rest → (elements : List TreeElement) → elements ≡ resolver.tree.now.elements → (d : TreeElement)
+pub walk_reaches : {resolver : Resolver} → IsResolver resolver → {number : ℕ} {path : List ℕ} {at : ℕ} {rest : List ℕ}
+    → IsWalk resolver.names.now number path at rest → {elements : List TreeElement} → elements ≡ resolver.tree.now.elements → (d : TreeElement)
     → IsReached resolver.names.now (get_or elements at d).cell
-walk_reaches resolver is number path at rest walk elements same d =
+walk_reaches {resolver} is {at = at} walk same d =
     let names = resolver.names.now in
     let element = element_at names is.names at walk.here walk.stands in
-    subst (λ (flat : TreeElement). IsReached names flat.cell) (sym (walk_here resolver is number path at rest walk elements same d))
+    subst (λ (flat : TreeElement). IsReached names flat.cell) (sym (walk_here is walk same d))
     (reached names is.names at element.0 walk.here element.1)
 
 -- the element of a name's number as it is read
-pub name_here : (resolver : Resolver) → IsResolver resolver → (number : ℕ) (name : List ℕ) (of : IsNameOf resolver.names.now number name)
-    → (elements : List TreeElement) → elements ≡ resolver.tree.now.elements → (d : TreeElement) → get_or elements number d ≡ of.flat
-name_here resolver is number name of elements same d =
+pub name_here : {resolver : Resolver} → IsResolver resolver → {number : ℕ} {name : List ℕ} (of : IsNameOf resolver.names.now number name)
+    → {elements : List TreeElement} → elements ≡ resolver.tree.now.elements → (d : TreeElement) → get_or elements number d ≡ of.flat
+name_here {resolver} is {number} of same d =
     ap (λ (all : List TreeElement). get_or all number d) (same ∙ ap (λ (tree : ElementTree). tree.elements) is.tree)
     ∙ get_or_from_slice_get resolver.names.now.tree.now.elements number of.flat d of.stands
 
@@ -358,4 +358,4 @@ name_end names are number name of spot is =
     let walk = walk_start names are number (slice_get_within names.tree.now.elements number of.flat of.stands) name in
     let whole = slashes_in-node_name name (is_node_name-lawful of.ext (lawful_at names are of.flat.cell of.ext of.record_) name of.named) in
     let here : of.flat ≡ walk.here = slice_get-one names.tree.now.elements number of.flat walk.here of.stands walk.stands in
-    walk_end names are number name number name walk whole spot (subst (λ (f : TreeElement). IsSpotOf names f.cell name spot) here is) 0 (omega arith)
+    walk_end are walk whole spot (subst (λ (f : TreeElement). IsSpotOf names f.cell name spot) here is) 0 (omega arith)

@@ -21,22 +21,15 @@ other_classes top element apart = elim (cases_Bool (eqb (length element.ext.clas
   | inr differ ↦ ap (λ (t : Bool). cond t None (Some (Classes element.ext.cell))) differ
 ]
 
-pub offset_bounds-exts-element : goal.offset_bounds-exts-element
-offset_bounds-exts-element c =
-    let flats = c.items-element-items.result.now in
-    let i = c.loop-element.element-index in
-    let has : slice_get c.args.tree.now.elements i ≡ Some (get_or flats i no_flat) =
-    ap (λ (l : List TreeElement). slice_get l i) (sym c.items-element-items.ensures) ∙ slice_get-get_or flats i no_flat c.loop-element-test.true in
-    let within = cell_within c.args.exts.now c.args.root c.args.tree.now c.requires.root c.requires.tree (get_or flats i no_flat) i has in
-    search rules
-
 pub bounds-exts-element : goal.bounds-exts-element
 bounds-exts-element c =
     let flats = c.items-element-items.result.now in
     let i = c.loop-element.element-index in
-    let has : slice_get c.args.tree.now.elements i ≡ Some (get_or flats i no_flat) =
-    ap (λ (l : List TreeElement). slice_get l i) (sym c.items-element-items.ensures) ∙ slice_get-get_or flats i no_flat c.loop-element-test.true in
-    cell_within c.args.exts.now c.args.root c.args.tree.now c.requires.root c.requires.tree (get_or flats i no_flat) i has
+    let has = ap (λ (l : List TreeElement). slice_get l i) (sym c.items-element-items.ensures) ∙ slice_get-get_or flats i no_flat c.loop-element-test.true in
+    cell_within _ _ c.args.tree.now c.requires.root c.requires.tree (get_or flats i no_flat) i has
+
+pub offset_bounds-exts-element : goal.offset_bounds-exts-element
+offset_bounds-exts-element c = let within = bounds-exts-element c in search rules
 
 pub returns-then-items-classes-clause-fault : goal.returns-then-items-classes-clause-fault
 returns-then-items-classes-clause-fault c = elim c.class_fault.ensures [

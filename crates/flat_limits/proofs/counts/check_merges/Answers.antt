@@ -12,17 +12,14 @@ size_of ext = length ext.merges
 
 pub is_past-requires : goal.is_past-requires
 is_past-requires c =
-    size_within size_of c.args.exts.now c.args.root c.args.tree.now c.requires.root c.requires.tree c.as_slice.result.now
-    (c.as_slice.ensures.value ∙ c.in_ok-sizes.ensures) c.items.result.now c.items.ensures
+    size_within size_of _ _ _ c.requires.root c.requires.tree _ (c.as_slice.ensures.value ∙ c.in_ok-sizes.ensures) _ c.items.ensures
 
 pub returns-then-is_past-clause-fault : goal.returns-then-is_past-clause-fault
 returns-then-is_past-clause-fault c = inr (λ top is.
-    past_is size_of c.args.exts.now c.args.root c.args.tree.now c.requires.tree c.as_slice.result.now (c.as_slice.ensures.value ∙ c.in_ok-sizes.ensures)
-    c.items.result.now c.items.ensures MOST_MERGES Merges c.is_past.result c.is_past.ensures top is
+    past_is size_of _ _ _ c.requires.tree _ (c.as_slice.ensures.value ∙ c.in_ok-sizes.ensures) _ c.items.ensures MOST_MERGES Merges _ c.is_past.ensures top is
     ∙ ap (λ (t : Bool). cond t (Some (TooMany Merges)) None) c.if-is_past.true)
 
 pub returns-clause-few : goal.returns-clause-few
 returns-clause-few c top is =
-    past_is size_of c.args.exts.now c.args.root c.args.tree.now c.requires.tree c.as_slice.result.now (c.as_slice.ensures.value ∙ c.in_ok-sizes.ensures)
-    c.items.result.now c.items.ensures MOST_MERGES Merges c.is_past.result c.is_past.ensures top is
+    past_is size_of _ _ _ c.requires.tree _ (c.as_slice.ensures.value ∙ c.in_ok-sizes.ensures) _ c.items.ensures MOST_MERGES Merges _ c.is_past.ensures top is
     ∙ ap (λ (t : Bool). cond t (Some (TooMany Merges)) None) c.if-is_past.false

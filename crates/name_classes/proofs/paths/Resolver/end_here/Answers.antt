@@ -25,14 +25,14 @@ spot-requires-clause-reached c =
     let names = c.args.self.now.names.now in
     let is = c.requires.resolver in
     let named = c.requires.named in
-    let here = name_here c.args.self.now is c.args.number c.args.name.now named c.items.result.now c.items.ensures _ in
+    let here = name_here is named c.items.ensures _ in
     let element = element_at names is.names c.args.number named.flat named.stands in
     subst (λ (flat : TreeElement). IsReached names flat.cell) (sym here) (reached names is.names c.args.number element.0 named.flat element.1)
 
 pub unreachable-requires : goal.unreachable-requires
 unreachable-requires c =
     let named = c.requires.named in
-    let here = name_here c.args.self.now c.requires.resolver c.args.number c.args.name.now named c.items.result.now c.items.ensures _ in
+    let here = name_here c.requires.resolver named c.items.ensures _ in
     let lacks = subst (λ (flat : TreeElement). LacksName c.args.self.now.names.now flat.cell c.args.name.now) here c.in-None.ensures.none in
     lacks named.ext named.record_ named.named
 
@@ -41,6 +41,6 @@ returns c =
     let names = c.args.self.now.names.now in
     let is = c.requires.resolver in
     let named = c.requires.named in
-    let here = name_here c.args.self.now is c.args.number c.args.name.now named c.items.result.now c.items.ensures _ in
+    let here = name_here is named c.items.ensures _ in
     let spot = subst (λ (flat : TreeElement). IsSpotOf names flat.cell c.args.name.now c.in-Some.spot) here c.in-Some.ensures.some in
     name_end names is.names c.args.number c.args.name.now named c.in-Some.spot spot

@@ -14,75 +14,49 @@ loop-id-init c =
     walk_start c.args.self.now.names.now is.names c.args.number within c.args.path.now
 
 pub bounds-elements-at : goal.bounds-elements-at
-bounds-elements-at c =
-    walk_inside c.args.self.now c.requires.resolver c.args.number c.args.path.now c.loop-id.at c.loop-id.rest.now c.loop-id.invariant
-    c.items-elements.result.now c.items-elements.ensures
+bounds-elements-at c = walk_inside c.requires.resolver c.loop-id.invariant c.items-elements.ensures
 
 pub offset_bounds-elements-at : goal.offset_bounds-elements-at
 offset_bounds-elements-at c = let within = bounds-elements-at c in omega (arith, within, c.items-elements.type_inv)
 
 pub branch-self-requires-clause-reached : goal.branch-self-requires-clause-reached
-branch-self-requires-clause-reached c =
-    walk_reaches c.args.self.now c.requires.resolver c.args.number c.args.path.now c.loop-id.at c.loop-id.rest.now c.loop-id.invariant
-    c.items-elements.result.now c.items-elements.ensures _
+branch-self-requires-clause-reached c = walk_reaches c.requires.resolver c.loop-id.invariant c.items-elements.ensures _
 
 pub returns-in_err-at-clause-none : goal.returns-in_err-at-clause-none
 returns-in_err-at-clause-none c =
-    let names = c.args.self.now.names.now in
-    let walk = c.loop-id.invariant in
-    let here = walk_here c.args.self.now c.requires.resolver c.args.number c.args.path.now c.loop-id.at c.loop-id.rest.now walk
-    c.items-elements.result.now c.items-elements.ensures _ in
-    let lacks = subst (λ (flat : TreeElement). LacksUse names flat.cell c.in-Some.id.now) here c.in_err-at.ensures.none in
-    rw c.from_residual.ensures
-    (walk_stuck names c.requires.resolver.names c.args.number c.args.path.now c.loop-id.at c.loop-id.rest.now c.in-Some.id.now c.in-Some.behind.now walk
-    c.in-Some.ensures.some lacks)
+    let here = walk_here c.requires.resolver c.loop-id.invariant c.items-elements.ensures _ in
+    rw c.from_residual.ensures (walk_stuck c.loop-id.invariant c.in-Some.ensures.some
+    (subst (λ (flat : TreeElement). LacksUse c.args.self.now.names.now flat.cell c.in-Some.id.now) here c.in_err-at.ensures.none))
 
 pub loop-id-preserved : goal.loop-id-preserved
 loop-id-preserved c =
-    let names = c.args.self.now.names.now in
-    let walk = c.loop-id.invariant in
-    let here = walk_here c.args.self.now c.requires.resolver c.args.number c.args.path.now c.loop-id.at c.loop-id.rest.now walk
-    c.items-elements.result.now c.items-elements.ensures _ in
-    let branch = subst (λ (flat : TreeElement). IsBranchOf names flat.cell c.in-Some.id.now c.in_ok-at.field-0) here c.in_ok-at.ensures.some in
-    walk_step names c.requires.resolver.names c.args.number c.args.path.now c.loop-id.at c.loop-id.rest.now c.in-Some.id.now c.in-Some.behind.now walk
-    c.in-Some.ensures.some c.in_ok-at.field-0 branch
+    let here = walk_here c.requires.resolver c.loop-id.invariant c.items-elements.ensures _ in
+    walk_step c.requires.resolver.names c.loop-id.invariant c.in-Some.ensures.some c.in_ok-at.field-0
+    (subst (λ (flat : TreeElement). IsBranchOf c.args.self.now.names.now flat.cell c.in-Some.id.now c.in_ok-at.field-0) here c.in_ok-at.ensures.some)
 
 pub overflow_add-at : goal.overflow_add-at
 overflow_add-at c =
-    let next = loop-id-preserved c in
-    let within = walk_inside c.args.self.now c.requires.resolver c.args.number c.args.path.now (c.loop-id.at + c.in_ok-at.field-0.step)
-    c.in-Some.behind.now next c.items-elements.result.now c.items-elements.ensures in
+    let within = walk_inside c.requires.resolver (loop-id-preserved c) c.items-elements.ensures in
     omega (arith, within, c.items-elements.type_inv)
 
 pub bounds-elements-at-2 : goal.bounds-elements-at-2
-bounds-elements-at-2 c =
-    walk_inside c.args.self.now c.requires.resolver c.args.number c.args.path.now c.loop-id.at c.loop-id.rest.now c.loop-id.invariant
-    c.items-elements.result.now c.items-elements.ensures
+bounds-elements-at-2 c = walk_inside c.requires.resolver c.loop-id.invariant c.items-elements.ensures
 
 pub offset_bounds-elements-at-2 : goal.offset_bounds-elements-at-2
 offset_bounds-elements-at-2 c = let within = bounds-elements-at-2 c in omega (arith, within, c.items-elements.type_inv)
 
 pub spot-requires-clause-reached : goal.spot-requires-clause-reached
-spot-requires-clause-reached c =
-    walk_reaches c.args.self.now c.requires.resolver c.args.number c.args.path.now c.loop-id.at c.loop-id.rest.now c.loop-id.invariant
-    c.items-elements.result.now c.items-elements.ensures _
+spot-requires-clause-reached c = walk_reaches c.requires.resolver c.loop-id.invariant c.items-elements.ensures _
 
 pub returns-in_err-spot-clause-none : goal.returns-in_err-spot-clause-none
 returns-in_err-spot-clause-none c =
-    let names = c.args.self.now.names.now in
-    let walk = c.loop-id.invariant in
-    let here = walk_here c.args.self.now c.requires.resolver c.args.number c.args.path.now c.loop-id.at c.loop-id.rest.now walk
-    c.items-elements.result.now c.items-elements.ensures _ in
-    let lacks = subst (λ (flat : TreeElement). LacksName names flat.cell c.loop-id.rest.now) here c.in_err-spot.ensures.none in
-    rw c.from_residual-in_err-spot.ensures
-    (walk_lost names c.requires.resolver.names c.args.number c.args.path.now c.loop-id.at c.loop-id.rest.now walk c.in_default.ensures.none lacks)
+    let here = walk_here c.requires.resolver c.loop-id.invariant c.items-elements.ensures _ in
+    rw c.from_residual-in_err-spot.ensures (walk_lost c.loop-id.invariant c.in_default.ensures.none
+    (subst (λ (flat : TreeElement). LacksName c.args.self.now.names.now flat.cell c.loop-id.rest.now) here c.in_err-spot.ensures.none))
 
 pub returns-clause-some : goal.returns-clause-some
 returns-clause-some c =
-    let names = c.args.self.now.names.now in
-    let walk = c.loop-id.invariant in
-    let here = walk_here c.args.self.now c.requires.resolver c.args.number c.args.path.now c.loop-id.at c.loop-id.rest.now walk
-    c.items-elements.result.now c.items-elements.ensures _ in
-    let spot = subst (λ (flat : TreeElement). IsSpotOf names flat.cell c.loop-id.rest.now c.in_ok-spot.spot) here c.in_ok-spot.ensures.some in
-    walk_end names c.requires.resolver.names c.args.number c.args.path.now c.loop-id.at c.loop-id.rest.now walk c.in_default.ensures.none c.in_ok-spot.spot spot
-    (c.loop-id.at - c.args.number) refl
+    let here = walk_here c.requires.resolver c.loop-id.invariant c.items-elements.ensures _ in
+    let spot = subst (λ (flat : TreeElement). IsSpotOf c.args.self.now.names.now flat.cell c.loop-id.rest.now c.in_ok-spot.spot) here
+    c.in_ok-spot.ensures.some in
+    walk_end c.requires.resolver.names c.loop-id.invariant c.in_default.ensures.none c.in_ok-spot.spot spot (c.loop-id.at - c.args.number) refl
