@@ -50,19 +50,14 @@ pub record IsPending (draft : Draft) : Type 0 where
   pub new : has_id draft.pending.id draft.uses ≡ false
 
 abbrev IsPendingIn : UsePart → Draft → Type 0
-IsPendingIn Named draft = IsPending draft
-IsPendingIn Arrayed draft = IsPending draft
-IsPendingIn Dated draft = IsPending draft
 IsPendingIn Placed draft = Unit {0}
+IsPendingIn part draft = IsPending draft
 
 -- what the section adds: the layer of a group is the technology's, and the use that is being read is of its form
 abbrev IsInPlace : RawTech → Section → Draft → Type 0
-IsInPlace raw Start draft = Unit {0}
-IsInPlace raw (Header seen) draft = Unit {0}
 IsInPlace raw (Inside group) draft = IsGoodGroup raw group
 IsInPlace raw (InUse part) draft = IsPendingIn part draft
-IsInPlace raw Between draft = Unit {0}
-IsInPlace raw Ended draft = Unit {0}
+IsInPlace raw section draft = Unit {0}
 
 -- what was read so far is lawful
 pub record HasLawful (raw : RawTech) (draft : Draft) : Type 0 where
@@ -112,26 +107,17 @@ unless_good P true fault found good = tt
 unless_good P false fault found good = good refl
 
 opens-lawful : (raw : RawTech) (draft : Draft) (said : MagLine) → HasLawful raw draft → IsGoodLine raw said → IfOk (opens draft said) (IsLawfulDraft raw)
-opens-lawful raw draft Nothing has good = tt
-opens-lawful raw draft Tech has good = tt
-opens-lawful raw draft (Timestamp time) has good = tt
-opens-lawful raw draft (Scale scale) has good = tt
 opens-lawful raw draft (Group group) has good =
     then_good (IsLawfulDraft raw) (IsGoodGroup raw) group (λ group. Ok (record draft { section = Inside group })) good
     (λ group is. record { has = kept raw draft (Inside group) draft.pending has; place = is })
 opens-lawful raw draft End has good = record { has = kept raw draft Ended draft.pending has; place = tt }
-opens-lawful raw draft (Area area) has good = tt
-opens-lawful raw draft (Label label) has good = tt
 opens-lawful raw draft (Use cell id) has good =
     unless_good (IsLawfulDraft raw) (has_id id draft.uses) UseTwice _
     (λ new. record { has = kept raw draft (InUse Named) (use_named cell id) has; place = record { cell = good.0; id = good.1; grid = tt; new = new } })
-opens-lawful raw draft (Array grid) has good = tt
-opens-lawful raw draft (Transform six) has good = tt
-opens-lawful raw draft Box has good = tt
+opens-lawful raw draft said has good = tt
 
 header-lawful : (raw : RawTech) (seen : Seen) (draft : Draft) (said : MagLine) → HasLawful raw draft → IsGoodLine raw said
     → IfOk (takes_in_header seen draft said) (IsLawfulDraft raw)
-header-lawful raw seen draft Nothing has good = tt
 header-lawful raw seen draft Tech has good =
     unless_good (IsLawfulDraft raw) seen.tech BadLine _
     (λ new. record { has = kept raw draft (Header (record seen { tech = true })) draft.pending has; place = tt })
@@ -144,14 +130,7 @@ header-lawful raw seen draft (Scale scale) has good =
       has = record { drawn = has.drawn; uses = has.uses; ids_differ = has.ids_differ; labels = has.labels; numerator = is.0; denominator = is.1 };
       place = tt;
     }))
-header-lawful raw seen draft (Group group) has good = opens-lawful raw draft (Group group) has good
-header-lawful raw seen draft End has good = opens-lawful raw draft End has good
-header-lawful raw seen draft (Area area) has good = tt
-header-lawful raw seen draft (Label label) has good = tt
-header-lawful raw seen draft (Use cell id) has good = opens-lawful raw draft (Use cell id) has good
-header-lawful raw seen draft (Array grid) has good = tt
-header-lawful raw seen draft (Transform six) has good = tt
-header-lawful raw seen draft Box has good = tt
+header-lawful raw seen draft said has good = opens-lawful raw draft said has good
 
 area-lawful : (raw : RawTech) (layer : LayerId) (draft : Draft) (area : Result Rect MagFault)
     → IsLawfulDraft raw draft → draft.section ≡ Inside (Paint layer) → layer.0 < length raw.layers → IfOk area IsPainted
@@ -191,30 +170,8 @@ group-lawful : (raw : RawTech) (group : OneGroup) (draft : Draft) (said : MagLin
     → IsLawfulDraft raw draft → draft.section ≡ Inside group → IsGoodGroup raw group → IsGoodLine raw said
     → IfOk (takes_in_group group draft said) (IsLawfulDraft raw)
 group-lawful raw (Paint layer) draft (Area area) lawful there below good = area-lawful raw layer draft area lawful there below good
-group-lawful raw (Paint layer) draft (Label label) lawful there below good = tt
-group-lawful raw (Paint layer) draft Nothing lawful there below good = tt
-group-lawful raw (Paint layer) draft Tech lawful there below good = tt
-group-lawful raw (Paint layer) draft (Timestamp time) lawful there below good = tt
-group-lawful raw (Paint layer) draft (Scale scale) lawful there below good = tt
-group-lawful raw (Paint layer) draft (Group group) lawful there below good = opens-lawful raw draft (Group group) lawful.has good
-group-lawful raw (Paint layer) draft End lawful there below good = opens-lawful raw draft End lawful.has good
-group-lawful raw (Paint layer) draft (Use cell id) lawful there below good = opens-lawful raw draft (Use cell id) lawful.has good
-group-lawful raw (Paint layer) draft (Array grid) lawful there below good = tt
-group-lawful raw (Paint layer) draft (Transform six) lawful there below good = tt
-group-lawful raw (Paint layer) draft Box lawful there below good = tt
 group-lawful raw Labels draft (Label label) lawful there below good = label-lawful raw draft label lawful there good
-group-lawful raw Labels draft (Area area) lawful there below good = tt
-group-lawful raw Labels draft Nothing lawful there below good = tt
-group-lawful raw Labels draft Tech lawful there below good = tt
-group-lawful raw Labels draft (Timestamp time) lawful there below good = tt
-group-lawful raw Labels draft (Scale scale) lawful there below good = tt
-group-lawful raw Labels draft (Group group) lawful there below good = opens-lawful raw draft (Group group) lawful.has good
-group-lawful raw Labels draft End lawful there below good = opens-lawful raw draft End lawful.has good
-group-lawful raw Labels draft (Use cell id) lawful there below good = opens-lawful raw draft (Use cell id) lawful.has good
-group-lawful raw Labels draft (Array grid) lawful there below good = tt
-group-lawful raw Labels draft (Transform six) lawful there below good = tt
-group-lawful raw Labels draft Box lawful there below good = tt
-group-lawful raw ReadOver draft said lawful there below good = opens-lawful raw draft said lawful.has good
+group-lawful raw group draft said lawful there below good = opens-lawful raw draft said lawful.has good
 
 six-lawful : (raw : RawTech) (draft : Draft) (six : Result (List ℤ) MagFault) → HasLawful raw draft → IsPending draft
     → IfOk six (λ six. IsTrue (is_placing six))
@@ -257,80 +214,28 @@ use-lawful : (raw : RawTech) (part : UsePart) (draft : Draft) (said : MagLine) �
     → IfOk (takes_in_use part draft said) (IsLawfulDraft raw)
 use-lawful raw Named draft (Array grid) has pending good = grid-lawful raw draft grid has pending good
 use-lawful raw Named draft (Timestamp time) has pending good = time-lawful raw draft time has pending
-use-lawful raw Named draft (Transform six) has pending good = six-lawful raw draft six has pending good
 use-lawful raw Arrayed draft (Timestamp time) has pending good = time-lawful raw draft time has pending
+use-lawful raw Placed draft Box has pending good = record { has = kept raw draft Between draft.pending has; place = tt }
+use-lawful raw Named draft (Transform six) has pending good = six-lawful raw draft six has pending good
 use-lawful raw Arrayed draft (Transform six) has pending good = six-lawful raw draft six has pending good
 use-lawful raw Dated draft (Transform six) has pending good = six-lawful raw draft six has pending good
-use-lawful raw Placed draft Box has pending good = record { has = kept raw draft Between draft.pending has; place = tt }
-use-lawful raw Named draft Nothing has pending good = tt
-use-lawful raw Named draft Tech has pending good = tt
-use-lawful raw Named draft (Scale scale) has pending good = tt
-use-lawful raw Named draft (Group group) has pending good = tt
-use-lawful raw Named draft End has pending good = tt
-use-lawful raw Named draft (Area area) has pending good = tt
-use-lawful raw Named draft (Label label) has pending good = tt
-use-lawful raw Named draft (Use cell id) has pending good = tt
-use-lawful raw Named draft Box has pending good = tt
-use-lawful raw Arrayed draft Nothing has pending good = tt
-use-lawful raw Arrayed draft Tech has pending good = tt
-use-lawful raw Arrayed draft (Scale scale) has pending good = tt
-use-lawful raw Arrayed draft (Group group) has pending good = tt
-use-lawful raw Arrayed draft End has pending good = tt
-use-lawful raw Arrayed draft (Area area) has pending good = tt
-use-lawful raw Arrayed draft (Label label) has pending good = tt
-use-lawful raw Arrayed draft (Use cell id) has pending good = tt
-use-lawful raw Arrayed draft (Array grid) has pending good = tt
-use-lawful raw Arrayed draft Box has pending good = tt
-use-lawful raw Dated draft Nothing has pending good = tt
-use-lawful raw Dated draft Tech has pending good = tt
-use-lawful raw Dated draft (Timestamp time) has pending good = tt
-use-lawful raw Dated draft (Scale scale) has pending good = tt
-use-lawful raw Dated draft (Group group) has pending good = tt
-use-lawful raw Dated draft End has pending good = tt
-use-lawful raw Dated draft (Area area) has pending good = tt
-use-lawful raw Dated draft (Label label) has pending good = tt
-use-lawful raw Dated draft (Use cell id) has pending good = tt
-use-lawful raw Dated draft (Array grid) has pending good = tt
-use-lawful raw Dated draft Box has pending good = tt
-use-lawful raw Placed draft Nothing has pending good = tt
-use-lawful raw Placed draft Tech has pending good = tt
-use-lawful raw Placed draft (Timestamp time) has pending good = tt
-use-lawful raw Placed draft (Scale scale) has pending good = tt
-use-lawful raw Placed draft (Group group) has pending good = tt
-use-lawful raw Placed draft End has pending good = tt
-use-lawful raw Placed draft (Area area) has pending good = tt
-use-lawful raw Placed draft (Label label) has pending good = tt
-use-lawful raw Placed draft (Use cell id) has pending good = tt
-use-lawful raw Placed draft (Array grid) has pending good = tt
-use-lawful raw Placed draft (Transform six) has pending good = tt
+use-lawful raw part draft said has pending good = tt
 
 in_place : (raw : RawTech) (draft : Draft) (section : Section) → draft.section ≡ section → IsLawfulDraft raw draft → IsInPlace raw section draft
 in_place raw draft section there lawful = subst (λ (s : Section). IsInPlace raw s draft) there lawful.place
 
 said-lawful : (raw : RawTech) (section : Section) (draft : Draft) (said : MagLine) → IsLawfulDraft raw draft → draft.section ≡ section → IsGoodLine raw said
     → IfOk (takes_said section draft said) (IsLawfulDraft raw)
-said-lawful raw Start draft said lawful there good = opens-lawful raw draft said lawful.has good
 said-lawful raw (Header seen) draft said lawful there good = header-lawful raw seen draft said lawful.has good
 said-lawful raw (Inside group) draft said lawful there good =
     group-lawful raw group draft said lawful there (in_place raw draft (Inside group) there lawful) good
 said-lawful raw (InUse part) draft said lawful there good = use-lawful raw part draft said lawful.has (in_place raw draft (InUse part) there lawful) good
-said-lawful raw Between draft said lawful there good = opens-lawful raw draft said lawful.has good
-said-lawful raw Ended draft said lawful there good = opens-lawful raw draft said lawful.has good
+said-lawful raw section draft said lawful there good = opens-lawful raw draft said lawful.has good
 
 in-lawful : (raw : RawTech) (section : Section) (draft : Draft) (said : MagLine) → IsLawfulDraft raw draft → draft.section ≡ section → IsGoodLine raw said
     → IfOk (takes_in section draft said) (IsLawfulDraft raw)
 in-lawful raw section draft Nothing lawful there good = lawful
-in-lawful raw section draft Tech lawful there good = said-lawful raw section draft Tech lawful there good
-in-lawful raw section draft (Timestamp time) lawful there good = said-lawful raw section draft (Timestamp time) lawful there good
-in-lawful raw section draft (Scale scale) lawful there good = said-lawful raw section draft (Scale scale) lawful there good
-in-lawful raw section draft (Group group) lawful there good = said-lawful raw section draft (Group group) lawful there good
-in-lawful raw section draft End lawful there good = said-lawful raw section draft End lawful there good
-in-lawful raw section draft (Area area) lawful there good = said-lawful raw section draft (Area area) lawful there good
-in-lawful raw section draft (Label label) lawful there good = said-lawful raw section draft (Label label) lawful there good
-in-lawful raw section draft (Use cell id) lawful there good = said-lawful raw section draft (Use cell id) lawful there good
-in-lawful raw section draft (Array grid) lawful there good = said-lawful raw section draft (Array grid) lawful there good
-in-lawful raw section draft (Transform six) lawful there good = said-lawful raw section draft (Transform six) lawful there good
-in-lawful raw section draft Box lawful there good = said-lawful raw section draft Box lawful there good
+in-lawful raw section draft said lawful there good = said-lawful raw section draft said lawful there good
 
 taken-lawful : (raw : RawTech) (draft : Draft) (line : List ℕ) → IsLawfulDraft raw draft → IfOk (line_taken raw draft line) (IsLawfulDraft raw)
 taken-lawful raw draft line lawful =
@@ -352,13 +257,9 @@ read_over-lawful raw draft line false lawful = lawful
 line-lawful : (raw : RawTech) (section : Section) (draft : Draft) (line : List ℕ) → IsLawfulDraft raw draft
     → IfOk (line_in raw section draft line) (IsLawfulDraft raw)
 line-lawful raw Start draft line lawful = begins-lawful raw draft line lawful
-line-lawful raw (Header seen) draft line lawful = taken-lawful raw draft line lawful
-line-lawful raw (Inside (Paint layer)) draft line lawful = taken-lawful raw draft line lawful
-line-lawful raw (Inside Labels) draft line lawful = taken-lawful raw draft line lawful
 line-lawful raw (Inside ReadOver) draft line lawful = read_over-lawful raw draft line (ends_read_over line) lawful
-line-lawful raw (InUse part) draft line lawful = taken-lawful raw draft line lawful
-line-lawful raw Between draft line lawful = taken-lawful raw draft line lawful
 line-lawful raw Ended draft line lawful = lawful
+line-lawful raw section draft line lawful = taken-lawful raw draft line lawful
 
 step-lawful : (raw : RawTech) (number : ℕ) (draft : Draft) (line : List ℕ) (next : Draft) → IsLawfulDraft raw draft → step raw number draft line ≡ Ok next
     → IsLawfulDraft raw next
@@ -367,12 +268,8 @@ step-lawful raw number draft line next lawful is =
     subst (λ (found : Result Draft MagFault). IfOk found (IsLawfulDraft raw)) is all
 
 ended_same : (section : Section) (draft last : Draft) → ended section draft ≡ Ok last → draft ≡ last
-ended_same Start draft last e = absurd (let no : ⊥ = cc in no)
-ended_same (Header seen) draft last e = absurd (let no : ⊥ = cc in no)
-ended_same (Inside group) draft last e = absurd (let no : ⊥ = cc in no)
-ended_same (InUse part) draft last e = absurd (let no : ⊥ = cc in no)
-ended_same Between draft last e = absurd (let no : ⊥ = cc in no)
 ended_same Ended draft last e = let same : draft ≡ last = cc in same
+ended_same section draft last e = absurd (let no : ⊥ = cc in no)
 
 -- what a text without fault says is lawful
 pub mag_in-lawful : (raw : RawTech) (text : List ℕ) (draft : Draft) → mag_in raw text ≡ Ok draft → HasLawful raw draft

@@ -42,26 +42,21 @@ IsPainted area = (has_square area ≡ true) × (is_in_range area ≡ true)
 
 abbrev pub IsGoodGroup : RawTech → OneGroup → Type 0
 IsGoodGroup raw (Paint layer) = layer.0 < length raw.layers
-IsGoodGroup raw Labels = Unit {0}
-IsGoodGroup raw ReadOver = Unit {0}
+IsGoodGroup raw _ = Unit {0}
 
 abbrev pub IsGoodScale : ℕ × ℕ → Type 0
 IsGoodScale scale = IsTrue (is_scale_number scale.0) × IsTrue (is_scale_number scale.1)
 
 -- what a line says is of its form
 abbrev pub IsGoodLine : RawTech → MagLine → Type 0
-IsGoodLine raw Nothing = Unit {0}
-IsGoodLine raw Tech = Unit {0}
-IsGoodLine raw (Timestamp time) = Unit {0}
 IsGoodLine raw (Scale scale) = IfOk scale IsGoodScale
 IsGoodLine raw (Group group) = IfOk group (IsGoodGroup raw)
-IsGoodLine raw End = Unit {0}
 IsGoodLine raw (Area area) = IfOk area IsPainted
 IsGoodLine raw (Label label) = IfOk label (IsLabel raw)
 IsGoodLine raw (Use cell id) = IsTrue (is_plain_name cell) × IsTrue (is_use_id id)
 IsGoodLine raw (Array grid) = IfOk grid (λ grid. IsTrue (is_grid grid))
 IsGoodLine raw (Transform six) = IfOk six (λ six. IsTrue (is_placing six))
-IsGoodLine raw Box = Unit {0}
+IsGoodLine raw _ = Unit {0}
 
 -- one step and then another: what the first gives, the second may take for granted
 then_good : {A B : Type 0} (Q : A → Type 0) (P : B → Type 0) (found : Result A MagFault) (next : A → Result B MagFault)
@@ -220,18 +215,14 @@ label_line_of-good raw layer edges (Some position) text is =
 label_behind-good : (raw : RawTech) (layer xbot ybot : List ℕ) (words : List (List ℕ)) (text : List ℕ)
     → IfOk (label_behind raw layer xbot ybot words text) (IsGoodLine raw)
 unfolding label_behind
-label_behind-good raw layer xbot ybot [] text = tt
-label_behind-good raw layer xbot ybot (a ∷ []) text = tt
-label_behind-good raw layer xbot ybot (a ∷ b ∷ []) text = tt
 label_behind-good raw layer xbot ybot (xtop ∷ ytop ∷ position ∷ words) text =
     label_line_of-good raw layer (number_of xbot, number_of ybot, number_of xtop, number_of ytop) (position_in (number_of position)) text
     (position-good (number_of position))
+label_behind-good raw layer xbot ybot _ text = tt
 
 label_line-good : (raw : RawTech) (words : List (List ℕ)) (text : List ℕ) → IfOk (label_line raw words text) (IsGoodLine raw)
-label_line-good raw [] text = tt
-label_line-good raw (a ∷ []) text = tt
-label_line-good raw (a ∷ b ∷ []) text = tt
 label_line-good raw (layer ∷ xbot ∷ ybot ∷ words) text = label_behind-good raw layer xbot ybot words text
+label_line-good raw _ text = tt
 
 tech_line-good : (raw : RawTech) (words : List (List ℕ)) → IfOk (tech_line words) (IsGoodLine raw)
 tech_line-good raw [] = tt
@@ -239,15 +230,12 @@ tech_line-good raw (a ∷ []) = tt
 tech_line-good raw (a ∷ b ∷ words) = tt
 
 timestamp_line-good : (raw : RawTech) (words : List (List ℕ)) → IfOk (timestamp_line words) (IsGoodLine raw)
-timestamp_line-good raw [] = tt
 timestamp_line-good raw (time ∷ []) = form-good raw _ (Timestamp (number_in (number_of time))) (λ form. tt)
-timestamp_line-good raw (a ∷ b ∷ words) = tt
+timestamp_line-good raw _ = tt
 
 scale_line-good : (raw : RawTech) (words : List (List ℕ)) → IfOk (scale_line words) (IsGoodLine raw)
-scale_line-good raw [] = tt
-scale_line-good raw (a ∷ []) = tt
 scale_line-good raw (n ∷ d ∷ []) = form-good raw _ (Scale (scale_in (number_of n) (number_of d))) (λ form. scale-good (number_of n) (number_of d))
-scale_line-good raw (a ∷ b ∷ c ∷ words) = tt
+scale_line-good raw _ = tt
 
 group_named-good : (raw : RawTech) (name : List ℕ) → IfOk (group_named raw name) (IsGoodGroup raw)
 group_named-good raw name =
@@ -261,17 +249,14 @@ end_or_group raw true group good = tt
 end_or_group raw false group good = good
 
 group_line-good : (raw : RawTech) (words : List (List ℕ)) → IfOk (group_line raw words) (IsGoodLine raw)
-group_line-good raw [] = tt
-group_line-good raw (a ∷ []) = tt
 group_line-good raw (name ∷ closing ∷ []) =
     form-good raw (bytes_eq closing (codes ">>")) _ (λ form. end_or_group raw (bytes_eq name (codes "end")) (group_named raw name) (group_named-good raw name))
-group_line-good raw (a ∷ b ∷ c ∷ words) = tt
+group_line-good raw _ = tt
 
 use_line-good : (raw : RawTech) (words : List (List ℕ)) → IfOk (use_line words) (IsGoodLine raw)
-use_line-good raw [] = tt
-use_line-good raw (a ∷ []) = tt
 use_line-good raw (cell ∷ id ∷ words) = form-good raw (is_plain_name cell && is_use_id id) (Use cell id)
     (λ form. and_parts (is_plain_name cell) (is_use_id id) form)
+use_line-good raw _ = tt
 
 other_line-good : (raw : RawTech) (key : List ℕ) → IfOk (other_line key) (IsGoodLine raw)
 other_line-good raw key = either_good (IsGoodLine raw) (is_left_out key) _ _ tt tt

@@ -74,26 +74,20 @@ reads-line raw a b c line lines is more = λ number.
 
 -- a section in which a group, a use or the end may begin
 abbrev IsOpen : Section → Type 0
-IsOpen Start = ⊥
 IsOpen (Header seen) = Unit {0}
 IsOpen (Inside (Paint layer)) = Unit {0}
 IsOpen (Inside Labels) = Unit {0}
-IsOpen (Inside ReadOver) = ⊥
-IsOpen (InUse part) = ⊥
 IsOpen Between = Unit {0}
-IsOpen Ended = ⊥
+IsOpen _ = ⊥
 
 -- what a line says is taken in an open section
 open_taken : (raw : RawTech) (section : Section) (draft : Draft) (line : List ℕ) → IsOpen section → draft.section ≡ section
     → line_in raw section draft line ≡ and_then (says raw line) (takes_in section draft)
 open_taken raw Start draft line open_is is = absurd open_is
-open_taken raw (Header seen) draft line open_is is = ap (λ s. and_then (says raw line) (takes_in s draft)) is
-open_taken raw (Inside (Paint layer)) draft line open_is is = ap (λ s. and_then (says raw line) (takes_in s draft)) is
-open_taken raw (Inside Labels) draft line open_is is = ap (λ s. and_then (says raw line) (takes_in s draft)) is
 open_taken raw (Inside ReadOver) draft line open_is is = absurd open_is
 open_taken raw (InUse part) draft line open_is is = absurd open_is
-open_taken raw Between draft line open_is is = ap (λ s. and_then (says raw line) (takes_in s draft)) is
 open_taken raw Ended draft line open_is is = absurd open_is
+open_taken raw section draft line open_is is = ap (λ s. and_then (says raw line) (takes_in s draft)) is
 
 -- lines that open something
 abbrev IsOpener : MagLine → Type 0
@@ -104,30 +98,13 @@ IsOpener _ = ⊥
 
 opener_opens : (section : Section) (draft : Draft) (said : MagLine) → IsOpen section → IsOpener said → takes_in section draft said ≡ opens draft said
 opener_opens Start draft said open_is is = absurd open_is
-opener_opens (Header seen) draft (Group group) open_is is = refl
-opener_opens (Header seen) draft End open_is is = refl
-opener_opens (Header seen) draft (Use cell id) open_is is = refl
-opener_opens (Inside (Paint layer)) draft (Group group) open_is is = refl
-opener_opens (Inside (Paint layer)) draft End open_is is = refl
-opener_opens (Inside (Paint layer)) draft (Use cell id) open_is is = refl
-opener_opens (Inside Labels) draft (Group group) open_is is = refl
-opener_opens (Inside Labels) draft End open_is is = refl
-opener_opens (Inside Labels) draft (Use cell id) open_is is = refl
-opener_opens Between draft (Group group) open_is is = refl
-opener_opens Between draft End open_is is = refl
-opener_opens Between draft (Use cell id) open_is is = refl
 opener_opens (Inside ReadOver) draft said open_is is = absurd open_is
 opener_opens (InUse part) draft said open_is is = absurd open_is
 opener_opens Ended draft said open_is is = absurd open_is
-opener_opens section draft Nothing open_is is = absurd is
-opener_opens section draft Tech open_is is = absurd is
-opener_opens section draft (Timestamp time) open_is is = absurd is
-opener_opens section draft (Scale scale) open_is is = absurd is
-opener_opens section draft (Area area) open_is is = absurd is
-opener_opens section draft (Label label) open_is is = absurd is
-opener_opens section draft (Array grid) open_is is = absurd is
-opener_opens section draft (Transform six) open_is is = absurd is
-opener_opens section draft Box open_is is = absurd is
+opener_opens section draft (Group group) open_is is = refl
+opener_opens section draft End open_is is = refl
+opener_opens section draft (Use cell id) open_is is = refl
+opener_opens section draft said open_is is = absurd is
 
 opened : (raw : RawTech) (draft next : Draft) (line : List ℕ) (said : MagLine) → IsOpen draft.section → says raw line ≡ Ok said → IsOpener said
     → opens draft said ≡ Ok next

@@ -242,16 +242,10 @@ six_numbers-are a b c d e f is =
     )
 
 placing-read : (six : List ℤ) → is_placing six ≡ true → transform_line (map decimal six) ≡ Ok (Transform (Ok six))
-placing-read [] is = absurd (let no : ⊥ = cc in no)
-placing-read (a ∷ []) is = absurd (let no : ⊥ = cc in no)
-placing-read (a ∷ b ∷ []) is = absurd (let no : ⊥ = cc in no)
-placing-read (a ∷ b ∷ c ∷ []) is = absurd (let no : ⊥ = cc in no)
-placing-read (a ∷ b ∷ c ∷ d ∷ []) is = absurd (let no : ⊥ = cc in no)
-placing-read (a ∷ b ∷ c ∷ d ∷ e ∷ []) is = absurd (let no : ⊥ = cc in no)
-placing-read (a ∷ b ∷ c ∷ d ∷ e ∷ f ∷ g ∷ more) is = absurd (let no : ⊥ = cc in no)
 placing-read (a ∷ b ∷ c ∷ d ∷ e ∷ f ∷ []) is =
     let read = six_numbers-are a b c d e f is in
     ap (λ found. and_then found (λ numbers. Ok (Transform (six_in numbers)))) read.0 ∙ ap (λ found. Ok (Transform found)) read.1
+placing-read _ is = absurd (let no : ⊥ = cc in no)
 
 transform_plain : (six : List ℤ) → begins_with_hash (numbers_line (codes "transform") six) ≡ false
 transform_plain [] = refl

@@ -23,6 +23,7 @@ use geo_core::Rect;
 use names_lists::Name;
 use std::alloc::Global;
 use tech_model::{Label, LayerId, Tech};
+use text_form::next_three;
 use text_scan::{Words, is_plain_name, number, split_word, words};
 
 /// The first word of a line, and what follows it.
@@ -55,12 +56,9 @@ fn tech_line(words: Words<'_>) -> Result<MagLine, MagFault>
     ensures { result ≡ tech_line words.entry }
 {
     let mut rest = words;
-    let Some(_) = rest.next() else {
-        return Err(MagFault::BadLine);
-    };
-    match rest.next() {
-        None => Ok(MagLine::Tech),
-        Some(_) => Err(MagFault::BadLine),
+    match (rest.next(), rest.next()) {
+        (Some(_), None) => Ok(MagLine::Tech),
+        _ => Err(MagFault::BadLine),
     }
 }
 
@@ -68,12 +66,9 @@ fn timestamp_line(words: Words<'_>) -> Result<MagLine, MagFault>
     ensures { result ≡ timestamp_line words.entry }
 {
     let mut rest = words;
-    let Some(time) = rest.next() else {
+    let (Some(time), None) = (rest.next(), rest.next()) else {
         return Err(MagFault::BadLine);
     };
-    if rest.next().is_some() {
-        return Err(MagFault::BadLine);
-    }
     let time = number(time);
     if is_decimal(time) {
         Ok(MagLine::Timestamp(number_in(time)))
@@ -86,15 +81,9 @@ fn scale_line(words: Words<'_>) -> Result<MagLine, MagFault>
     ensures { result ≡ scale_line words.entry }
 {
     let mut rest = words;
-    let Some(n) = rest.next() else {
+    let (Some(n), Some(d), None) = (rest.next(), rest.next(), rest.next()) else {
         return Err(MagFault::BadLine);
     };
-    let Some(d) = rest.next() else {
-        return Err(MagFault::BadLine);
-    };
-    if rest.next().is_some() {
-        return Err(MagFault::BadLine);
-    }
     let n = number(n);
     let d = number(d);
     if is_decimal(n) && is_decimal(d) {
@@ -131,13 +120,10 @@ fn group_line(tech: &Tech, words: Words<'_>) -> Result<MagLine, MagFault>
     ensures { result ≡ group_line tech.now words.entry }
 {
     let mut rest = words;
-    let Some(name) = rest.next() else {
+    let (Some(name), Some(closing), None) = (rest.next(), rest.next(), rest.next()) else {
         return Err(MagFault::BadLine);
     };
-    let Some(closing) = rest.next() else {
-        return Err(MagFault::BadLine);
-    };
-    if rest.next().is_some() || closing != b">>".as_slice() {
+    if closing != b">>".as_slice() {
         return Err(MagFault::BadLine);
     }
     if name == b"end".as_slice() {
@@ -151,21 +137,9 @@ fn four_numbers(words: Words<'_>) -> Result<Four, MagFault>
     ensures { result ≡ four_numbers words.entry }
 {
     let mut rest = words;
-    let Some(a) = rest.next() else {
+    let (Some((a, b, c)), Some(d), None) = (next_three(&mut rest), rest.next(), rest.next()) else {
         return Err(MagFault::BadLine);
     };
-    let Some(b) = rest.next() else {
-        return Err(MagFault::BadLine);
-    };
-    let Some(c) = rest.next() else {
-        return Err(MagFault::BadLine);
-    };
-    let Some(d) = rest.next() else {
-        return Err(MagFault::BadLine);
-    };
-    if rest.next().is_some() {
-        return Err(MagFault::BadLine);
-    }
     if_four((number(a), number(b), number(c), number(d)))
 }
 
@@ -184,35 +158,13 @@ fn six_numbers(words: Words<'_>) -> Result<Six, MagFault>
     ensures { result ≡ six_numbers words.entry }
 {
     let mut rest = words;
-    let Some(a) = rest.next() else {
+    let (Some((a, b, c)), Some((d, e, f)), None) = (
+        next_three(&mut rest),
+        next_three(&mut rest),
+        rest.next(),
+    ) else {
         return Err(MagFault::BadLine);
     };
-    let Some(b) = rest.next() else {
-        return Err(MagFault::BadLine);
-    };
-    let Some(c) = rest.next() else {
-        return Err(MagFault::BadLine);
-    };
-    six_numbers_behind(a, b, c, rest)
-}
-
-// Six numbers, of which three words are found.
-fn six_numbers_behind(a: &[u8], b: &[u8], c: &[u8], words: Words<'_>) -> Result<Six, MagFault>
-    ensures { result ≡ six_numbers (a.now ∷ b.now ∷ c.now ∷ words.entry) }
-{
-    let mut rest = words;
-    let Some(d) = rest.next() else {
-        return Err(MagFault::BadLine);
-    };
-    let Some(e) = rest.next() else {
-        return Err(MagFault::BadLine);
-    };
-    let Some(f) = rest.next() else {
-        return Err(MagFault::BadLine);
-    };
-    if rest.next().is_some() {
-        return Err(MagFault::BadLine);
-    }
     if_six((
         number(a),
         number(b),
@@ -356,10 +308,7 @@ fn use_line(alloc: Global, words: Words<'_>) -> Result<MagLine, MagFault>
     ensures refused { IfErr result (λ fault. fault ≢ OutOfMemory → use_line words.entry ≡ Err fault) }
 {
     let mut rest = words;
-    let Some(cell) = rest.next() else {
-        return Err(MagFault::BadLine);
-    };
-    let Some(id) = rest.next() else {
+    let (Some(cell), Some(id)) = (rest.next(), rest.next()) else {
         return Err(MagFault::BadLine);
     };
     if !is_plain_name(cell) || !is_use_id(id) {
