@@ -96,22 +96,15 @@ node_formed most name cap x y kind measures =
     record { name = named; kind = word })))))
 
 node_words_formed : (most : ℕ) (words : List (List ℕ)) → OkHas (IsFormed most) (node_line words)
-node_words_formed most [] = tt
-node_words_formed most (a ∷ []) = tt
-node_words_formed most (a ∷ b ∷ []) = tt
-node_words_formed most (a ∷ b ∷ c ∷ []) = tt
-node_words_formed most (a ∷ b ∷ c ∷ d ∷ []) = tt
-node_words_formed most (a ∷ b ∷ c ∷ d ∷ e ∷ []) = tt
 node_words_formed most (a ∷ b ∷ c ∷ d ∷ e ∷ f ∷ words) =
     given_has (IsFormed most) (numerals_in words) (λ measures. node_of a c d e f measures) (λ measures is. node_formed most a c d e f measures)
+node_words_formed most _ = tt
 
 equiv_formed : (most : ℕ) (words : List (List ℕ)) → OkHas (IsFormed most) (equiv_line words)
-equiv_formed most [] = tt
-equiv_formed most (name ∷ []) = tt
 equiv_formed most (name ∷ alias ∷ []) =
     given_has (IsFormed most) (node_name_in name) _ (λ n e.
     next_has (λ n. is_node_name n ≡ true) (IsFormed most) (node_name_in alias) _ (formed_has is_node_name (unquoted alias)) (λ a named. named))
-equiv_formed most (name ∷ alias ∷ next ∷ words) = tt
+equiv_formed most _ = tt
 
 -- there are no more terminals than words
 sides_few : (sides : List SideLine) (words : List (List ℕ)) → OkHas (λ all. length all ≤ length sides + length words) (sides_from sides words)
@@ -131,12 +124,6 @@ sides_few sides (a ∷ b ∷ c ∷ words) =
 fet_behind_formed : (most : ℕ) (kind : List ℕ) (corners : Corners) (words : List (List ℕ)) → is_word kind ≡ true → are_corners corners ≡ true
     → length words ≤ most
     → OkHas (IsFormed most) (fet_at kind corners words)
-fet_behind_formed most kind corners [] word next few = tt
-fet_behind_formed most kind corners (a ∷ []) word next few = tt
-fet_behind_formed most kind corners (a ∷ b ∷ []) word next few = tt
-fet_behind_formed most kind corners (a ∷ b ∷ c ∷ []) word next few = tt
-fet_behind_formed most kind corners (a ∷ b ∷ c ∷ d ∷ []) word next few = tt
-fet_behind_formed most kind corners (a ∷ b ∷ c ∷ d ∷ e ∷ []) word next few = tt
 fet_behind_formed most kind corners (a ∷ b ∷ c ∷ d ∷ e ∷ f ∷ words) word next few =
     given_has (IsFormed most) (numeral_in a) _ (λ area e1.
     given_has (IsFormed most) (numeral_in b) _ (λ perimeter e2.
@@ -144,6 +131,7 @@ fet_behind_formed most kind corners (a ∷ b ∷ c ∷ d ∷ e ∷ f ∷ words) 
     given_has (IsFormed most) (side_in d e) _ (λ gate e3.
     next_has (λ all. length all ≤ length {A = SideLine} [] + length words) (IsFormed most) (sides_from [] words) _ (sides_few [] words) (λ terminals no_more.
     record { kind = word; corners = next; substrate = named; count = omega arith })))))
+fet_behind_formed most kind corners _ word next few = tt
 
 corners_formed : (x y far_x far_y : List ℕ) → OkHas (λ corners. are_corners corners ≡ true) (corners_in x y far_x far_y)
 corners_formed x y far_x far_y =
@@ -156,26 +144,20 @@ corners_formed x y far_x far_y =
     passed_has P (are_corners corners) (Ok corners) BadLine (λ is. is)))))
 
 fet_formed : (most : ℕ) (words : List (List ℕ)) → length words ≤ most → OkHas (IsFormed most) (fet_line words)
-fet_formed most [] few = tt
-fet_formed most (a ∷ []) few = tt
-fet_formed most (a ∷ b ∷ []) few = tt
-fet_formed most (a ∷ b ∷ c ∷ []) few = tt
-fet_formed most (a ∷ b ∷ c ∷ d ∷ []) few = tt
 fet_formed most (a ∷ b ∷ c ∷ d ∷ e ∷ words) few =
     next_has (λ n. is_word n ≡ true) (IsFormed most) (word_in a) _ (formed_has is_word a) (λ kind word.
     next_has (λ corners. are_corners corners ≡ true) (IsFormed most) (corners_in b c d e) _ (corners_formed b c d e) (λ corners next.
     fet_behind_formed most kind corners words word next (omega arith)))
+fet_formed most _ few = tt
 
 merge_formed : (most : ℕ) (words : List (List ℕ)) → OkHas (IsFormed most) (merge_line words)
-merge_formed most [] = tt
-merge_formed most (a ∷ []) = tt
-merge_formed most (a ∷ b ∷ []) = tt
 merge_formed most (a ∷ b ∷ c ∷ words) =
     next_has (λ n. is_path n ≡ true) (IsFormed most) (path_in a) _ (formed_has is_path (unquoted a)) (λ first one.
     next_has (λ n. is_path n ≡ true) (IsFormed most) (path_in b) _ (formed_has is_path (unquoted b)) (λ second two.
     given_has (IsFormed most) (numeral_in c) _ (λ cap e1.
     given_has (IsFormed most) (numerals_in words) _ (λ measures e2.
     record { first = one; second = two }))))
+merge_formed most _ = tt
 
 either_form : (P : ExtLine → Type 0) (test : Bool) (this other : Result ExtLine ExtReadFault) → OkHas P this → OkHas P other → OkHas P (cond test this other)
 either_form P true this other one two = one
@@ -209,12 +191,7 @@ says-formed most line short = words_formed most (words_of line) (let few = lengt
 
 names_use : (most : ℕ) (said : ExtLine) → IsFormed most said → NamesUse said
 names_use most (Use line) formed = formed.named
-names_use most Nothing formed = tt
-names_use most (Header header) formed = tt
-names_use most (Node line) formed = tt
-names_use most (Equiv name alias) formed = tt
-names_use most (Fet line) formed = tt
-names_use most (Merge line) formed = tt
+names_use most _ formed = tt
 
 -- a use that a line says has a name of its form
 pub says-named : (line : List ℕ) (said : ExtLine) → says line ≡ Ok said → NamesUse said

@@ -127,12 +127,8 @@ abbrev SameUses : Draft → Draft → Type 0
 SameUses draft next = next.given ≡ draft.given
 
 header_uses : (draft : Draft) (header : HeaderLine) → OkHas (SameUses draft) (with_header (record draft { seen = with_seen draft.seen header }) header)
-header_uses draft (Tech name) = refl
-header_uses draft Timestamp = refl
-header_uses draft (Version version) = refl
-header_uses draft Style = refl
-header_uses draft Scale = refl
 header_uses draft (Classes values) = given_has (SameUses draft) (class_values_in values) _ (λ found e. refl)
+header_uses draft _ = refl
 
 takes_header-uses : (is_last : Bool) (draft : Draft) (header : HeaderLine) → OkHas (SameUses draft) (takes_header is_last draft header)
 takes_header-uses is_last draft header =
@@ -272,9 +268,7 @@ lines_names arrays outline number known start (line ∷ lines) last met e =
 known_met : (version : Option lines.Version) (outline : Outline) (draft : Draft) → Met outline.singles draft → Met outline.all draft
     → Each (λ name. In name (names_in draft.given)) (elements_known version outline)
 known_met (Some One) outline draft singles all = singles
-known_met (Some Two) outline draft singles all = all
-known_met (Some Other) outline draft singles all = all
-known_met None outline draft singles all = all
+known_met _ outline draft singles all = all
 
 -- a path with a slash, by its names
 record IsPathOf (parts : List (List ℕ)) : Type 0 where

@@ -168,9 +168,7 @@ takes_merge-sound outline draft line is late formed twice =
 -- where the header is complete, the classes are known
 pub complete : (tech version classes : Bool) → not (tech && version && classes) ≡ false → (tech ≡ true) × (classes ≡ true)
 complete true true true e = (refl, refl)
-complete true true false e = absurd (let no : ⊥ = cc in no)
-complete true false classes e = absurd (let no : ⊥ = cc in no)
-complete false version classes e = absurd (let no : ⊥ = cc in no)
+complete _ _ _ e = absurd (let no : ⊥ = cc in no)
 
 pub counted : (draft : Draft) (measures : List (Option ℤ)) → draft.seen.classes ≡ true → not (has_measures draft measures) ≡ false
     → length measures ≡ 2 * length draft.classes

@@ -108,9 +108,7 @@ range_of-is path range e = step (is_range path (range_parts path)) refl e
 pub range_in-is : (version : Option lines.Version) (path : List ℕ) (range : ElementRange) → range_in version path ≡ Some range
     → IsElementRange range × (path ≡ range_path range)
 range_in-is (Some Two) path range e = range_of-is path range e
-range_in-is (Some One) path range e = absurd (let no : ⊥ = cc in no)
-range_in-is (Some Other) path range e = absurd (let no : ⊥ = cc in no)
-range_in-is None path range e = absurd (let no : ⊥ = cc in no)
+range_in-is _ path range e = absurd (let no : ⊥ = cc in no)
 
 -- the number that its text writes
 pub index_of-decimal : (z : ℤ) → FitsSigned w32 z → index_of (decimal z) ≡ z

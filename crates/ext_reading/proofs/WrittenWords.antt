@@ -77,9 +77,7 @@ word_bytes name is = (and_parts (nat_le 1 (length name)) (list_all is_word_byte 
 -- what stands between the quotes
 quotes_are : (length_is begins ends : Bool) → length_is ≡ true → begins ≡ true → ends ≡ true → (length_is && begins && ends) ≡ true
 quotes_are true true true a b c = refl
-quotes_are false begins ends a b c = absurd (let no : ⊥ = cc in no)
-quotes_are true false ends a b c = absurd (let no : ⊥ = cc in no)
-quotes_are true true false a b c = absurd (let no : ⊥ = cc in no)
+quotes_are _ _ _ a b c = absurd (let no : ⊥ = cc in no)
 
 is_quoted-quoted : (name : List ℕ) → is_quoted (quoted name) ≡ true
 is_quoted-quoted name =

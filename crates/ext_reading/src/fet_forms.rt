@@ -8,6 +8,7 @@ use crate::lines::{Corners, ExtLine, FetLine, SideLine};
 use crate::parts::{is_next, node_name_in, numeral_in, put, substrate_in, word_in};
 use names_lists::{List, Name};
 use std::alloc::Global;
+use text_form::next_three;
 use text_scan::Words;
 
 fn side_in(alloc: Global, node: &[u8], length: &[u8]) -> Result<SideLine, ExtReadFault>
@@ -70,19 +71,11 @@ pub fn fet_line(alloc: Global, words: Words<'_>) -> Result<ExtLine, ExtReadFault
     ensures refused { IfErr result (λ fault. fault ≢ OutOfMemory → fet_line words.entry ≡ Err fault) }
 {
     let mut rest = words;
-    let Some(kind) = rest.next() else {
-        return Err(ExtReadFault::BadLine);
-    };
-    let Some(x) = rest.next() else {
-        return Err(ExtReadFault::BadLine);
-    };
-    let Some(y) = rest.next() else {
-        return Err(ExtReadFault::BadLine);
-    };
-    let Some(far_x) = rest.next() else {
-        return Err(ExtReadFault::BadLine);
-    };
-    let Some(far_y) = rest.next() else {
+    let (Some((kind, x, y)), Some(far_x), Some(far_y)) = (
+        next_three(&mut rest),
+        rest.next(),
+        rest.next(),
+    ) else {
         return Err(ExtReadFault::BadLine);
     };
     let kind = word_in(alloc, kind)?;
@@ -101,43 +94,12 @@ fn fet_at(
     ensures refused { IfErr result (λ fault. fault ≢ OutOfMemory → fet_at kind corners words.entry ≡ Err fault) }
 {
     let mut rest = words;
-    let Some(area) = rest.next() else {
+    let (Some((area, perimeter, substrate)), Some((gate, length, _))) = (
+        next_three(&mut rest),
+        next_three(&mut rest),
+    ) else {
         return Err(ExtReadFault::BadLine);
     };
-    let Some(perimeter) = rest.next() else {
-        return Err(ExtReadFault::BadLine);
-    };
-    let Some(substrate) = rest.next() else {
-        return Err(ExtReadFault::BadLine);
-    };
-    fet_behind(alloc, kind, corners, area, perimeter, substrate, rest)
-}
-
-// A transistor at its place, of which three more words are found.
-fn fet_behind(
-    alloc: Global,
-    kind: Name,
-    corners: Corners,
-    area: &[u8],
-    perimeter: &[u8],
-    substrate: &[u8],
-    words: Words<'_>,
-) -> Result<ExtLine, ExtReadFault>
-    ensures read { IfOk result (λ said.
-        fet_at kind corners (area.now ∷ perimeter.now ∷ substrate.now ∷ words.entry) ≡ Ok said) }
-    ensures refused { IfErr result (λ fault. fault ≢ OutOfMemory →
-        fet_at kind corners (area.now ∷ perimeter.now ∷ substrate.now ∷ words.entry) ≡ Err fault) }
-{
-    let mut rest = words;
-    let Some(gate) = rest.next() else {
-        return Err(ExtReadFault::BadLine);
-    };
-    let Some(length) = rest.next() else {
-        return Err(ExtReadFault::BadLine);
-    };
-    if rest.next().is_none() {
-        return Err(ExtReadFault::BadLine);
-    }
     let area = numeral_in(area)?;
     let perimeter = numeral_in(perimeter)?;
     let substrate = substrate_in(alloc, substrate)?;

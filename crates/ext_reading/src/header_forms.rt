@@ -14,12 +14,9 @@ pub fn tech_line(alloc: Global, words: Words<'_>) -> Result<HeaderLine, ExtReadF
     ensures refused { IfErr result (λ fault. fault ≢ OutOfMemory → tech_line words.entry ≡ Err fault) }
 {
     let mut rest = words;
-    let Some(name) = rest.next() else {
+    let (Some(name), None) = (rest.next(), rest.next()) else {
         return Err(ExtReadFault::BadLine);
     };
-    if rest.next().is_some() {
-        return Err(ExtReadFault::BadLine);
-    }
     let name = word_in(alloc, name)?;
     Ok(HeaderLine::Tech(name))
 }
@@ -41,12 +38,9 @@ pub fn version_line(words: Words<'_>) -> Result<HeaderLine, ExtReadFault>
     ensures { result ≡ version_line words.entry }
 {
     let mut rest = words;
-    let Some(word) = rest.next() else {
+    let (Some(word), None) = (rest.next(), rest.next()) else {
         return Err(ExtReadFault::BadLine);
     };
-    if rest.next().is_some() {
-        return Err(ExtReadFault::BadLine);
-    }
     Ok(HeaderLine::Version(version_of(word)))
 }
 

@@ -14,41 +14,20 @@ use crate::parts::{cell_in, node_name_in, numeral_in, numerals_in, path_in, word
 use crate::use_names::use_name_in;
 use names_lists::List;
 use std::alloc::Global;
+use text_form::next_three;
 use text_scan::{Words, words};
 
 fn six_numerals(words: Words<'_>) -> Result<Six, ExtReadFault>
     ensures { result ≡ six_numerals words.entry }
 {
     let mut rest = words;
-    let Some(a) = rest.next() else {
+    let (Some((a, b, c)), Some((d, e, f)), None) = (
+        next_three(&mut rest),
+        next_three(&mut rest),
+        rest.next(),
+    ) else {
         return Err(ExtReadFault::BadLine);
     };
-    let Some(b) = rest.next() else {
-        return Err(ExtReadFault::BadLine);
-    };
-    let Some(c) = rest.next() else {
-        return Err(ExtReadFault::BadLine);
-    };
-    six_numerals_behind(a, b, c, rest)
-}
-
-// Six numbers, of which three words are found.
-fn six_numerals_behind(a: &[u8], b: &[u8], c: &[u8], words: Words<'_>) -> Result<Six, ExtReadFault>
-    ensures { result ≡ six_numerals (a.now ∷ b.now ∷ c.now ∷ words.entry) }
-{
-    let mut rest = words;
-    let Some(d) = rest.next() else {
-        return Err(ExtReadFault::BadLine);
-    };
-    let Some(e) = rest.next() else {
-        return Err(ExtReadFault::BadLine);
-    };
-    let Some(f) = rest.next() else {
-        return Err(ExtReadFault::BadLine);
-    };
-    if rest.next().is_some() {
-        return Err(ExtReadFault::BadLine);
-    }
     let a = numeral_in(a)?;
     let b = numeral_in(b)?;
     let c = numeral_in(c)?;
@@ -64,10 +43,7 @@ pub fn use_line(alloc: Global, words: Words<'_>) -> Result<ExtLine, ExtReadFault
     ensures refused { IfErr result (λ fault. fault ≢ OutOfMemory → use_line words.entry ≡ Err fault) }
 {
     let mut rest = words;
-    let Some(cell) = rest.next() else {
-        return Err(ExtReadFault::BadLine);
-    };
-    let Some(name) = rest.next() else {
+    let (Some(cell), Some(name)) = (rest.next(), rest.next()) else {
         return Err(ExtReadFault::BadLine);
     };
     let cell = cell_in(alloc, cell)?;
@@ -81,42 +57,10 @@ fn node_line(alloc: Global, words: Words<'_>) -> Result<ExtLine, ExtReadFault>
     ensures refused { IfErr result (λ fault. fault ≢ OutOfMemory → node_line words.entry ≡ Err fault) }
 {
     let mut rest = words;
-    let Some(name) = rest.next() else {
+    let (Some((name, _, cap)), Some((x, y, kind))) = (next_three(&mut rest), next_three(&mut rest))
+    else {
         return Err(ExtReadFault::BadLine);
     };
-    let Some(resistance) = rest.next() else {
-        return Err(ExtReadFault::BadLine);
-    };
-    let Some(cap) = rest.next() else {
-        return Err(ExtReadFault::BadLine);
-    };
-    node_line_behind(alloc, name, resistance, cap, rest)
-}
-
-// A node, of which three words are found.
-fn node_line_behind(
-    alloc: Global,
-    name: &[u8],
-    resistance: &[u8],
-    cap: &[u8],
-    words: Words<'_>,
-) -> Result<ExtLine, ExtReadFault>
-    ensures read { IfOk result (λ said.
-        node_line (name.now ∷ resistance.now ∷ cap.now ∷ words.entry) ≡ Ok said) }
-    ensures refused { IfErr result (λ fault. fault ≢ OutOfMemory →
-        node_line (name.now ∷ resistance.now ∷ cap.now ∷ words.entry) ≡ Err fault) }
-{
-    let mut rest = words;
-    let Some(x) = rest.next() else {
-        return Err(ExtReadFault::BadLine);
-    };
-    let Some(y) = rest.next() else {
-        return Err(ExtReadFault::BadLine);
-    };
-    let Some(kind) = rest.next() else {
-        return Err(ExtReadFault::BadLine);
-    };
-    let _ = resistance;
     let measures = numerals_in(alloc, rest)?;
     node_of(alloc, name, cap, x, y, kind, measures)
 }
@@ -156,15 +100,9 @@ fn equiv_line(alloc: Global, words: Words<'_>) -> Result<ExtLine, ExtReadFault>
     ensures refused { IfErr result (λ fault. fault ≢ OutOfMemory → equiv_line words.entry ≡ Err fault) }
 {
     let mut rest = words;
-    let Some(name) = rest.next() else {
+    let (Some(name), Some(alias), None) = (rest.next(), rest.next(), rest.next()) else {
         return Err(ExtReadFault::BadLine);
     };
-    let Some(alias) = rest.next() else {
-        return Err(ExtReadFault::BadLine);
-    };
-    if rest.next().is_some() {
-        return Err(ExtReadFault::BadLine);
-    }
     let name = node_name_in(alloc, name)?;
     let alias = node_name_in(alloc, alias)?;
     Ok(ExtLine::Equiv(name, alias))
@@ -175,13 +113,7 @@ fn merge_line(alloc: Global, words: Words<'_>) -> Result<ExtLine, ExtReadFault>
     ensures refused { IfErr result (λ fault. fault ≢ OutOfMemory → merge_line words.entry ≡ Err fault) }
 {
     let mut rest = words;
-    let Some(first) = rest.next() else {
-        return Err(ExtReadFault::BadLine);
-    };
-    let Some(second) = rest.next() else {
-        return Err(ExtReadFault::BadLine);
-    };
-    let Some(cap) = rest.next() else {
+    let Some((first, second, cap)) = next_three(&mut rest) else {
         return Err(ExtReadFault::BadLine);
     };
     let first = path_in(alloc, first)?;
