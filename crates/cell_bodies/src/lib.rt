@@ -9,6 +9,7 @@ mod forms;
 mod limits;
 
 pub use bodies::{CellBody, CellUse};
+pub use cell_paint;
 pub use ext_model::{LONGEST_USE_ID, is_use_id};
 pub use forms::{
     are_few_elements, grids_of_uses_are_lawful, has_sides, is_displacement, is_grid, is_index,

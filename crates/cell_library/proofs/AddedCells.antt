@@ -6,7 +6,7 @@ use Rattle.std.specs.Option.{option_or}
 use Rattle.std.proofs.lemmas.List.{length-map, map-append}
 use Rattle.std.proofs.lemmas.List.Elements.{All-append}
 use Rattle.std.proofs.lemmas.Option.{slice_get_within, get_or_from_slice_get}
-use Rattle.finite_sets.specs.Lists.{In, Distinct}
+use Rattle.geo_core.specs.FiniteSets.Lists.{In, Distinct}
 use Rattle.tech_model.specs.declared.raw.RawTech.{RawTech}
 use Rattle.cell_bodies.specs.declared.bodies.CellBody.{CellBody}
 use Rattle.cell_bodies.specs.Bodies.{IsBody}

@@ -9,8 +9,8 @@ use Rattle.std.proofs.lemmas.Bool.{cases_Bool, and_parts}
 use Rattle.std.proofs.lemmas.Int.{ints}
 use Rattle.std.proofs.lemmas.List.{length-map}
 use Rattle.std.proofs.lemmas.Slice.Eq.{bytes_eq-Decides}
-use Rattle.finite_sets.specs.Lists.{In, Distinct}
-use Rattle.finite_sets.proofs.Searches.{All-In}
+use Rattle.geo_core.specs.FiniteSets.Lists.{In, Distinct}
+use Rattle.geo_core.proofs.FiniteSets.Searches.{All-In}
 use Rattle.tech_model.specs.declared.raw.Label.{Label}
 use Rattle.tech_model.specs.declared.raw.TypeRec.{TypeRec}
 use Rattle.geo_core.specs.declared.grids.Grid.{Grid}
@@ -20,9 +20,9 @@ use Rattle.geo_core.specs.declared.transforms.Transform.{Transform}
 use Rattle.geo_core.specs.Areas.{LiesWithin}
 use Rattle.geo_core.specs.Images.{identity}
 use Rattle.geo_core.specs.Orientation.{orient_of, is_orientation}
-use Rattle.layout_model.specs.Layouts.{Layout}
-use Rattle.cell_paint.specs.Painting.{is_in_range, paint_range}
-use Rattle.cell_paint.specs.Paints.{IsSoundPaint}
+use Rattle.cell_bodies.specs.LayoutModel.Layouts.{Layout}
+use Rattle.cell_bodies.specs.CellPaint.Painting.{is_in_range, paint_range}
+use Rattle.cell_bodies.specs.CellPaint.Paints.{IsSoundPaint}
 use Rattle.cell_bodies.specs.declared.bodies.CellUse.{CellUse}
 use Rattle.cell_bodies.specs.Bodies.{IsUse, ids_of}
 use Rattle.cell_bodies.specs.Numbers.{are_displacements, are_elements, has_sides, is_displacement}

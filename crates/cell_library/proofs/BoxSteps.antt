@@ -4,8 +4,8 @@ use Rattle.std.specs.Prelude.{Some, None, not, All, IsTrue, ◌≤ℤ◌}
 use Rattle.std.specs.Str.{bytes_eq}
 use Rattle.std.proofs.lemmas.Int.{ints, clamps}
 use Rattle.std.proofs.lemmas.Bool.{and_parts}
-use Rattle.finite_sets.proofs.Members.{In-filter_source}
-use Rattle.finite_sets.proofs.Searches.{All-from_In, All-In}
+use Rattle.geo_core.proofs.FiniteSets.Members.{In-filter_source}
+use Rattle.geo_core.proofs.FiniteSets.Searches.{All-from_In, All-In}
 use Rattle.geo_core.specs.declared.squares.Rect.{Rect}
 use Rattle.geo_core.specs.Areas.{LiesWithin}
 use Rattle.geo_core.specs.Covering.{Covers}
@@ -13,9 +13,9 @@ use Rattle.tech_model.specs.declared.raw.Label.{Label}
 use Rattle.tech_model.specs.declared.raw.RawTech.{RawTech}
 use Rattle.tech_model.specs.declared.raw.TypeRec.{TypeRec}
 use Rattle.tech_model.specs.WellFormed.{IsWellFormed}
-use Rattle.layout_model.specs.Layouts.{Layout}
-use Rattle.cell_paint.specs.Painting.{with_erased}
-use Rattle.cell_paint.specs.Paints.{layout_of, KeepsTypes, IsSoundPaint}
+use Rattle.cell_bodies.specs.LayoutModel.Layouts.{Layout}
+use Rattle.cell_bodies.specs.CellPaint.Painting.{with_erased}
+use Rattle.cell_bodies.specs.CellPaint.Paints.{layout_of, KeepsTypes, IsSoundPaint}
 use Rattle.cell_bodies.specs.Bodies.{IsLabel}
 use Rattle.cell_bodies.specs.Numbers.{has_sides}
 use Rattle.cell_tree.specs.declared.faults.TreeFault.{TreeFault}

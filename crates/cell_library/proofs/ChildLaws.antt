@@ -1,11 +1,11 @@
 -- The children of a cell: those of its uses, which are cells of the library.
 use Rattle.std.proofs.Common.{◌≡◌, ◌<◌, ℕ, zero, suc, List, [], ◌∷◌, length, map, refl, sym, subst}
 use Rattle.std.specs.Prelude.{Some, slice_get, slice_index_or}
-use Rattle.finite_sets.specs.Chain.{Chain}
-use Rattle.finite_sets.specs.Lists.{In}
-use Rattle.finite_sets.proofs.Chains.{Chain-carries}
-use Rattle.finite_sets.proofs.Members.{In-map, In-map_source}
-use Rattle.finite_sets.proofs.Places.{In-slice_get, slice_get-In}
+use Rattle.geo_core.specs.FiniteSets.Chain.{Chain}
+use Rattle.geo_core.specs.FiniteSets.Lists.{In}
+use Rattle.geo_core.proofs.FiniteSets.Chains.{Chain-carries}
+use Rattle.geo_core.proofs.FiniteSets.Members.{In-map, In-map_source}
+use Rattle.geo_core.proofs.FiniteSets.Places.{In-slice_get, slice_get-In}
 use Rattle.cell_tree.specs.UseOrders.Uses.{UsesCell}
 use Rattle.cell_tree.specs.declared.use_tables.UseBody.{UseBody}
 use Rattle.cell_library.specs.Additions.{children_in}

@@ -11,9 +11,9 @@ use Rattle.std.proofs.lemmas.List.{length-map, map-set, map-append, take-map, se
 use Rattle.std.proofs.lemmas.Simd.{map-map}
 use Rattle.indexmap.specs.IndexMap.{insert_entry}
 use Rattle.tech_model.specs.declared.raw.Label.{Label}
-use Rattle.layout_model.specs.Places.{Place}
-use Rattle.layout_model.specs.Layouts.{Layout}
-use Rattle.cell_paint.specs.Paints.{Paint, layout_of}
+use Rattle.cell_bodies.specs.LayoutModel.Places.{Place}
+use Rattle.cell_bodies.specs.LayoutModel.Layouts.{Layout}
+use Rattle.cell_bodies.specs.CellPaint.Paints.{Paint, layout_of}
 use Rattle.cell_library.specs.declared.contents.Content.{Content}
 use Rattle.cell_library.specs.Contents.{Held, held_of, held_in, held_at, no_held, AreUnderNames, position_of, IsRepainted}
 

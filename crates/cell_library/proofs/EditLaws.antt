@@ -4,8 +4,8 @@ use Rattle.std.specs.Prelude.{All, Option}
 use Rattle.std.proofs.lemmas.List.{length-set, length-map, map-set}
 use Rattle.std.proofs.lemmas.List.Elements.{All-set}
 use Rattle.std.proofs.Math.Seq.{map-set_same}
-use Rattle.finite_sets.specs.Lists.{Distinct}
-use Rattle.cell_paint.specs.Paints.{layout_of}
+use Rattle.geo_core.specs.FiniteSets.Lists.{Distinct}
+use Rattle.cell_bodies.specs.CellPaint.Paints.{layout_of}
 use Rattle.tech_model.specs.declared.raw.RawTech.{RawTech}
 use Rattle.cell_tree.specs.declared.use_tables.UseBody.{UseBody}
 use Rattle.cell_tree.specs.Sizes.{CellState}

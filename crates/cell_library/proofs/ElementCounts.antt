@@ -2,11 +2,11 @@
 use Rattle.std.proofs.Common.{◌≡◌, ◌+◌, ◌*◌, ◌<◌, ◌≤◌, ℕ, suc, ℤ, List, [], ◌∷◌, length, drop, sym, ap, subst, ◌∙◌, refl, arith}
 use Rattle.std.specs.Prelude.{Some, slice_get}
 use Rattle.std.proofs.Math.Nat.{mul-le-mul_left}
-use Rattle.finite_sets.proofs.Places.{drop-slice_get}
+use Rattle.geo_core.proofs.FiniteSets.Places.{drop-slice_get}
 use Rattle.geo_core.specs.declared.transforms.Transform.{Transform}
 use Rattle.tech_model.specs.declared.raw.RawTech.{RawTech}
-use Rattle.layout_model.specs.CellTrees.{CellTree, Elements as TreeElements}
-use Rattle.layout_model.specs.FlatSets.{element_parts, parts_in}
+use Rattle.cell_bodies.specs.LayoutModel.CellTrees.{CellTree, Elements as TreeElements}
+use Rattle.cell_bodies.specs.LayoutModel.FlatSets.{element_parts, parts_in}
 use Rattle.cell_tree.specs.declared.limits.TheConstants.{MOST_ELEMENTS_BELOW}
 use Rattle.cell_tree.specs.declared.sizes.Dimension.TheVariants.{Elements}
 use Rattle.cell_tree.specs.declared.sizes.Size.{Size}

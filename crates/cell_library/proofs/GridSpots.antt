@@ -22,7 +22,7 @@ use Rattle.geo_core.specs.Images.{composed, image, inverted, rect_image}
 use Rattle.geo_core.specs.Reach.{MovesInReach}
 use Rattle.geo_core.proofs.ElementLaws.{columns, rows, elements_of-at, length-elements_of, stands_at}
 use Rattle.geo_core.proofs.ImageLaws.{transform_of, image-back, image-forth, rect_image-covers}
-use Rattle.layout_model.specs.Places.{Place}
+use Rattle.cell_bodies.specs.LayoutModel.Places.{Place}
 use Rattle.cell_tree.specs.declared.use_tables.UseBody.{UseBody}
 use Rattle.cell_tree.specs.Uses.{displacements, IsLawfulGrid, IsLawfulUse, IsShift}
 use Rattle.cell_library.specs.declared.spots.Spot.{Spot}

@@ -7,9 +7,9 @@ use Rattle.geo_core.specs.declared.transforms.Transform.{Transform}
 use Rattle.geo_core.specs.Covering.{Covers}
 use Rattle.geo_core.specs.Images.{rect_image}
 use Rattle.tech_model.specs.declared.raw.RawTech.{RawTech}
-use Rattle.layout_model.specs.Places.{Place}
-use Rattle.layout_model.specs.CellTrees.{CellTree, Elements, place_back}
-use Rattle.layout_model.specs.FlatSets.{element_parts, elements_in, flat_sets}
+use Rattle.cell_bodies.specs.LayoutModel.Places.{Place}
+use Rattle.cell_bodies.specs.LayoutModel.CellTrees.{CellTree, Elements, place_back}
+use Rattle.cell_bodies.specs.LayoutModel.FlatSets.{element_parts, elements_in, flat_sets}
 use Rattle.cell_tree.specs.declared.sizes.Size.{Size}
 use Rattle.cell_tree.specs.declared.use_tables.UseBody.{UseBody}
 use Rattle.cell_tree.specs.Hulls.{displaced, element_hulls}

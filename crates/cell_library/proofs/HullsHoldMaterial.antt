@@ -6,8 +6,8 @@ use Rattle.std.specs.Option.{option_to_list}
 use Rattle.std.proofs.lemmas.Bool.{cases_lt}
 use Rattle.std.proofs.lemmas.Int.{ints}
 use Rattle.std.proofs.lemmas.List.{get_or_past}
-use Rattle.finite_sets.specs.Lists.{In}
-use Rattle.finite_sets.proofs.Members.{In-append_left, In-append_right}
+use Rattle.geo_core.specs.FiniteSets.Lists.{In}
+use Rattle.geo_core.proofs.FiniteSets.Members.{In-append_left, In-append_right}
 use Rattle.geo_core.specs.declared.orients.Orient.{Orient}
 use Rattle.geo_core.specs.declared.orients.Orient.TheVariants.{R0}
 use Rattle.geo_core.specs.declared.squares.Square.{Square}
@@ -20,8 +20,8 @@ use Rattle.geo_core.proofs.SquareLaws.{rect_is}
 use Rattle.geo_core.proofs.ImageLaws.{transform_of, image-forth, rect_image-covers}
 use Rattle.tech_model.specs.declared.raw.RawTech.{RawTech}
 use Rattle.tech_model.specs.Types.{parts_of}
-use Rattle.layout_model.specs.Places.{Place}
-use Rattle.layout_model.specs.Layouts.{IsMaterial}
+use Rattle.cell_bodies.specs.LayoutModel.Places.{Place}
+use Rattle.cell_bodies.specs.LayoutModel.Layouts.{IsMaterial}
 use Rattle.cell_tree.specs.declared.sizes.Size.{Size}
 use Rattle.cell_tree.specs.declared.use_tables.UseBody.{UseBody}
 use Rattle.cell_tree.specs.Uses.{displacements}
@@ -30,16 +30,16 @@ use Rattle.cell_tree.specs.Sizes.{CellState, AreSizes, hulls_below, size_at, siz
 use Rattle.cell_tree.specs.Trees.{cell_at}
 use Rattle.cell_tree.proofs.HullLaws.{inside_all}
 use Rattle.cell_tree.proofs.WholeLaws.{cell_is}
-use Rattle.layout_model.specs.CellTrees.{CellTree, Elements, place_back}
-use Rattle.layout_model.specs.CellTrees.CellTree.{cell_tree}
-use Rattle.layout_model.specs.CellTrees.Elements.{no_elements, element_and}
-use Rattle.layout_model.specs.FlatSets.{flat_sets, sets_below, sets_in}
+use Rattle.cell_bodies.specs.LayoutModel.CellTrees.{CellTree, Elements, place_back}
+use Rattle.cell_bodies.specs.LayoutModel.CellTrees.CellTree.{cell_tree}
+use Rattle.cell_bodies.specs.LayoutModel.CellTrees.Elements.{no_elements, element_and}
+use Rattle.cell_bodies.specs.LayoutModel.FlatSets.{flat_sets, sets_below, sets_in}
 use Rattle.cell_library.specs.LayoutTrees.{element_transform, elements_at, elements_from, tree_to}
 use Rattle.cell_library.specs.Limits.{AreStatesOf}
 use Rattle.cell_library.specs.steps.MaterialBelow.{HasMaterial, HasMaterialBelow}
 use Rattle.cell_library.specs.OwnBoxes.{OwnBoxIs}
 use Rattle.cell_library.specs.Views.{CellView, LibraryView, no_cell, view_at}
-use Rattle.layout_model.proofs.SetUnions.{union_some}
+use Rattle.cell_bodies.proofs.LayoutModel.SetUnions.{union_some}
 use Rattle.cell_library.proofs.ViewLaws.{length-states, state_there}
 
 -- ---- elements

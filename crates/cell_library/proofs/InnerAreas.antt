@@ -4,18 +4,18 @@ use Rattle.std.specs.Prelude.{nat_lt}
 use Rattle.std.specs.List.{list_any, range_with_len}
 use Rattle.std.proofs.lemmas.Bool.{cases_Bool, cases_lt, ltb-true, ltb-false}
 use Rattle.std.proofs.lemmas.Int.{ints, clamps}
-use Rattle.finite_sets.specs.Lists.{In}
-use Rattle.finite_sets.specs.Range.{integer_range, pairs_of}
-use Rattle.finite_sets.proofs.Ranges.{In-pairs_of, Lists-rectangle}
-use Rattle.finite_sets.proofs.Searches.{list_any-In, list_any-source}
+use Rattle.geo_core.specs.FiniteSets.Lists.{In}
+use Rattle.geo_core.specs.FiniteSets.Range.{integer_range, pairs_of}
+use Rattle.geo_core.proofs.FiniteSets.Ranges.{In-pairs_of, Lists-rectangle}
+use Rattle.geo_core.proofs.FiniteSets.Searches.{list_any-In, list_any-source}
 use Rattle.geo_core.specs.declared.squares.Rect.{Rect}
 use Rattle.geo_core.specs.Areas.{joined_rect, LiesWithin}
 use Rattle.geo_core.specs.Covering.{is_covered, Covers}
 use Rattle.geo_core.proofs.CoveringLaws.{covers_joined_left, covers_joined_right, within_covers, within_joined_first, within_joined_second, within_trans, Covers-is_covered}
 use Rattle.tech_model.specs.declared.raw.Label.{Label}
 use Rattle.tech_model.proofs.WellFormedLaws.{In-range_with_len}
-use Rattle.layout_model.specs.Layouts.{Layout, IsMaterial}
-use Rattle.layout_model.specs.Places.{Place}
+use Rattle.cell_bodies.specs.LayoutModel.Layouts.{Layout, IsMaterial}
+use Rattle.cell_bodies.specs.LayoutModel.Places.{Place}
 use Rattle.cell_library.specs.OwnBoxes.{HasOwn, HoldsOwn, IsOwnBox}
 use Rattle.cell_library.specs.steps.OwnRestorations.{is_inside}
 

@@ -7,7 +7,7 @@ use Rattle.std.proofs.lemmas.List.{length-map, take_at}
 use Rattle.std.proofs.lemmas.List.Elements.{All-push, All-set, All-take}
 use Rattle.std.proofs.lemmas.Option.{slice_get_within}
 use Rattle.indexmap.specs.IndexMap.{set_value_at}
-use Rattle.cell_paint.specs.Paints.{layout_of, IsSoundPaint}
+use Rattle.cell_bodies.specs.CellPaint.Paints.{layout_of, IsSoundPaint}
 use Rattle.cell_library.specs.declared.contents.Content.{Content}
 use Rattle.cell_library.specs.Contents.{held_of, held_in, no_held, IsSoundHeld, AreKept}
 use Rattle.cell_library.proofs.ContentLaws.{held_value, held_set, still_under_names, held_more, under_names_more, held_first, under_names_first}

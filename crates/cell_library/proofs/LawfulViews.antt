@@ -3,8 +3,8 @@ use Rattle.std.proofs.Common.{◌≡◌, ◌<◌, ℕ, List, length, refl, sym, 
 use Rattle.std.specs.Prelude.{All}
 use Rattle.std.proofs.lemmas.List.{get_or_default}
 use Rattle.tech_model.specs.declared.raw.TypeRec.{TypeRec}
-use Rattle.layout_model.specs.Layouts.{Layout}
-use Rattle.cell_paint.specs.Paints.{IsSoundPaint, layout_of}
+use Rattle.cell_bodies.specs.LayoutModel.Layouts.{Layout}
+use Rattle.cell_bodies.specs.CellPaint.Paints.{IsSoundPaint, layout_of}
 use Rattle.cell_library.specs.Contents.{IsSoundHeld, held_at, no_held}
 use Rattle.cell_library.specs.LawfulViews.{HasSoundPaint, IsSoundView}
 use Rattle.cell_library.specs.Libraries.{IsLawfulLibrary, LibraryParts, seen, uses_in}

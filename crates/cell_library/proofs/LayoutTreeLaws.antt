@@ -2,8 +2,8 @@
 use Rattle.std.proofs.Common.{◌≡◌, ◌<◌, ◌≤◌, ℕ, zero, suc, List, [], ◌∷◌, length, refl, sym, ap, ◌∙◌, arith}
 use Rattle.std.specs.Prelude.{Some, slice_get}
 use Rattle.std.proofs.lemmas.Option.{slice_get-get_or}
-use Rattle.layout_model.specs.CellTrees.{CellTree}
-use Rattle.layout_model.specs.CellTrees.CellTree.{cell_tree}
+use Rattle.cell_bodies.specs.LayoutModel.CellTrees.{CellTree}
+use Rattle.cell_bodies.specs.LayoutModel.CellTrees.CellTree.{cell_tree}
 use Rattle.cell_tree.specs.declared.limits.TheConstants.{MOST_DEPTH}
 use Rattle.cell_tree.specs.declared.sizes.Dimension.TheVariants.{Depth}
 use Rattle.cell_tree.specs.declared.sizes.Size.{Size}

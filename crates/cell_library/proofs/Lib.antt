@@ -1,4 +1,7 @@
 -- what crates above name of those below
+pub use Rattle.cell_bodies.proofs.LayoutModel as LayoutModel
+pub use Rattle.cell_bodies.proofs.CellPaint as CellPaint
+pub use Rattle.cell_bodies.proofs as CellBodies
 pub use Rattle.cell_tree.proofs as CellTree
 pub mod AddedCells
 mod ArrivingCells

@@ -6,9 +6,9 @@ use Rattle.std.specs.Prelude.{Some, None, IsTrue, unwrap_or}
 use Rattle.std.specs.Int.{bit_at}
 use Rattle.std.proofs.lemmas.Bool.{cases_Bool, cases_lt, true≢false, eq-eqb, eqb-true}
 use Rattle.std.proofs.lemmas.Nat.Bits.{bit_at-zero, bit_at_and, same_from_bits}
-use Rattle.finite_sets.specs.Lists.{In}
-use Rattle.finite_sets.proofs.Members.{In-index, In-get_or}
-use Rattle.finite_sets.proofs.Searches.{find-In, find-none, All-In}
+use Rattle.geo_core.specs.FiniteSets.Lists.{In}
+use Rattle.geo_core.proofs.FiniteSets.Members.{In-index, In-get_or}
+use Rattle.geo_core.proofs.FiniteSets.Searches.{find-In, find-none, All-In}
 use Rattle.geo_core.specs.declared.squares.Square.{Square}
 use Rattle.geo_core.specs.declared.squares.Rect.{Rect}
 use Rattle.geo_core.specs.Covering.{Covers, is_covered}
@@ -30,13 +30,13 @@ use Rattle.tech_model.proofs.SetLaws.{bit_cases, or_bit_right, mark_part_bit, ma
 use Rattle.tech_model.proofs.MarkLaws.{mark_of-contact, residue_set}
 use Rattle.tech_model.proofs.ColumnLaws.{changed, kept_cases, kept_is_column, bit_type, brushed_is_column}
 use Rattle.tech_model.proofs.WholeLaws.{unmarked_keeps}
-use Rattle.layout_model.specs.Places.{Place}
-use Rattle.layout_model.specs.Layouts.{Layout, IsMaterial}
-use Rattle.cell_paint.specs.Painting.{place_at, column_at, with_paint, with_erased}
-use Rattle.cell_paint.specs.Paints.{KeepsTypes}
-use Rattle.cell_paint.proofs.ColumnsLaws.{column_type}
-use Rattle.cell_paint.proofs.PaintLaws.{type_past_column, changed_inside, changed_outside}
-use Rattle.cell_paint.proofs.AgainLaws.{image_type}
+use Rattle.cell_bodies.specs.LayoutModel.Places.{Place}
+use Rattle.cell_bodies.specs.LayoutModel.Layouts.{Layout, IsMaterial}
+use Rattle.cell_bodies.specs.CellPaint.Painting.{place_at, column_at, with_paint, with_erased}
+use Rattle.cell_bodies.specs.CellPaint.Paints.{KeepsTypes}
+use Rattle.cell_bodies.proofs.CellPaint.ColumnsLaws.{column_type}
+use Rattle.cell_bodies.proofs.CellPaint.PaintLaws.{type_past_column, changed_inside, changed_outside}
+use Rattle.cell_bodies.proofs.CellPaint.AgainLaws.{image_type}
 
 -- ---- one contact's mark
 

@@ -8,9 +8,9 @@ use Rattle.std.proofs.lemmas.Bool.{cases_Bool, cases_eq, cases_lt}
 use Rattle.std.proofs.lemmas.List.{length-set, get_or-set_same}
 use Rattle.std.proofs.lemmas.Option.{slice_get-get_or}
 use Rattle.std.proofs.lemmas.Slice.Eq.{bytes_eq-Decides}
-use Rattle.finite_sets.specs.Lists.{In, Distinct}
-use Rattle.finite_sets.proofs.Searches.{All-from_In, All-In}
-use Rattle.finite_sets.proofs.Places.{slice_get-set_other}
+use Rattle.geo_core.specs.FiniteSets.Lists.{In, Distinct}
+use Rattle.geo_core.proofs.FiniteSets.Searches.{All-from_In, All-In}
+use Rattle.geo_core.proofs.FiniteSets.Places.{slice_get-set_other}
 use Rattle.geo_core.specs.declared.grids.Grid.{Grid}
 use Rattle.geo_core.specs.declared.transforms.Transform.{Transform}
 use Rattle.cell_bodies.specs.Words.{is_use_id}

@@ -8,12 +8,12 @@ use Rattle.std.proofs.lemmas.Bool.{cases_Bool}
 use Rattle.std.proofs.lemmas.List.{map-append}
 use Rattle.std.proofs.lemmas.List.Elements.{All-push}
 use Rattle.std.proofs.lemmas.Slice.Eq.{bytes_eq-Decides}
-use Rattle.finite_sets.specs.Lists.{In, Distinct}
-use Rattle.finite_sets.proofs.Distincts.{Distinct-push}
-use Rattle.text_scan.specs.PlainNames.{is_plain_name}
-use Rattle.layout_model.specs.Places.{Place}
-use Rattle.layout_model.specs.Layouts.{Layout}
-use Rattle.cell_paint.specs.Paints.{layout_of}
+use Rattle.geo_core.specs.FiniteSets.Lists.{In, Distinct}
+use Rattle.geo_core.proofs.FiniteSets.Distincts.{Distinct-push}
+use Rattle.ext_model.specs.TextScan.PlainNames.{is_plain_name}
+use Rattle.cell_bodies.specs.LayoutModel.Places.{Place}
+use Rattle.cell_bodies.specs.LayoutModel.Layouts.{Layout}
+use Rattle.cell_bodies.specs.CellPaint.Paints.{layout_of}
 use Rattle.cell_tree.specs.Sizes.{CellState}
 use Rattle.cell_tree.specs.Trees.{Tree, IsLawfulTree, empty_cell as empty_state}
 use Rattle.cell_library.specs.declared.faults.LibFault.{LibFault}

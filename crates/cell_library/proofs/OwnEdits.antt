@@ -5,13 +5,13 @@ use Rattle.std.specs.Str.{bytes_eq}
 use Rattle.std.proofs.lemmas.Bool.{and_from}
 use Rattle.std.proofs.lemmas.List.{get_or-set_same}
 use Rattle.std.proofs.lemmas.List.Elements.{All-push}
-use Rattle.finite_sets.proofs.Members.{In-filter_source}
-use Rattle.finite_sets.proofs.Searches.{All-from_In, All-In}
+use Rattle.geo_core.proofs.FiniteSets.Members.{In-filter_source}
+use Rattle.geo_core.proofs.FiniteSets.Searches.{All-from_In, All-In}
 use Rattle.geo_core.specs.declared.squares.Rect.{Rect}
 use Rattle.tech_model.specs.declared.raw.Label.{Label}
-use Rattle.layout_model.specs.Layouts.{Layout}
-use Rattle.cell_paint.specs.Painting.{with_erased, is_in_range}
-use Rattle.cell_paint.specs.Paints.{layout_of}
+use Rattle.cell_bodies.specs.LayoutModel.Layouts.{Layout}
+use Rattle.cell_bodies.specs.CellPaint.Painting.{with_erased, is_in_range}
+use Rattle.cell_bodies.specs.CellPaint.Paints.{layout_of}
 use Rattle.cell_bodies.specs.Bodies.{IsLabel}
 use Rattle.cell_bodies.specs.Numbers.{has_sides, is_position}
 use Rattle.cell_bodies.specs.Words.{is_label_text}

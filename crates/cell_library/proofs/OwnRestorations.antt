@@ -5,9 +5,9 @@ use Rattle.std.specs.Option.{option_to_list}
 use Rattle.std.proofs.lemmas.Int.{ints}
 use Rattle.std.proofs.lemmas.List.{get_or-set_same, length-set}
 use Rattle.std.proofs.lemmas.List.Elements.{All-take}
-use Rattle.finite_sets.specs.Lists.{In}
-use Rattle.finite_sets.proofs.Members.{In-push_cases}
-use Rattle.finite_sets.proofs.Places.{In-take}
+use Rattle.geo_core.specs.FiniteSets.Lists.{In}
+use Rattle.geo_core.proofs.FiniteSets.Members.{In-push_cases}
+use Rattle.geo_core.proofs.FiniteSets.Places.{In-take}
 use Rattle.geo_core.specs.declared.squares.Rect.{Rect}
 use Rattle.geo_core.specs.declared.squares.Piece.{Piece}
 use Rattle.geo_core.specs.Areas.{LiesWithin}
@@ -17,12 +17,12 @@ use Rattle.tech_model.specs.declared.raw.RawTech.{RawTech}
 use Rattle.tech_model.specs.declared.raw.TypeRec.{TypeRec}
 use Rattle.tech_model.specs.declared.raw.TypeId.{TypeId}
 use Rattle.tech_model.specs.Columns.{erased_column, type_on}
-use Rattle.layout_model.specs.Layouts.{Layout}
-use Rattle.layout_model.specs.Places.{Place}
-use Rattle.cell_paint.specs.Painting.{column_at, with_columns, with_erased}
-use Rattle.cell_paint.specs.Paints.{layout_of, IsSoundPaint}
-use Rattle.cell_paint.specs.Pieces.{with_pieces}
-use Rattle.cell_paint.proofs.PieceLaws.{pieces_outside}
+use Rattle.cell_bodies.specs.LayoutModel.Layouts.{Layout}
+use Rattle.cell_bodies.specs.LayoutModel.Places.{Place}
+use Rattle.cell_bodies.specs.CellPaint.Painting.{column_at, with_columns, with_erased}
+use Rattle.cell_bodies.specs.CellPaint.Paints.{layout_of, IsSoundPaint}
+use Rattle.cell_bodies.specs.CellPaint.Pieces.{with_pieces}
+use Rattle.cell_bodies.proofs.CellPaint.PieceLaws.{pieces_outside}
 use Rattle.cell_bodies.specs.Bodies.{IsLabel}
 use Rattle.cell_bodies.specs.Numbers.{has_sides}
 use Rattle.cell_tree.specs.declared.sizes.Dimension.TheVariants.{Hull}

@@ -4,9 +4,9 @@ use Rattle.std.proofs.Common.{inl, inr, append_assoc}
 use Rattle.std.specs.Prelude.{slice_get}
 use Rattle.std.proofs.lemmas.Bool.{cases_lt}
 use Rattle.std.proofs.lemmas.Int.{ints}
-use Rattle.finite_sets.specs.Lists.{In, Distinct}
-use Rattle.finite_sets.proofs.Members.{In-append_left, In-append_right, In-append_cases, In-map, In-map_source}
-use Rattle.finite_sets.proofs.Distincts.{Distinct-append, Distinct-map, Distinct-from_places}
+use Rattle.geo_core.specs.FiniteSets.Lists.{In, Distinct}
+use Rattle.geo_core.proofs.FiniteSets.Members.{In-append_left, In-append_right, In-append_cases, In-map, In-map_source}
+use Rattle.geo_core.proofs.FiniteSets.Distincts.{Distinct-append, Distinct-map, Distinct-from_places}
 use Rattle.geo_core.specs.declared.squares.Square.{Square}
 use Rattle.geo_core.specs.declared.squares.Rect.{Rect}
 use Rattle.geo_core.specs.declared.squares.Piece.{Piece}
@@ -18,10 +18,10 @@ use Rattle.geo_core.specs.Strips.{IsStrip, StandsBefore}
 use Rattle.geo_core.proofs.CoveringLaws.{covers_both, filled_within}
 use Rattle.geo_core.proofs.ImageLaws.{image-forth, rect_image-covers}
 use Rattle.geo_core.proofs.StripSets.{strip_is_proper, strip_within}
-use Rattle.layout_model.specs.Layouts.{Layout, IsMaterial}
-use Rattle.layout_model.specs.Places.{Place}
-use Rattle.layout_model.specs.CellTrees.{Standing, place_back}
-use Rattle.cell_paint.specs.Painting.{kinds_on}
+use Rattle.cell_bodies.specs.LayoutModel.Layouts.{Layout, IsMaterial}
+use Rattle.cell_bodies.specs.LayoutModel.Places.{Place}
+use Rattle.cell_bodies.specs.LayoutModel.CellTrees.{Standing, place_back}
+use Rattle.cell_bodies.specs.CellPaint.Painting.{kinds_on}
 use Rattle.cell_library.specs.declared.part_tiles.PartTile.{PartTile}
 use Rattle.cell_library.specs.declared.spots.Spot.{Spot}
 use Rattle.cell_library.specs.Spots.{standing_at, tile_at, AddsOwn}

@@ -11,11 +11,11 @@ use Rattle.tech_model.specs.declared.raw.RawTech.{RawTech}
 use Rattle.tech_model.specs.Types.{plane_of}
 use Rattle.tech_model.specs.WellFormed.{IsWellFormed}
 use Rattle.tech_model.specs.Rules.{KeepsRules}
-use Rattle.layout_model.specs.Places.{Place}
-use Rattle.layout_model.specs.Layouts.{Layout, IsMaterial}
-use Rattle.cell_paint.specs.Painting.{place_at, with_paint}
-use Rattle.cell_paint.specs.Paints.{Paint, layout_of, KeepsTypes, IsSoundPaint}
-use Rattle.cell_paint.proofs.PlaneLaws.{space_past}
+use Rattle.cell_bodies.specs.LayoutModel.Places.{Place}
+use Rattle.cell_bodies.specs.LayoutModel.Layouts.{Layout, IsMaterial}
+use Rattle.cell_bodies.specs.CellPaint.Painting.{place_at, with_paint}
+use Rattle.cell_bodies.specs.CellPaint.Paints.{Paint, layout_of, KeepsTypes, IsSoundPaint}
+use Rattle.cell_bodies.proofs.CellPaint.PlaneLaws.{space_past}
 use Rattle.cell_tree.specs.declared.sizes.Dimension.TheVariants.{Hull}
 use Rattle.cell_tree.specs.Sizes.{CellState}
 use Rattle.cell_tree.specs.Trees.{Tree, IsLawfulTree, cell_at, empty_cell as empty_state}

@@ -2,17 +2,17 @@
 use Rattle.std.proofs.Common.{◌≡◌, ◌≢◌, ◌<◌, ◌+◌, inl, inr, ℕ, zero, suc, List, [], ◌∷◌, map, length, sym, ap, ◌∙◌, arith}
 use Rattle.std.specs.Prelude.{Some, slice_get}
 use Rattle.std.proofs.lemmas.Bool.{cases_lt}
-use Rattle.finite_sets.specs.Lists.{In}
-use Rattle.finite_sets.proofs.Members.{In-append_cases, In-map_source}
-use Rattle.finite_sets.proofs.Places.{In-slice_get}
+use Rattle.geo_core.specs.FiniteSets.Lists.{In}
+use Rattle.geo_core.proofs.FiniteSets.Members.{In-append_cases, In-map_source}
+use Rattle.geo_core.proofs.FiniteSets.Places.{In-slice_get}
 use Rattle.geo_core.specs.declared.squares.Rect.{Rect}
 use Rattle.geo_core.specs.Covering.{Covers}
 use Rattle.tech_model.specs.declared.raw.RawTech.{RawTech}
-use Rattle.layout_model.specs.Places.{Place}
-use Rattle.layout_model.specs.CellTrees.{CellTree, Elements, Standing, standings, standings_from, under}
-use Rattle.layout_model.specs.CellTrees.CellTree.{cell_tree}
-use Rattle.layout_model.specs.CellTrees.Elements.{no_elements, element_and}
-use Rattle.layout_model.specs.FlatSets.{element_parts, parts_in}
+use Rattle.cell_bodies.specs.LayoutModel.Places.{Place}
+use Rattle.cell_bodies.specs.LayoutModel.CellTrees.{CellTree, Elements, Standing, standings, standings_from, under}
+use Rattle.cell_bodies.specs.LayoutModel.CellTrees.CellTree.{cell_tree}
+use Rattle.cell_bodies.specs.LayoutModel.CellTrees.Elements.{no_elements, element_and}
+use Rattle.cell_bodies.specs.LayoutModel.FlatSets.{element_parts, parts_in}
 use Rattle.cell_tree.specs.Sizes.{hulls_below, size_at}
 use Rattle.cell_library.specs.declared.part_tiles.PartTile.{PartTile}
 use Rattle.cell_library.specs.ElementBoxes.{AreElementBoxes, HoldParts}

@@ -5,8 +5,8 @@ use Rattle.std.specs.Prelude.{slice_get, slice_index_or, ◌==◌, ◌&&◌, if�
 use Rattle.std.specs.Int.{bit_at}
 use Rattle.std.proofs.lemmas.Bool.{cases_Bool, cases_eq, eq-eqb, eqb-true, and_parts}
 use Rattle.std.proofs.lemmas.Nat.Bits.{bit_at-zero, bit_at_or, bit_at-lt, same_from_bits}
-use Rattle.finite_sets.specs.Lists.{In, Lists}
-use Rattle.finite_sets.proofs.Places.{In-slice_get}
+use Rattle.geo_core.specs.FiniteSets.Lists.{In, Lists}
+use Rattle.geo_core.proofs.FiniteSets.Places.{In-slice_get}
 use Rattle.geo_core.specs.declared.squares.Rect.{Rect}
 use Rattle.geo_core.specs.declared.transforms.Transform.{Transform}
 use Rattle.geo_core.specs.Covering.{Covers, is_covered}
@@ -14,11 +14,11 @@ use Rattle.geo_core.specs.Images.{composed, identity, image, inverted}
 use Rattle.geo_core.proofs.CoveringLaws.{Covers-is_covered, is_covered-Covers}
 use Rattle.tech_model.specs.declared.raw.RawTech.{RawTech}
 use Rattle.tech_model.specs.Types.{parts_of}
-use Rattle.layout_model.specs.Places.{Place}
-use Rattle.layout_model.specs.CellTrees.{CellTree, Elements, Standing, place_back}
-use Rattle.layout_model.specs.CellTrees.CellTree.{cell_tree}
-use Rattle.layout_model.specs.CellTrees.Elements.{no_elements, element_and}
-use Rattle.layout_model.specs.FlatSets.{flat_sets, sets_below, element_parts}
+use Rattle.cell_bodies.specs.LayoutModel.Places.{Place}
+use Rattle.cell_bodies.specs.LayoutModel.CellTrees.{CellTree, Elements, Standing, place_back}
+use Rattle.cell_bodies.specs.LayoutModel.CellTrees.CellTree.{cell_tree}
+use Rattle.cell_bodies.specs.LayoutModel.CellTrees.Elements.{no_elements, element_and}
+use Rattle.cell_bodies.specs.LayoutModel.FlatSets.{flat_sets, sets_below, element_parts}
 use Rattle.cell_tree.specs.declared.limits.TheConstants.{MOST_DEPTH}
 use Rattle.cell_library.specs.declared.part_tiles.PartTile.{PartTile}
 use Rattle.cell_library.specs.LayoutTrees.{tree_at, tree_to}
@@ -27,7 +27,7 @@ use Rattle.cell_library.specs.PartTiles.{set_from, set_of_part, set_of_tiles, Is
 use Rattle.cell_library.specs.steps.VisitedTiles.{placed_cells, placed_below, AddsTiles, IsCutOf, HasThere, AreTold}
 use Rattle.cell_library.proofs.PlacedCells.{standings_placed}
 use Rattle.cell_library.proofs.PlacedRects.{back_on, identity_back, then_identity}
-use Rattle.layout_model.proofs.SetUnions.{union_none, none_union, union_assoc}
+use Rattle.cell_bodies.proofs.LayoutModel.SetUnions.{union_none, none_union, union_assoc}
 use Rattle.cell_library.proofs.ToldTiles.{cut_type}
 
 -- ---- part tiles

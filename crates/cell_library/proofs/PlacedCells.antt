@@ -2,13 +2,13 @@
 use Rattle.std.proofs.Common.{◌≡◌, ◌+◌, ◌*◌, ◌<◌, ◌≤◌, ℕ, zero, suc, ℤ, List, [], ◌∷◌, ◌++◌, map, length, refl, sym, ap, subst, ◌∙◌, arith, inl, inr}
 use Rattle.std.specs.Prelude.{Some, slice_get}
 use Rattle.std.proofs.lemmas.List.{length-append, map-append}
-use Rattle.finite_sets.specs.Lists.{In}
-use Rattle.finite_sets.proofs.Members.{In-append_cases}
+use Rattle.geo_core.specs.FiniteSets.Lists.{In}
+use Rattle.geo_core.proofs.FiniteSets.Members.{In-append_cases}
 use Rattle.geo_core.specs.declared.squares.Rect.{Rect}
 use Rattle.geo_core.specs.declared.transforms.Transform.{Transform}
 use Rattle.geo_core.specs.Covering.{Covers}
 use Rattle.geo_core.specs.Images.{composed, identity}
-use Rattle.layout_model.specs.Places.{Place}
+use Rattle.cell_bodies.specs.LayoutModel.Places.{Place}
 use Rattle.cell_tree.specs.declared.sizes.Size.{Size}
 use Rattle.cell_tree.specs.declared.use_tables.UseBody.{UseBody}
 use Rattle.cell_tree.specs.Uses.{displacements}
@@ -16,9 +16,9 @@ use Rattle.cell_tree.specs.Sizes.{CellState, AreSizes, size_at, size_of, element
 use Rattle.cell_tree.specs.Trees.{cell_at}
 use Rattle.cell_tree.proofs.SizeLaws.{child_is_lower}
 use Rattle.cell_tree.proofs.WholeLaws.{cell_is}
-use Rattle.layout_model.specs.CellTrees.{CellTree, Elements, Standing, under, place_back, standings, standings_from}
-use Rattle.layout_model.specs.CellTrees.CellTree.{cell_tree}
-use Rattle.layout_model.specs.CellTrees.Elements.{no_elements, element_and}
+use Rattle.cell_bodies.specs.LayoutModel.CellTrees.{CellTree, Elements, Standing, under, place_back, standings, standings_from}
+use Rattle.cell_bodies.specs.LayoutModel.CellTrees.CellTree.{cell_tree}
+use Rattle.cell_bodies.specs.LayoutModel.CellTrees.Elements.{no_elements, element_and}
 use Rattle.cell_library.specs.LayoutTrees.{elements_at, elements_from, tree_to}
 use Rattle.cell_library.specs.Limits.{AreStatesOf}
 use Rattle.cell_library.specs.steps.MaterialBelow.{HasMaterial, HasMaterialBelow}

@@ -12,8 +12,8 @@ use Rattle.geo_core.specs.Images.{composed, identity, image, inverted, point_x, 
 use Rattle.geo_core.specs.Orientation.{after_turn, after_mirror, orient_then}
 use Rattle.geo_core.proofs.SquareLaws.{rect_is}
 use Rattle.geo_core.proofs.ImageLaws.{transform_of, transform_is, image-forth, image-composed, image-injective, rect_image-covers}
-use Rattle.layout_model.specs.Places.{Place}
-use Rattle.layout_model.specs.CellTrees.{place_back}
+use Rattle.cell_bodies.specs.LayoutModel.Places.{Place}
+use Rattle.cell_bodies.specs.LayoutModel.CellTrees.{place_back}
 
 -- ---- there and back
 

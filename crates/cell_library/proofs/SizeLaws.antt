@@ -6,9 +6,9 @@ use Rattle.std.specs.Option.{option_to_list}
 use Rattle.std.proofs.lemmas.Bool.{cases_eq, cases_lt}
 use Rattle.std.proofs.lemmas.List.{length-set, get_or_past, get_or-set_same, get_or-set_other}
 use Rattle.std.proofs.lemmas.Option.{slice_get-get_or, slice_get_within, get_or_from_slice_get}
-use Rattle.finite_sets.specs.Chain.{stay}
-use Rattle.finite_sets.proofs.Chains.{Chain-push}
-use Rattle.finite_sets.proofs.Places.{slice_get-set_other}
+use Rattle.geo_core.specs.FiniteSets.Chain.{stay}
+use Rattle.geo_core.proofs.FiniteSets.Chains.{Chain-push}
+use Rattle.geo_core.proofs.FiniteSets.Places.{slice_get-set_other}
 use Rattle.cell_tree.specs.declared.sizes.Dimension.{Dimension}
 use Rattle.cell_tree.specs.declared.sizes.Dimension.TheVariants.{Depth, Elements, Hull}
 use Rattle.cell_tree.specs.declared.sizes.Size.{Size}

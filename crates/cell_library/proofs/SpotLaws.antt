@@ -3,8 +3,8 @@ use Rattle.std.proofs.Common.{◌≡◌, ◌+◌, ◌*◌, ℕ, zero, suc, ℤ, 
 use Rattle.std.proofs.Common.{append_assoc}
 use Rattle.std.specs.Prelude.{Some, slice_get}
 use Rattle.std.proofs.lemmas.List.{length-append, append-nil, drop_all}
-use Rattle.finite_sets.specs.Lists.{In}
-use Rattle.finite_sets.proofs.Members.{In-append_cases}
+use Rattle.geo_core.specs.FiniteSets.Lists.{In}
+use Rattle.geo_core.proofs.FiniteSets.Members.{In-append_cases}
 use Rattle.geo_core.specs.declared.squares.Rect.{Rect}
 use Rattle.geo_core.specs.declared.transforms.Transform.{Transform}
 use Rattle.geo_core.specs.Images.{composed}
@@ -12,7 +12,7 @@ use Rattle.cell_tree.specs.declared.sizes.Size.{Size}
 use Rattle.cell_tree.specs.declared.use_tables.UseBody.{UseBody}
 use Rattle.cell_tree.specs.Uses.{displacements}
 use Rattle.cell_tree.specs.Sizes.{elements_below}
-use Rattle.layout_model.specs.CellTrees.{CellTree, Elements, Standing}
+use Rattle.cell_bodies.specs.LayoutModel.CellTrees.{CellTree, Elements, Standing}
 use Rattle.cell_library.specs.declared.part_tiles.PartTile.{PartTile}
 use Rattle.cell_library.specs.declared.spots.Spot.{Spot}
 use Rattle.cell_library.specs.LayoutTrees.{element_transform, elements_at, elements_from}

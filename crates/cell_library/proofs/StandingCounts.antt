@@ -1,7 +1,7 @@
 -- How many cells stand at and below a cell.
 use Rattle.std.proofs.Common.{◌≡◌, ◌<◌, ◌≤◌, ℕ, List, length, ap, ◌∙◌, arith}
 use Rattle.geo_core.specs.Images.{identity}
-use Rattle.layout_model.specs.CellTrees.{CellTree, Standing, standings}
+use Rattle.cell_bodies.specs.LayoutModel.CellTrees.{CellTree, Standing, standings}
 use Rattle.cell_tree.specs.declared.limits.TheConstants.{MOST_DEPTH, MOST_ELEMENTS_BELOW}
 use Rattle.cell_tree.specs.declared.sizes.Dimension.TheVariants.{Depth, Elements}
 use Rattle.cell_tree.specs.Sizes.{size_at}

@@ -3,9 +3,9 @@ use Rattle.std.proofs.Common.{◌≡◌, ◌+◌, ℕ, List, [], ◌++◌, lengt
 use Rattle.std.proofs.Common.{append_assoc}
 use Rattle.std.proofs.lemmas.Option.{slice_get_within}
 use Rattle.std.proofs.lemmas.List.{append-nil}
-use Rattle.finite_sets.proofs.Members.{In-append_left, In-append_right, In-append_cases}
-use Rattle.finite_sets.proofs.Distincts.{Distinct-append}
-use Rattle.finite_sets.proofs.Places.{In-slice_get, slice_get-append_left, slice_get-append_right, slice_get-append_cases}
+use Rattle.geo_core.proofs.FiniteSets.Members.{In-append_left, In-append_right, In-append_cases}
+use Rattle.geo_core.proofs.FiniteSets.Distincts.{Distinct-append}
+use Rattle.geo_core.proofs.FiniteSets.Places.{In-slice_get, slice_get-append_left, slice_get-append_right, slice_get-append_cases}
 use Rattle.geo_core.specs.declared.squares.Square.{Square}
 use Rattle.geo_core.specs.declared.squares.Rect.{Rect}
 use Rattle.geo_core.specs.Covering.{Covers}
@@ -13,8 +13,8 @@ use Rattle.geo_core.specs.Images.{image, inverted, rect_image}
 use Rattle.geo_core.proofs.CoveringLaws.{covers_first, covers_second, corner_covered}
 use Rattle.geo_core.proofs.ImageLaws.{image-forth, rect_image-covered}
 use Rattle.geo_core.proofs.StripSets.{strip_within}
-use Rattle.layout_model.specs.Places.{Place}
-use Rattle.layout_model.specs.CellTrees.{Standing}
+use Rattle.cell_bodies.specs.LayoutModel.Places.{Place}
+use Rattle.cell_bodies.specs.LayoutModel.CellTrees.{Standing}
 use Rattle.cell_library.specs.declared.part_tiles.PartTile.{PartTile}
 use Rattle.cell_library.specs.steps.VisitedTiles.{IsCutOf, HasThere, AreTold, AddsTiles, AreOutside}
 

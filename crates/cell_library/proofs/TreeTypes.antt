@@ -6,12 +6,12 @@ use Rattle.std.proofs.lemmas.List.{get_or_past}
 use Rattle.geo_core.specs.declared.transforms.Transform.{Transform}
 use Rattle.tech_model.specs.declared.limits.TheConstants.{MOST_PLANES}
 use Rattle.tech_model.specs.declared.raw.RawTech.{RawTech}
-use Rattle.layout_model.specs.Layouts.{Layout}
-use Rattle.layout_model.specs.LayerTypes.{HasTypesOf}
-use Rattle.layout_model.specs.CellTrees.{CellTree, Elements}
-use Rattle.layout_model.specs.FlatSets.{IsTyped, AreTyped}
-use Rattle.cell_paint.specs.Paints.{layout_of}
-use Rattle.cell_paint.proofs.PaintTypes.{paint_has_types}
+use Rattle.cell_bodies.specs.LayoutModel.Layouts.{Layout}
+use Rattle.cell_bodies.specs.LayoutModel.LayerTypes.{HasTypesOf}
+use Rattle.cell_bodies.specs.LayoutModel.CellTrees.{CellTree, Elements}
+use Rattle.cell_bodies.specs.LayoutModel.FlatSets.{IsTyped, AreTyped}
+use Rattle.cell_bodies.specs.CellPaint.Paints.{layout_of}
+use Rattle.cell_bodies.proofs.CellPaint.PaintTypes.{paint_has_types}
 use Rattle.cell_tree.specs.declared.use_tables.UseBody.{UseBody}
 use Rattle.cell_tree.specs.Uses.{displacements}
 use Rattle.cell_library.specs.Contents.{held_at, no_held, IsSoundHeld}

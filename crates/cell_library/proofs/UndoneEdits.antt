@@ -6,13 +6,13 @@ use Rattle.geo_core.specs.declared.squares.Rect.{Rect}
 use Rattle.geo_core.specs.Covering.{is_covered}
 use Rattle.tech_model.specs.declared.raw.TypeRec.{TypeRec}
 use Rattle.tech_model.specs.Columns.{painted_column, erased_column}
-use Rattle.layout_model.specs.Layouts.{Layout}
-use Rattle.layout_model.specs.Places.{Place}
-use Rattle.cell_paint.specs.Painting.{with_paint, with_erased}
-use Rattle.cell_paint.specs.Paints.{IsSoundPaint}
-use Rattle.cell_paint.specs.Pieces.{with_pieces, AreTakenOut}
-use Rattle.cell_paint.proofs.PaintLaws.{changed_outside}
-use Rattle.cell_paint.proofs.PieceLaws.{taken_brings_back}
+use Rattle.cell_bodies.specs.LayoutModel.Layouts.{Layout}
+use Rattle.cell_bodies.specs.LayoutModel.Places.{Place}
+use Rattle.cell_bodies.specs.CellPaint.Painting.{with_paint, with_erased}
+use Rattle.cell_bodies.specs.CellPaint.Paints.{IsSoundPaint}
+use Rattle.cell_bodies.specs.CellPaint.Pieces.{with_pieces, AreTakenOut}
+use Rattle.cell_bodies.proofs.CellPaint.PaintLaws.{changed_outside}
+use Rattle.cell_bodies.proofs.CellPaint.PieceLaws.{taken_brings_back}
 use Rattle.cell_library.specs.Edits.{painted, erased}
 use Rattle.cell_library.specs.Restorations.{repainted}
 use Rattle.cell_library.specs.Views.{CellView, LibraryView, changed_at, no_cell, view_at, with_cell_changed}

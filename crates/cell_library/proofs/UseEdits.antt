@@ -7,13 +7,13 @@ use Rattle.std.specs.Str.{bytes_eq}
 use Rattle.std.proofs.lemmas.Bool.{cases_eq}
 use Rattle.std.proofs.lemmas.List.{set-get_or}
 use Rattle.std.proofs.lemmas.List.Elements.{All-push}
-use Rattle.finite_sets.specs.Lists.{Distinct}
-use Rattle.finite_sets.proofs.Chains.{Chain-weaker}
-use Rattle.finite_sets.proofs.Members.{In-filter_source}
-use Rattle.finite_sets.proofs.Searches.{All-from_In, All-In}
-use Rattle.finite_sets.proofs.Places.{slice_get-append_left, slice_get-push_new, slice_get-set_other, slice_get-set_same}
+use Rattle.geo_core.specs.FiniteSets.Lists.{Distinct}
+use Rattle.geo_core.proofs.FiniteSets.Chains.{Chain-weaker}
+use Rattle.geo_core.proofs.FiniteSets.Members.{In-filter_source}
+use Rattle.geo_core.proofs.FiniteSets.Searches.{All-from_In, All-In}
+use Rattle.geo_core.proofs.FiniteSets.Places.{slice_get-append_left, slice_get-push_new, slice_get-set_other, slice_get-set_same}
 use Rattle.geo_core.specs.declared.transforms.Transform.{Transform}
-use Rattle.cell_paint.specs.Paints.{layout_of}
+use Rattle.cell_bodies.specs.CellPaint.Paints.{layout_of}
 use Rattle.cell_bodies.specs.Words.{is_use_id}
 use Rattle.cell_tree.specs.declared.faults.TreeFault.{TreeFault}
 use Rattle.cell_tree.specs.declared.faults.TreeFault.TheVariants.{Cycle as Crossing, TooManyUses, Passed, Memory as NoMemory}

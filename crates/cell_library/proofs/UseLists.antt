@@ -5,7 +5,7 @@ use Rattle.std.specs.List.{list_any}
 use Rattle.std.specs.Str.{bytes_eq}
 use Rattle.std.proofs.lemmas.Bool.{cases_Bool}
 use Rattle.std.proofs.lemmas.Slice.Eq.{bytes_eq-Decides}
-use Rattle.finite_sets.specs.Lists.{In, Distinct}
+use Rattle.geo_core.specs.FiniteSets.Lists.{In, Distinct}
 use Rattle.cell_tree.specs.declared.use_tables.UseBody.{UseBody}
 use Rattle.cell_tree.specs.Uses.{HasIdAt, moved_at}
 use Rattle.cell_library.specs.Edits.{with_use_changed}

@@ -6,8 +6,8 @@ use Rattle.std.specs.Option.{option_map}
 use Rattle.std.proofs.lemmas.Bool.{cases_lt}
 use Rattle.std.proofs.lemmas.List.{length-map, take_all}
 use Rattle.std.proofs.lemmas.Option.{get_or_from_slice_get, slice_get-map, slice_get_cases, slice_get_within}
-use Rattle.finite_sets.specs.Lists.{In}
-use Rattle.finite_sets.proofs.Members.{In-get_or, In-index}
+use Rattle.geo_core.specs.FiniteSets.Lists.{In}
+use Rattle.geo_core.proofs.FiniteSets.Members.{In-get_or, In-index}
 use Rattle.geo_core.specs.declared.squares.Rect.{Rect}
 use Rattle.geo_core.specs.declared.transforms.Transform.{Transform}
 use Rattle.geo_core.specs.Areas.{common_rect}
@@ -15,7 +15,7 @@ use Rattle.geo_core.specs.Covering.{Covers, IsProper}
 use Rattle.geo_core.specs.Images.{image, inverted, rect_image}
 use Rattle.geo_core.proofs.CoveringLaws.{covers_both, covers_is_proper}
 use Rattle.geo_core.proofs.ImageLaws.{image-back}
-use Rattle.layout_model.specs.Places.{Place}
+use Rattle.cell_bodies.specs.LayoutModel.Places.{Place}
 use Rattle.cell_tree.specs.declared.limits.TheConstants.{MOST_ELEMENTS_BELOW}
 use Rattle.cell_tree.specs.declared.sizes.Size.{Size}
 use Rattle.cell_tree.specs.declared.use_tables.UseBody.{UseBody}

@@ -2,7 +2,7 @@
 use Rattle.std.proofs.Common.{◌≡◌, ℕ, suc, ◌+◌, ◌<◌, List, [], ◌∷◌, ◌++◌, ◌⊎◌, length, map, take, inl, inr, Some, sym, ap, subst, ◌∙◌, arith}
 use Rattle.std.specs.Prelude.{slice_get}
 use Rattle.std.proofs.lemmas.List.{length-append}
-use Rattle.finite_sets.proofs.Places.{slice_get-append_front, slice_get-push_new}
+use Rattle.geo_core.proofs.FiniteSets.Places.{slice_get-append_front, slice_get-push_new}
 use Rattle.geo_core.specs.declared.squares.Rect.{Rect}
 use Rattle.cell_tree.specs.declared.use_tables.UseBody.{UseBody}
 use Rattle.cell_tree.specs.Sizes.{size_at}

@@ -12,10 +12,10 @@ use Rattle.geo_core.specs.Covering.{Covers, IsProper}
 use Rattle.geo_core.specs.Images.{identity, image, inverted, rect_image}
 use Rattle.geo_core.proofs.CoveringLaws.{covers_both, covers_is_proper}
 use Rattle.geo_core.proofs.ImageLaws.{transform_of, image-forth}
-use Rattle.layout_model.specs.Layouts.{IsMaterial}
-use Rattle.layout_model.specs.Places.{Place}
-use Rattle.cell_paint.specs.Paints.{Paint, layout_of}
-use Rattle.cell_paint.proofs.PlaneLaws.{space_past}
+use Rattle.cell_bodies.specs.LayoutModel.Layouts.{IsMaterial}
+use Rattle.cell_bodies.specs.LayoutModel.Places.{Place}
+use Rattle.cell_bodies.specs.CellPaint.Paints.{Paint, layout_of}
+use Rattle.cell_bodies.proofs.CellPaint.PlaneLaws.{space_past}
 use Rattle.cell_tree.specs.declared.sizes.Size.{Size}
 use Rattle.cell_tree.specs.declared.sizes.Dimension.TheVariants.{Depth, Elements, Hull}
 use Rattle.cell_tree.specs.declared.use_tables.UseBody.{UseBody}
@@ -24,7 +24,7 @@ use Rattle.cell_tree.specs.Sizes.{IsHullInRange, size_at, size_of}
 use Rattle.cell_tree.specs.Trees.{Tree, IsLawfulTree, cell_at}
 use Rattle.cell_tree.proofs.SizeLaws.{child_is_lower}
 use Rattle.cell_tree.proofs.WholeLaws.{cell_is}
-use Rattle.layout_model.specs.CellTrees.{Standing, place_back}
+use Rattle.cell_bodies.specs.LayoutModel.CellTrees.{Standing, place_back}
 use Rattle.cell_library.specs.declared.part_tiles.PartTile.{PartTile}
 use Rattle.cell_library.specs.declared.spots.Spot.{Spot}
 use Rattle.cell_library.specs.LayoutTrees.{elements_from, tree_to}

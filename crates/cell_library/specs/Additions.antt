@@ -3,10 +3,10 @@ use Rattle.std.specs.Prelude.{◌≡◌, ◌⊎◌, ◌<◌, ◌≤◌, ℕ, suc
 use Rattle.std.specs.List.{position_or_len}
 use Rattle.std.specs.Option.{option_or}
 use Rattle.std.specs.Str.{bytes_eq}
-use Rattle.finite_sets.specs.Lists.{In, Distinct}
-use Rattle.text_scan.specs.PlainNames.{is_plain_name}
+use Rattle.geo_core.specs.FiniteSets.Lists.{In, Distinct}
+use Rattle.ext_model.specs.TextScan.PlainNames.{is_plain_name}
 use Rattle.geo_core.specs.Images.{identity}
-use Rattle.cell_paint.specs.Paints.{layout_of}
+use Rattle.cell_bodies.specs.CellPaint.Paints.{layout_of}
 use Rattle.cell_tree.specs.declared.limits.TheConstants.{MOST_USES}
 use Rattle.cell_tree.specs.declared.sizes.Dimension.TheVariants.{Depth as DepthOf, Elements as ElementsOf, Hull}
 use Rattle.cell_tree.specs.declared.use_tables.UseBody.{UseBody}

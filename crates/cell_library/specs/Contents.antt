@@ -7,9 +7,9 @@ use Rattle.std.specs.Map.{keys_of, values_of}
 use Rattle.std.specs.declared.alloc.Global.{Global}
 use Rattle.tech_model.specs.declared.raw.Label.{Label}
 use Rattle.tech_model.specs.contracts.raw.Label.{the_row as label_row}
-use Rattle.layout_model.specs.Places.{Place}
-use Rattle.layout_model.specs.Layouts.{Layout}
-use Rattle.cell_paint.specs.Paints.{Paint, paint_code, layout_of, IsSoundPaint}
+use Rattle.cell_bodies.specs.LayoutModel.Places.{Place}
+use Rattle.cell_bodies.specs.LayoutModel.Layouts.{Layout}
+use Rattle.cell_bodies.specs.CellPaint.Paints.{Paint, paint_code, layout_of, IsSoundPaint}
 use Rattle.cell_library.specs.declared.contents.Content.{Content}
 
 -- a cell's name, its paint and its labels

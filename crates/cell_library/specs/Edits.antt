@@ -7,7 +7,7 @@ use Rattle.geo_core.specs.declared.squares.Rect.{Rect}
 use Rattle.geo_core.specs.declared.transforms.Transform.{Transform}
 use Rattle.geo_core.specs.Orientation.{orient_of}
 use Rattle.tech_model.specs.declared.raw.Label.{Label}
-use Rattle.cell_paint.specs.Painting.{with_paint, with_erased}
+use Rattle.cell_bodies.specs.CellPaint.Painting.{with_paint, with_erased}
 use Rattle.cell_tree.specs.declared.use_tables.UseBody.{UseBody}
 use Rattle.cell_library.specs.Views.{CellView, LibraryView, with_cell_changed}
 

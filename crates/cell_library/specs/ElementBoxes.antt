@@ -4,7 +4,7 @@ use Rattle.geo_core.specs.declared.squares.Rect.{Rect}
 use Rattle.geo_core.specs.Covering.{Covers}
 use Rattle.cell_tree.specs.declared.sizes.Size.{Size}
 use Rattle.cell_tree.specs.Sizes.{CellState, AreSizes, hulls_below, size_at}
-use Rattle.layout_model.specs.Places.{Place}
+use Rattle.cell_bodies.specs.LayoutModel.Places.{Place}
 use Rattle.cell_library.specs.Limits.{AreStatesOf}
 use Rattle.cell_library.specs.Views.{LibraryView, view_at}
 

@@ -1,6 +1,6 @@
 -- Why a change of a library is refused, where a call below it was.
-use Rattle.cell_paint.specs.declared.faults.PaintFault.{PaintFault}
-use Rattle.cell_paint.specs.declared.faults.PaintFault.TheVariants.{EmptyRect as NoSquare, OutOfRange as TooFar, TooManyTiles, Memory as NoMemory}
+use Rattle.cell_bodies.specs.CellPaint.declared.faults.PaintFault.{PaintFault}
+use Rattle.cell_bodies.specs.CellPaint.declared.faults.PaintFault.TheVariants.{EmptyRect as NoSquare, OutOfRange as TooFar, TooManyTiles, Memory as NoMemory}
 use Rattle.cell_library.specs.declared.faults.LibFault.{LibFault}
 use Rattle.cell_library.specs.declared.faults.LibFault.TheVariants.{EmptyRect, OutOfRange, TooMany, Memory}
 use Rattle.cell_library.specs.declared.limits.LibraryLimit.TheVariants.{Tiles}

@@ -1,6 +1,6 @@
 -- What is seen of lawful libraries.
 use Rattle.std.specs.Prelude.{◌≡◌, All}
-use Rattle.cell_paint.specs.Paints.{IsSoundPaint}
+use Rattle.cell_bodies.specs.CellPaint.Paints.{IsSoundPaint}
 use Rattle.cell_library.specs.Libraries.{IsLawfulLibrary, LibraryParts, seen}
 use Rattle.cell_library.specs.Views.{LibraryView}
 

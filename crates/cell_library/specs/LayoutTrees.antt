@@ -6,9 +6,9 @@ use Rattle.geo_core.specs.Images.{composed}
 use Rattle.cell_tree.specs.declared.limits.TheConstants.{MOST_DEPTH}
 use Rattle.cell_tree.specs.declared.use_tables.UseBody.{UseBody}
 use Rattle.cell_tree.specs.Uses.{displacements}
-use Rattle.layout_model.specs.CellTrees.{OwnCell, CellTree, Elements}
-use Rattle.layout_model.specs.CellTrees.CellTree.{cell_tree}
-use Rattle.layout_model.specs.CellTrees.Elements.{no_elements, element_and}
+use Rattle.cell_bodies.specs.LayoutModel.CellTrees.{OwnCell, CellTree, Elements}
+use Rattle.cell_bodies.specs.LayoutModel.CellTrees.CellTree.{cell_tree}
+use Rattle.cell_bodies.specs.LayoutModel.CellTrees.Elements.{no_elements, element_and}
 use Rattle.cell_library.specs.Views.{LibraryView, view_at}
 
 -- the transform of an element that is displaced so far within a use: first displaced, and then placed as the use is

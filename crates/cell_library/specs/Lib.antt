@@ -1,8 +1,9 @@
 -- what crates above name of those below
+pub use Rattle.cell_tree.specs.UseOrders as UseOrders
 pub use Rattle.cell_bodies.specs as CellBodies
-pub use Rattle.cell_paint.specs as CellPaint
+pub use Rattle.cell_bodies.specs.CellPaint as CellPaint
 pub use Rattle.cell_tree.specs as CellTree
-pub use Rattle.layout_model.specs as LayoutModel
+pub use Rattle.cell_bodies.specs.LayoutModel as LayoutModel
 pub use Rattle.tech_model.specs as TechModel
 pub mod Additions
 pub mod Contents

@@ -1,8 +1,8 @@
 -- What a library keeps, what is seen of it, and which libraries are lawful.
 use Rattle.std.specs.Prelude.{◌≡◌, ◌<◌, ◌≤◌, ℕ, suc, IsTrue, List, [], ◌∷◌, ◌++◌, length, map, Option, MatchOption, All, refl}
 use Rattle.std.specs.Coded.{Coded, code_by, coded×, coded_list, coded_ℕ, coded_option}
-use Rattle.finite_sets.specs.Lists.{Distinct}
-use Rattle.text_scan.specs.PlainNames.{is_plain_name}
+use Rattle.geo_core.specs.FiniteSets.Lists.{Distinct}
+use Rattle.ext_model.specs.TextScan.PlainNames.{is_plain_name}
 use Rattle.tech_model.specs.declared.raw.RawTech.{RawTech}
 use Rattle.tech_model.specs.contracts.raw.RawTech.{the_row as raw_row}
 use Rattle.tech_model.specs.WellFormed.{IsWellFormed}

@@ -1,12 +1,12 @@
 -- The box of what a cell has of its own: its paint and its labels.
 use Rattle.std.specs.Prelude.{◌⊎◌, List, Option, Some, None, MatchOption}
-use Rattle.finite_sets.specs.Lists.{In}
+use Rattle.geo_core.specs.FiniteSets.Lists.{In}
 use Rattle.geo_core.specs.declared.squares.Rect.{Rect}
 use Rattle.geo_core.specs.Areas.{LiesWithin, joined_rect}
 use Rattle.geo_core.specs.Covering.{Covers}
 use Rattle.tech_model.specs.declared.raw.Label.{Label}
-use Rattle.layout_model.specs.Places.{Place}
-use Rattle.layout_model.specs.Layouts.{Layout, IsMaterial}
+use Rattle.cell_bodies.specs.LayoutModel.Places.{Place}
+use Rattle.cell_bodies.specs.LayoutModel.Layouts.{Layout, IsMaterial}
 
 -- the rectangle holds all material and all labels
 pub record HoldsOwn (own : Layout) (labels : List Label) (area : Rect) : Type 0 where

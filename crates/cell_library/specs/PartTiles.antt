@@ -7,9 +7,9 @@ use Rattle.geo_core.specs.Images.{rect_image}
 use Rattle.geo_core.specs.Strips.{IsStrip}
 use Rattle.tech_model.specs.declared.raw.RawTech.{RawTech}
 use Rattle.tech_model.specs.Types.{parts_of}
-use Rattle.layout_model.specs.Places.{Place}
-use Rattle.layout_model.specs.CellTrees.{CellTree, Standing, standings}
-use Rattle.layout_model.specs.FlatSets.{parts_in}
+use Rattle.cell_bodies.specs.LayoutModel.Places.{Place}
+use Rattle.cell_bodies.specs.LayoutModel.CellTrees.{CellTree, Standing, standings}
+use Rattle.cell_bodies.specs.LayoutModel.FlatSets.{parts_in}
 use Rattle.cell_library.specs.declared.part_tiles.PartTile.{PartTile}
 
 -- The tile is a part tile of the cell, cut to the area: a strip of one type other than space of the own layout of a standing cell, taken

@@ -6,7 +6,7 @@ use Rattle.geo_core.specs.declared.grids.Grid.{Grid}
 use Rattle.geo_core.specs.declared.squares.Rect.{Rect}
 use Rattle.geo_core.specs.Areas.{has_square}
 use Rattle.tech_model.specs.declared.raw.Label.{Label}
-use Rattle.cell_paint.specs.Painting.{is_in_range}
+use Rattle.cell_bodies.specs.CellPaint.Painting.{is_in_range}
 use Rattle.cell_tree.specs.declared.limits.TheConstants.{MOST_USES}
 use Rattle.cell_tree.specs.declared.sizes.Dimension.TheVariants.{Depth as DepthOf, Elements as ElementsOf, Hull}
 use Rattle.cell_tree.specs.declared.use_tables.UseBody.{UseBody}

@@ -4,7 +4,7 @@ use Rattle.geo_core.specs.declared.grids.Grid.{Grid}
 use Rattle.geo_core.specs.declared.squares.Piece.{Piece}
 use Rattle.geo_core.specs.declared.squares.Rect.{Rect}
 use Rattle.tech_model.specs.declared.raw.Label.{Label}
-use Rattle.cell_paint.specs.Pieces.{with_pieces}
+use Rattle.cell_bodies.specs.CellPaint.Pieces.{with_pieces}
 use Rattle.cell_tree.specs.declared.use_tables.UseBody.{UseBody}
 use Rattle.cell_library.specs.Contents.{without_last}
 use Rattle.cell_library.specs.Edits.{with_use_changed}

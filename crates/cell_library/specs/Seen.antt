@@ -1,6 +1,6 @@
 -- What is seen of what a library keeps.
 use Rattle.std.specs.Prelude.{ℕ, List, [], ◌∷◌}
-use Rattle.cell_paint.specs.Paints.{layout_of}
+use Rattle.cell_bodies.specs.CellPaint.Paints.{layout_of}
 use Rattle.cell_tree.specs.declared.use_tables.UseBody.{UseBody}
 use Rattle.cell_library.specs.Contents.{Held}
 use Rattle.cell_library.specs.Views.{CellView}

@@ -13,7 +13,7 @@ use Rattle.cell_tree.specs.declared.use_tables.UseBody.{UseBody}
 use Rattle.cell_tree.specs.Sizes.{size_at}
 use Rattle.cell_tree.specs.Trees.{Tree}
 use Rattle.cell_tree.specs.Uses.{displacements}
-use Rattle.layout_model.specs.CellTrees.{CellTree, Standing}
+use Rattle.cell_bodies.specs.LayoutModel.CellTrees.{CellTree, Standing}
 use Rattle.cell_library.specs.declared.part_tiles.PartTile.{PartTile}
 use Rattle.cell_library.specs.declared.spots.Spot.{Spot}
 use Rattle.cell_library.specs.LayoutTrees.{element_transform, own_cell}

@@ -4,7 +4,7 @@ use Rattle.std.specs.List.{position}
 use Rattle.std.specs.Str.{bytes_eq}
 use Rattle.tech_model.specs.declared.raw.Label.{Label}
 use Rattle.tech_model.specs.declared.raw.RawTech.{RawTech}
-use Rattle.layout_model.specs.Layouts.{Layout}
+use Rattle.cell_bodies.specs.LayoutModel.Layouts.{Layout}
 use Rattle.cell_tree.specs.declared.use_tables.UseBody.{UseBody}
 
 -- A cell: its name, its own paint, its labels, and its uses with their ids, the last two in order of arrival. A child of a use is

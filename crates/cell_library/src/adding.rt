@@ -1,7 +1,7 @@
 //! Cells that come.
 ghost use Rattle.std.specs.Prelude.{◌≡◌, ◌≤◌, ◌<◌, ◌++◌, ◌∷◌, [], None, length, IsSome, IsOkUnless, IfOk, OnOk, OnErr, IfErr};
-ghost use Rattle.layout_model.specs.Places.{Place};
-ghost use Rattle.cell_paint.specs.Paints.{layout_of};
+ghost use Rattle.cell_bodies.specs.LayoutModel.Places.{Place};
+ghost use Rattle.cell_bodies.specs.CellPaint.Paints.{layout_of};
 ghost use Rattle.cell_tree.specs.Trees.{IsAdded};
 ghost use Rattle.cell_library.specs.steps.CellEdits.{IsCellAdded};
 ghost use Rattle.cell_library.specs.Contents.{held_of, position_of};
@@ -10,7 +10,7 @@ ghost use Rattle.cell_library.specs.Refusals.{EditIsRefused, FirstOf, NothingEls
 use crate::contents::{Content, Contents};
 use crate::faults::LibFault;
 use crate::limits::{LibraryLimit, MOST_CELLS, MOST_EDITS};
-use cell_paint::CellPaint;
+use cell_bodies::cell_paint::CellPaint;
 use cell_tree::CellTree;
 use ext_model::CellKey;
 use names_lists::Name;

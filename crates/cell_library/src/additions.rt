@@ -2,9 +2,9 @@
 ghost use Rattle.std.specs.Prelude.{◌≡◌, ◌+◌, ◌<◌, IsTrue, All, length, map, take, unwrap_or, IfOk, OnOk, OnErr, IfErr};
 ghost use Rattle.std.specs.List.{position_or_len};
 ghost use Rattle.std.specs.Str.{bytes_eq};
-ghost use Rattle.finite_sets.specs.Lists.{Distinct, In};
+ghost use Rattle.geo_core.specs.FiniteSets.Lists.{Distinct, In};
 ghost use Rattle.geo_core.specs.Images.{identity};
-ghost use Rattle.cell_paint.specs.Paints.{layout_of};
+ghost use Rattle.cell_bodies.specs.CellPaint.Paints.{layout_of};
 ghost use Rattle.cell_bodies.specs.Bodies.{IsUse};
 ghost use Rattle.cell_bodies.specs.Numbers.{is_placing};
 ghost use Rattle.cell_tree.specs.Additions.{MayCome, new_state, new_states};

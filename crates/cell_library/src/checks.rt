@@ -2,13 +2,13 @@
 ghost use Rattle.std.specs.Prelude.{◌≡◌, ◌<◌, true, IfErr, OnOk};
 ghost use Rattle.geo_core.specs.Areas.{has_square};
 ghost use Rattle.cell_bodies.specs.Numbers.{has_sides};
-ghost use Rattle.cell_paint.specs.Painting.{is_in_range};
+ghost use Rattle.cell_bodies.specs.CellPaint.Painting.{is_in_range};
 ghost use Rattle.cell_library.specs.Refusals.{AreaIsRefused, EditIsRefused, LabelAreaIsRefused, NothingElse};
 
 use crate::faults::LibFault;
 use crate::limits::{LibraryLimit, MOST_EDITS};
+use cell_bodies::cell_paint::is_coordinate;
 use cell_bodies::has_sides;
-use cell_paint::is_coordinate;
 use cell_tree::CellTree;
 use geo_core::Rect;
 

@@ -4,11 +4,11 @@ ghost use Rattle.std.specs.Prelude.{◌≡◌, not, ◌<◌, ◌-◌, ◌↔◌,
 ghost use Rattle.std.specs.Prelude.{All, IsOkUnless, option_to_list};
 ghost use Rattle.geo_core.specs.Areas.{has_square, IsNear};
 ghost use Rattle.geo_core.specs.Covering.{IsProper};
-ghost use Rattle.cell_paint.specs.Paints.{layout_of, IsSoundPaint};
-ghost use Rattle.cell_paint.specs.Painting.{with_paint, with_erased, is_in_range};
-ghost use Rattle.cell_paint.specs.Pieces.{with_pieces, CanStandIn};
+ghost use Rattle.cell_bodies.specs.CellPaint.Paints.{layout_of, IsSoundPaint};
+ghost use Rattle.cell_bodies.specs.CellPaint.Painting.{with_paint, with_erased, is_in_range};
+ghost use Rattle.cell_bodies.specs.CellPaint.Pieces.{with_pieces, CanStandIn};
 
-use cell_paint::{CellPaint, PaintFault};
+use cell_bodies::cell_paint::{CellPaint, PaintFault};
 use geo_core::{Piece, Rect};
 use indexmap::IndexMap;
 use names_lists::Name;

@@ -1,7 +1,7 @@
 //! Why a call of this crate is refused.
 
 use crate::limits::LibraryLimit;
-use cell_paint::PaintFault;
+use cell_bodies::cell_paint::PaintFault;
 use names_lists::Name;
 use std::alloc::AllocError;
 use thiserror::Error;

@@ -59,6 +59,8 @@ mod uses;
 mod visiting;
 mod visitor;
 
+pub use cell_bodies;
+pub use cell_bodies::cell_paint;
 pub use faults::LibFault;
 pub use library::Library;
 pub use limits::{LibraryLimit, MOST_CELLS, MOST_EDITS};

@@ -1,11 +1,11 @@
 //! The boxes of what cells have of their own.
 ghost use Rattle.std.specs.Prelude.{◌≡◌, ◌<◌, length};
-ghost use Rattle.cell_paint.specs.Paints.{layout_of};
+ghost use Rattle.cell_bodies.specs.CellPaint.Paints.{layout_of};
 ghost use Rattle.cell_library.specs.Contents.{held_at};
 ghost use Rattle.cell_library.specs.OwnBoxes.{OwnBoxIs, box_with};
 
 use crate::contents::Contents;
-use cell_paint::CellPaint;
+use cell_bodies::cell_paint::CellPaint;
 use geo_core::Rect;
 use tech_model::Label;
 

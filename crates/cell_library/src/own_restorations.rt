@@ -3,8 +3,8 @@ ghost use Rattle.std.specs.Prelude.{◌≡◌, ◌<◌, length, All, IsTrue, OnO
 ghost use Rattle.geo_core.specs.Areas.{IsNear};
 ghost use Rattle.geo_core.specs.Covering.{IsProper};
 ghost use Rattle.cell_bodies.specs.Numbers.{has_sides};
-ghost use Rattle.cell_paint.specs.Paints.{layout_of, IsSoundPaint};
-ghost use Rattle.cell_paint.specs.Pieces.{with_pieces, CanStandIn};
+ghost use Rattle.cell_bodies.specs.CellPaint.Paints.{layout_of, IsSoundPaint};
+ghost use Rattle.cell_bodies.specs.CellPaint.Pieces.{with_pieces, CanStandIn};
 ghost use Rattle.cell_tree.specs.declared.sizes.Dimension.TheVariants.{Hull};
 ghost use Rattle.cell_tree.specs.Trees.{cell_at, with_own, IsEdited, IsLawfulOwn, WouldPass};
 ghost use Rattle.cell_library.specs.Contents.{held_at, without_last, IsRepainted};

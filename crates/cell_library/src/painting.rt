@@ -1,7 +1,7 @@
 //! Paint and labels of one cell, and its box in the tree.
 ghost use Rattle.std.specs.Prelude.{◌≡◌, ◌<◌, false, length, Some, All, IsTrue, IfOk, OnOk, OnErr, IfErr};
 ghost use Rattle.cell_bodies.specs.Numbers.{has_sides};
-ghost use Rattle.cell_paint.specs.Paints.{layout_of};
+ghost use Rattle.cell_bodies.specs.CellPaint.Paints.{layout_of};
 ghost use Rattle.cell_tree.specs.Hulls.{IsLawfulBox};
 ghost use Rattle.cell_tree.specs.Trees.{cell_at, with_own, IsEdited, WouldKeepWithin};
 ghost use Rattle.cell_library.specs.steps.CellEdits.{with_area, BoxIsRefused, IsPaintedIn, IsErasedIn, IsLabelledIn, IsUnlabelledIn};

@@ -4,13 +4,13 @@
 //! its own tiles are told, and then those at the spots of its elements that may meet the area, which are found by where uses
 //! stand and by the indices of grids.
 ghost use Rattle.std.specs.Prelude.{◌≡◌, ◌<◌, ◌∷◌, [], ℕ, length, IfOk, IfSome, IfNone, OnOk, Some};
-ghost use Rattle.finite_sets.specs.Lists.{Lists};
+ghost use Rattle.geo_core.specs.FiniteSets.Lists.{Lists};
 ghost use Rattle.geo_core.specs.declared.squares.Rect.{Rect as IsRect};
 ghost use Rattle.geo_core.specs.Areas.{common_rect, IsNear};
 ghost use Rattle.geo_core.specs.Covering.{Covers, IsProper};
 ghost use Rattle.geo_core.specs.Reach.{MovesInReach};
-ghost use Rattle.layout_model.specs.Places.{Place};
-ghost use Rattle.cell_paint.specs.Paints.{layout_of};
+ghost use Rattle.cell_bodies.specs.LayoutModel.Places.{Place};
+ghost use Rattle.cell_bodies.specs.CellPaint.Paints.{layout_of};
 ghost use Rattle.cell_tree.specs.Trees.{IsLawfulTree};
 ghost use Rattle.cell_library.specs.LayoutTrees.{tree_at, tree_to};
 ghost use Rattle.cell_library.specs.Libraries.{seen};
@@ -24,7 +24,7 @@ use crate::library::Library;
 use crate::part_tiles::PartTile;
 use crate::spots::Spot;
 use crate::use_trees::UseTrees;
-use cell_paint::CellPaint;
+use cell_bodies::cell_paint::CellPaint;
 use cell_tree::{CellTree, MOST_DEPTH};
 use ext_model::CellKey;
 use geo_core::{Orient, Piece, Rect, Transform};

@@ -1,9 +1,9 @@
 //! Visits of areas of the cells of a library.
 ghost use Rattle.std.specs.Prelude.{◌≡◌, ◌+◌, ◌<◌, ℕ, IfOk, OnErr, length};
-ghost use Rattle.finite_sets.specs.Lists.{Lists};
+ghost use Rattle.geo_core.specs.FiniteSets.Lists.{Lists};
 ghost use Rattle.geo_core.specs.Areas.{IsNear};
 ghost use Rattle.geo_core.specs.Covering.{Covers};
-ghost use Rattle.layout_model.specs.Places.{Place};
+ghost use Rattle.cell_bodies.specs.LayoutModel.Places.{Place};
 ghost use Rattle.cell_library.specs.LayoutTrees.{tree_at};
 ghost use Rattle.cell_library.specs.PartTiles.{set_of_part, set_of_tiles, IsPartTileIn};
 

@@ -7,11 +7,11 @@ use Rattle.outside_io.specs.CallPlans.{CallPlan}
 use Rattle.session_model.specs.Effects.{GivesFetching}
 use Rattle.session_model.specs.FileTrees.{StopsAsking}
 use Rattle.session_model.proofs.FileTreeLaws.{file_refused_asking}
-use Rattle.cell_bodies.specs.declared.bodies.CellBody.{CellBody}
-use Rattle.cell_library.specs.Additions.{kept_cell, names_with, with_all}
-use Rattle.cell_library.specs.Libraries.{LibraryParts, seen, edits_of, uses_in}
-use Rattle.cell_library.specs.Views.{LibraryView, cell_named}
-use Rattle.cell_library.proofs.ViewLaws.{length-cell_views}
+use Rattle.mag_text.specs.CellBodies.declared.bodies.CellBody.{CellBody}
+use Rattle.mag_text.specs.CellLibrary.Additions.{kept_cell, names_with, with_all}
+use Rattle.mag_text.specs.CellLibrary.Libraries.{LibraryParts, seen, edits_of, uses_in}
+use Rattle.mag_text.specs.CellLibrary.Views.{LibraryView, cell_named}
+use Rattle.mag_text.proofs.CellLibrary.ViewLaws.{length-cell_views}
 use Rattle.cell_loading.specs.declared.faults.LoadFault.{LoadFault}
 use Rattle.cell_loading.specs.declared.loading.Loaded.{Loaded}
 use Rattle.cell_loading.specs.declared.loading.Loaded.TheVariants as loaded

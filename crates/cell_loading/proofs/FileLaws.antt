@@ -5,7 +5,7 @@ use Rattle.outside_io.specs.Files.{Files}
 use Rattle.session_model.specs.Fetches.{AgreeOn, if_short, text_in}
 use Rattle.session_model.specs.FileTrees.{GivesByFile}
 use Rattle.session_model.proofs.FileTreeLaws.{file_refused_rests, rests_on_fetched}
-use Rattle.cell_library.specs.Views.{LibraryView}
+use Rattle.mag_text.specs.CellLibrary.Views.{LibraryView}
 use Rattle.mag_text.specs.Drafts.{Draft}
 use Rattle.cell_loading.specs.declared.faults.LoadFault.{LoadFault}
 use Rattle.cell_loading.specs.CellFiles.{ReadCell, cell_file, file_gives, text_gives}

@@ -8,12 +8,12 @@ use Rattle.std.proofs.lemmas.Bool.{cases_Bool, le-leb, leb-true}
 use Rattle.std.proofs.lemmas.List.Folds.{list_any-append, list_any_at, list_any_none}
 use Rattle.std.proofs.lemmas.List.Quantifiers.{position-Some}
 use Rattle.std.proofs.lemmas.List.Sums.{fails_before_first}
-use Rattle.ext_model.specs.declared.tables.CellKey.{CellKey}
-use Rattle.cell_bodies.specs.declared.bodies.CellBody.{CellBody}
-use Rattle.cell_library.specs.declared.limits.TheConstants.{MOST_CELLS}
-use Rattle.cell_library.specs.Libraries.{LibraryParts, seen}
-use Rattle.cell_library.specs.Views.{cell_named, names_of}
-use Rattle.cell_library.proofs.ContentLaws.{position_past}
+use Rattle.cell_tree.specs.ExtModel.declared.tables.CellKey.{CellKey}
+use Rattle.mag_text.specs.CellBodies.declared.bodies.CellBody.{CellBody}
+use Rattle.mag_text.specs.CellLibrary.declared.limits.TheConstants.{MOST_CELLS}
+use Rattle.mag_text.specs.CellLibrary.Libraries.{LibraryParts, seen}
+use Rattle.mag_text.specs.CellLibrary.Views.{cell_named, names_of}
+use Rattle.mag_text.proofs.CellLibrary.ContentLaws.{position_past}
 use Rattle.cell_loading.specs.steps.ReadCells.{is_among, names_in}
 
 found_or_not : (test : List ℕ → Bool) (names : List (List ℕ)) (found : Option ℕ) → position test names ≡ found

@@ -6,9 +6,9 @@ use Rattle.std.proofs.Math.ListN.{get_or-append}
 use Rattle.std.proofs.Math.Seq.{get_or-append_seam}
 use Rattle.std.proofs.lemmas.List.{drop_more, get_or-map, length-map}
 use Rattle.std.proofs.lemmas.List.Elements.{All-head, All-pop, All-push, All-same, All-tail, All-weaker}
-use Rattle.cell_bodies.specs.declared.bodies.CellBody.{CellBody}
-use Rattle.cell_bodies.specs.declared.bodies.CellUse.{CellUse}
-use Rattle.cell_library.specs.Views.{LibraryView}
+use Rattle.mag_text.specs.CellBodies.declared.bodies.CellBody.{CellBody}
+use Rattle.mag_text.specs.CellBodies.declared.bodies.CellUse.{CellUse}
+use Rattle.mag_text.specs.CellLibrary.Views.{LibraryView}
 use Rattle.cell_loading.specs.declared.walks.Frame.{Frame}
 use Rattle.cell_loading.specs.declared.walks.Next.{Next}
 use Rattle.cell_loading.specs.declared.walks.Next.TheVariants as next

@@ -9,7 +9,7 @@ use Rattle.std.specs.Cmp.Lexicographic.{same_text}
 use Rattle.std.proofs.lemmas.List.{map-append}
 use Rattle.std.proofs.lemmas.List.Folds.{list_any-append}
 use Rattle.std.proofs.lemmas.List.Sorted.{list_any-IsPermutation}
-use Rattle.cell_bodies.specs.declared.bodies.CellBody.{CellBody}
+use Rattle.mag_text.specs.CellBodies.declared.bodies.CellBody.{CellBody}
 use Rattle.mag_text.proofs.UseIdLaws.{or_same, or_swapped}
 use Rattle.cell_loading.specs.steps.ReadCells.{AreNamesOf, names_in}
 

@@ -10,11 +10,11 @@ use Rattle.session_model.specs.declared.stops.Stop.TheVariants.{Refused, Halted}
 use Rattle.session_model.specs.FileTrees.{Reads, StopsAsking, files_of}
 use Rattle.session_model.specs.steps.Stops.{IfRefused}
 use Rattle.session_model.proofs.FileTreeLaws.{goes_by, goes_past, goes_to_end, stops_asking_here}
-use Rattle.tech_model.specs.declared.raw.RawTech.{RawTech}
-use Rattle.cell_bodies.specs.declared.bodies.CellBody.{CellBody}
-use Rattle.cell_bodies.specs.declared.bodies.CellUse.{CellUse}
-use Rattle.cell_library.specs.Additions.{first_scale}
-use Rattle.cell_library.specs.Views.{LibraryView, names_of}
+use Rattle.mag_text.specs.TechModel.declared.raw.RawTech.{RawTech}
+use Rattle.mag_text.specs.CellBodies.declared.bodies.CellBody.{CellBody}
+use Rattle.mag_text.specs.CellBodies.declared.bodies.CellUse.{CellUse}
+use Rattle.mag_text.specs.CellLibrary.Additions.{first_scale}
+use Rattle.mag_text.specs.CellLibrary.Views.{LibraryView, names_of}
 use Rattle.mag_text.specs.Drafts.{Draft}
 use Rattle.mag_text.specs.MagTexts.{HasAllOf, mag_in}
 use Rattle.cell_loading.specs.declared.faults.LoadFault.{LoadFault}

@@ -17,14 +17,14 @@ use Rattle.finite_sets.proofs.Members.{In-append_left, In-append_right, In-appen
 use Rattle.finite_sets.proofs.Searches.{list_any-In}
 use Rattle.text_scan.specs.PlainNames.{is_plain_name}
 use Rattle.cell_tree.specs.declared.limits.TheConstants.{MOST_USES}
-use Rattle.cell_bodies.specs.declared.bodies.CellBody.{CellBody}
-use Rattle.cell_bodies.specs.declared.bodies.CellUse.{CellUse}
-use Rattle.cell_bodies.specs.Bodies.{IsBody, IsUse}
-use Rattle.cell_library.specs.Additions.{CanBeAdded, first_scale, names_with}
-use Rattle.cell_library.specs.Contents.{Held}
-use Rattle.cell_library.specs.Libraries.{IsLawfulLibrary, LibraryParts, seen, uses_in}
-use Rattle.cell_library.specs.Views.{LibraryView, CellView, names_of}
-use Rattle.cell_library.proofs.ViewLaws.{names_seen}
+use Rattle.mag_text.specs.CellBodies.declared.bodies.CellBody.{CellBody}
+use Rattle.mag_text.specs.CellBodies.declared.bodies.CellUse.{CellUse}
+use Rattle.mag_text.specs.CellBodies.Bodies.{IsBody, IsUse}
+use Rattle.mag_text.specs.CellLibrary.Additions.{CanBeAdded, first_scale, names_with}
+use Rattle.mag_text.specs.CellLibrary.Contents.{Held}
+use Rattle.mag_text.specs.CellLibrary.Libraries.{IsLawfulLibrary, LibraryParts, seen, uses_in}
+use Rattle.mag_text.specs.CellLibrary.Views.{LibraryView, CellView, names_of}
+use Rattle.mag_text.proofs.CellLibrary.ViewLaws.{names_seen}
 use Rattle.cell_loading.specs.CellFiles.{has_scale}
 use Rattle.cell_loading.specs.steps.ReadCells.{children_of, is_among, names_in}
 use Rattle.cell_loading.specs.steps.Walks.{AreSoFar, MayFollow}

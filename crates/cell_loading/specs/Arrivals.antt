@@ -1,10 +1,10 @@
 -- How the cells that were read come to the library, or why they don't.
 use Rattle.std.specs.Prelude.{◌≡◌, ℕ, suc, List, length}
-use Rattle.cell_bodies.specs.declared.bodies.CellBody.{CellBody}
-use Rattle.cell_library.specs.declared.faults.LibFault.{LibFault}
-use Rattle.cell_library.specs.Additions.{AddAllIsRefused, AreNextCells, with_all}
-use Rattle.cell_library.specs.Libraries.{LibraryParts, seen, edits_of}
-use Rattle.cell_library.specs.Refusals.{EditIsRefused}
+use Rattle.mag_text.specs.CellBodies.declared.bodies.CellBody.{CellBody}
+use Rattle.mag_text.specs.CellLibrary.declared.faults.LibFault.{LibFault}
+use Rattle.mag_text.specs.CellLibrary.Additions.{AddAllIsRefused, AreNextCells, with_all}
+use Rattle.mag_text.specs.CellLibrary.Libraries.{LibraryParts, seen, edits_of}
+use Rattle.mag_text.specs.CellLibrary.Refusals.{EditIsRefused}
 use Rattle.cell_loading.specs.declared.faults.LoadFault.{LoadFault}
 use Rattle.cell_loading.specs.declared.loading.Loaded.{Loaded}
 use Rattle.cell_loading.specs.declared.loading.Loaded.TheVariants as loaded

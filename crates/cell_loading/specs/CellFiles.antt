@@ -9,9 +9,9 @@ use Rattle.outside_io.specs.Files.{Files}
 use Rattle.session_model.specs.declared.fetching.FetchFault.{FetchFault}
 use Rattle.session_model.specs.Fetches.{text_in}
 use Rattle.cell_tree.specs.declared.limits.TheConstants.{MOST_USES}
-use Rattle.cell_library.specs.declared.limits.LibraryLimit.TheVariants.{Cells, Uses}
-use Rattle.cell_library.specs.declared.limits.TheConstants.{MOST_CELLS}
-use Rattle.cell_library.specs.Views.{LibraryView, names_of}
+use Rattle.mag_text.specs.CellLibrary.declared.limits.LibraryLimit.TheVariants.{Cells, Uses}
+use Rattle.mag_text.specs.CellLibrary.declared.limits.TheConstants.{MOST_CELLS}
+use Rattle.mag_text.specs.CellLibrary.Views.{LibraryView, names_of}
 use Rattle.mag_text.specs.declared.faults.MagFault.{MagFault}
 use Rattle.mag_text.specs.Drafts.{Draft}
 use Rattle.mag_text.specs.MagTexts.{mag_in}

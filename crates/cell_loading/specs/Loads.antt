@@ -7,14 +7,14 @@ use Rattle.session_model.specs.declared.report.Cause.{Cause}
 use Rattle.session_model.specs.declared.report.Cause.TheVariants.{Inside}
 use Rattle.session_model.specs.Fetches.{cause_of_fault}
 use Rattle.session_model.specs.FileTrees.{All, FileIsRefused, Reads, fetched_by}
-use Rattle.tech_model.specs.declared.raw.RawTech.{RawTech}
-use Rattle.cell_bodies.specs.declared.bodies.CellBody.{CellBody}
-use Rattle.cell_library.specs.declared.faults.LibFault.{LibFault}
-use Rattle.cell_library.specs.declared.faults.LibFault.TheVariants as library
-use Rattle.cell_library.specs.Additions.{AddAllIsRefused, with_all}
-use Rattle.cell_library.specs.Libraries.{LibraryParts, IsSame, seen, edits_of}
-use Rattle.cell_library.specs.Refusals.{EditIsRefused}
-use Rattle.cell_library.specs.Views.{LibraryView, cell_named}
+use Rattle.mag_text.specs.TechModel.declared.raw.RawTech.{RawTech}
+use Rattle.mag_text.specs.CellBodies.declared.bodies.CellBody.{CellBody}
+use Rattle.mag_text.specs.CellLibrary.declared.faults.LibFault.{LibFault}
+use Rattle.mag_text.specs.CellLibrary.declared.faults.LibFault.TheVariants as library
+use Rattle.mag_text.specs.CellLibrary.Additions.{AddAllIsRefused, with_all}
+use Rattle.mag_text.specs.CellLibrary.Libraries.{LibraryParts, IsSame, seen, edits_of}
+use Rattle.mag_text.specs.CellLibrary.Refusals.{EditIsRefused}
+use Rattle.mag_text.specs.CellLibrary.Views.{LibraryView, cell_named}
 use Rattle.mag_text.specs.MagTexts.{HasAllOf}
 use Rattle.cell_loading.specs.declared.faults.LoadFault.{LoadFault}
 use Rattle.cell_loading.specs.declared.faults.LoadFault.TheVariants as fault

@@ -1,7 +1,7 @@
 -- The files of cells as a kind of files that lead to others.
 use Rattle.std.specs.Prelude.{ℕ, List, map, Result, Ok, Err}
 use Rattle.session_model.specs.FileTrees.{FileKind}
-use Rattle.cell_library.specs.Views.{LibraryView}
+use Rattle.mag_text.specs.CellLibrary.Views.{LibraryView}
 use Rattle.mag_text.specs.Drafts.{Draft}
 use Rattle.cell_loading.specs.declared.faults.LoadFault.{LoadFault}
 use Rattle.cell_loading.specs.CellFiles.{ReadCell, cell_file, file_gives, is_known}

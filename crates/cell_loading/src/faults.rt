@@ -1,7 +1,7 @@
 //! Why a load is refused.
 
-use cell_library::LibraryLimit;
 use mag_text::MagAt;
+use mag_text::cell_library::LibraryLimit;
 use names_lists::Name;
 use session_model::FetchFault;
 use thiserror::Error;

@@ -21,3 +21,4 @@ mod walks;
 
 pub use faults::LoadFault;
 pub use loading::{Loaded, load_cells};
+pub use mag_text;

@@ -2,10 +2,10 @@
 ghost use Rattle.std.specs.Prelude.{◌≡◌, ◌<◌, [], ◌∷◌, ◌++◌, length, OnOk};
 ghost use Rattle.std.specs.List.{list_any};
 ghost use Rattle.std.specs.Str.{bytes_eq};
-ghost use Rattle.cell_library.specs.Additions.{first_scale};
+ghost use Rattle.mag_text.specs.CellLibrary.Additions.{first_scale};
 ghost use Rattle.cell_loading.specs.steps.ReadCells.{names_in, uses_at};
 
-use cell_bodies::{CellBody, CellUse};
+use mag_text::cell_bodies::{CellBody, CellUse};
 use names_lists::Name;
 use std::alloc::{AllocError, Global};
 use std::collections::HashSet;
@@ -31,13 +31,13 @@ impl Drop for ReadCells {
 
 impl Model for ReadCells {
     ghost use Rattle.std.specs.Prelude.{List, ℕ};
-    ghost use Rattle.cell_bodies.specs.declared.bodies.CellBody.{CellBody};
+    ghost use Rattle.mag_text.specs.CellBodies.declared.bodies.CellBody.{CellBody};
     ghost use Rattle.cell_loading.specs.steps.ReadCells.{AreNamesOf};
 
     ghost Value = { List (List ℕ × CellBody) };
 
     ghost use Rattle.std.specs.Coded.{coded×, coded_list, coded_ℕ};
-    ghost use Rattle.cell_bodies.specs.contracts.bodies.CellBody.{the_row as body_row};
+    ghost use Rattle.mag_text.specs.CellBodies.contracts.bodies.CellBody.{the_row as body_row};
 
     ghost coded = { coded_list (coded× (coded_list coded_ℕ) body_row.coded) };
 

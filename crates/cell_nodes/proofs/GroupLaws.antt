@@ -5,9 +5,9 @@ use Rattle.std.proofs.lemmas.Bool.{cases_lt}
 use Rattle.std.proofs.lemmas.List.{get_or-map, get_or_default}
 use Rattle.std.proofs.lemmas.Option.{slice_get_within, slice_get-get_or, get_or_from_slice_get}
 use Rattle.ext_model.specs.GeoCore.Covering.{Covers}
-use Rattle.finite_sets.specs.Lists.{In}
-use Rattle.finite_sets.proofs.Chains.{Chain-append}
-use Rattle.finite_sets.proofs.Members.{In-get_or}
+use Rattle.tech_model.specs.FiniteSets.Lists.{In}
+use Rattle.tech_model.proofs.FiniteSets.Chains.{Chain-append}
+use Rattle.tech_model.proofs.FiniteSets.Members.{In-get_or}
 use Rattle.tech_model.specs.declared.raw.Label.{Label}
 use Rattle.tech_model.specs.declared.raw.RawTech.{RawTech}
 use Rattle.layout_model.specs.declared.region_tiles.RegionTile.{RegionTile}
@@ -15,9 +15,9 @@ use Rattle.layout_model.specs.Places.{Place, IsBefore}
 use Rattle.layout_model.specs.Layouts.{Layout, IsMaterial}
 use Rattle.layout_model.specs.RegionTiles.{LiesIn, IsInRegion, AreLayoutTiles}
 use Rattle.layout_model.proofs.PlaceLaws.{IsBefore-irreflexive, IsNoLater-antisym}
-use Rattle.flood_nodes.specs.Renumbered.{with_region, AreRenumbered}
-use Rattle.flood_nodes.specs.SoundTiles.{IsSoundTile}
-use Rattle.flood_nodes.specs.TileShares.{no_tile, tile_at}
+use Rattle.measures.specs.FloodNodes.Renumbered.{with_region, AreRenumbered}
+use Rattle.measures.specs.FloodNodes.SoundTiles.{IsSoundTile}
+use Rattle.measures.specs.FloodNodes.TileShares.{no_tile, tile_at}
 use Rattle.names.specs.declared.nodes.NamedNode.{NamedNode}
 use Rattle.names.specs.NamedNodes.{AreOneNamedNode, least_of, AreNamedNodes}
 use Rattle.cell_nodes.specs.steps.NodeNumbers.{AreNodeNumbers, numbers_at}

@@ -1,5 +1,7 @@
 -- what crates above name of those below
-pub use Rattle.flood_nodes.proofs as FloodNodes
+pub use Rattle.measures.proofs.RectContacts as RectContacts
+pub use Rattle.tech_model.proofs as TechModel
+pub use Rattle.measures.proofs.FloodNodes as FloodNodes
 pub use Rattle.layout_model.proofs as LayoutModel
 pub use Rattle.measures.proofs as Measures
 pub use Rattle.names.proofs as Names

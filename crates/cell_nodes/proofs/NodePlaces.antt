@@ -1,7 +1,7 @@
 -- The places of a node have material, and a node has a name.
 use Rattle.std.proofs.Common.{◌≢◌, ◌⊎◌, ℕ, List, [], inl, inr, refl, subst}
-use Rattle.finite_sets.specs.Lists.{In, Lists}
-use Rattle.finite_sets.proofs.Chains.{Chain-back, Chain-carries}
+use Rattle.tech_model.specs.FiniteSets.Lists.{In, Lists}
+use Rattle.tech_model.proofs.FiniteSets.Chains.{Chain-back, Chain-carries}
 use Rattle.tech_model.specs.declared.raw.Label.{Label}
 use Rattle.tech_model.specs.declared.raw.RawTech.{RawTech}
 use Rattle.tech_model.specs.Types.{connects}

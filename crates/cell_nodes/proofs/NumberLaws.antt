@@ -3,8 +3,8 @@ use Rattle.std.proofs.Common.{◌≡◌, ℕ, ◌+◌, ◌<◌, List, [], ◌∷
 use Rattle.std.proofs.Math.ListN.{set}
 use Rattle.std.proofs.lemmas.Bool.{cases_eq}
 use Rattle.std.proofs.lemmas.List.{get_or-set_same, get_or-set_other, take_more}
-use Rattle.finite_sets.specs.Lists.{In}
-use Rattle.finite_sets.proofs.Members.{In-append_left, In-push, In-push_cases}
+use Rattle.tech_model.specs.FiniteSets.Lists.{In}
+use Rattle.tech_model.proofs.FiniteSets.Members.{In-append_left, In-push, In-push_cases}
 use Rattle.cell_nodes.specs.steps.NodeNumbers.{AreNumbered}
 
 -- one region more

@@ -7,9 +7,9 @@ use Rattle.std.proofs.lemmas.List.{get_or-map, get_or_default, get_or_append_lef
 use Rattle.std.proofs.lemmas.Option.{slice_get-get_or}
 use Rattle.ext_model.specs.GeoCore.Areas.{corner_of}
 use Rattle.ext_model.proofs.GeoCore.CornerLaws.{corner_covers}
-use Rattle.finite_sets.specs.Lists.{Lists}
-use Rattle.finite_sets.proofs.Members.{In-get_or, In-map}
-use Rattle.finite_sets.proofs.Totals.{Total-iff}
+use Rattle.tech_model.specs.FiniteSets.Lists.{Lists}
+use Rattle.tech_model.proofs.FiniteSets.Members.{In-get_or, In-map}
+use Rattle.tech_model.proofs.FiniteSets.Totals.{Total-iff}
 use Rattle.tech_model.specs.declared.raw.Label.{Label}
 use Rattle.tech_model.specs.declared.raw.RawTech.{RawTech}
 use Rattle.tech_model.specs.Types.{is_type, connects}
@@ -24,8 +24,8 @@ use Rattle.layout_model.specs.Measures.{area_at, perimeter_at}
 use Rattle.layout_model.specs.Nodes.{AreMeasures}
 use Rattle.layout_model.specs.RegionTiles.{IsInRegion, AreLayoutTiles, AreRegions}
 use Rattle.layout_model.specs.Technologies.{Class, class_of, capacitance, rules_of}
-use Rattle.flood_nodes.specs.SoundTiles.{IsSoundTile}
-use Rattle.flood_nodes.proofs.Renumbering.{numbered_tiles}
+use Rattle.measures.specs.FloodNodes.SoundTiles.{IsSoundTile}
+use Rattle.measures.proofs.FloodNodes.Renumbering.{numbered_tiles}
 use Rattle.measures.specs.Bounds.{IsNearPlace}
 use Rattle.measures.specs.declared.tables.MeasureRow.{MeasureRow}
 use Rattle.measures.proofs.BoundLaws.{measures_are_small}

@@ -5,8 +5,8 @@ use Rattle.std.proofs.lemmas.List.{get_or-map, length-map}
 use Rattle.std.proofs.lemmas.Option.{slice_get_within, slice_get-get_or, get_or_from_slice_get}
 use Rattle.ext_model.specs.GeoCore.Areas.{corner_of}
 use Rattle.ext_model.proofs.GeoCore.CornerLaws.{corner_covers}
-use Rattle.finite_sets.specs.Lists.{In}
-use Rattle.finite_sets.proofs.Members.{In-get_or, In-index}
+use Rattle.tech_model.specs.FiniteSets.Lists.{In}
+use Rattle.tech_model.proofs.FiniteSets.Members.{In-get_or, In-index}
 use Rattle.tech_model.specs.declared.raw.Label.{Label}
 use Rattle.tech_model.specs.declared.raw.RawTech.{RawTech}
 use Rattle.tech_model.specs.Types.{connects}
@@ -14,8 +14,8 @@ use Rattle.layout_model.specs.declared.region_tiles.RegionTile.{RegionTile}
 use Rattle.layout_model.specs.Layouts.{Layout, IsMaterial}
 use Rattle.layout_model.specs.Places.{Place}
 use Rattle.layout_model.specs.RegionTiles.{LiesIn, IsInRegion, AreRegions}
-use Rattle.flood_nodes.specs.SoundTiles.{IsSoundTile}
-use Rattle.flood_nodes.specs.TileShares.{no_tile, tile_at}
+use Rattle.measures.specs.FloodNodes.SoundTiles.{IsSoundTile}
+use Rattle.measures.specs.FloodNodes.TileShares.{no_tile, tile_at}
 use Rattle.names.specs.declared.nodes.NamedNode.{NamedNode}
 use Rattle.names.specs.NamedNodes.{AreOneNamedNode, least_of, AreNamedNodes}
 use Rattle.cell_nodes.specs.steps.NodeNumbers.{AreNodeNumbers}

@@ -2,8 +2,8 @@
 use Rattle.std.specs.Prelude.{◌≡◌, List, ◌∷◌, length, AllPairs, slice_index_or}
 use Rattle.std.specs.Prelude.{ℕ, ◌<◌}
 use Rattle.std.specs.declared.cmp.Ordering.TheVariants.{Less}
-use Rattle.finite_sets.specs.Lists.{In, Lists}
-use Rattle.finite_sets.specs.Least.{IsLeast}
+use Rattle.tech_model.specs.FiniteSets.Lists.{In, Lists}
+use Rattle.tech_model.specs.FiniteSets.Least.{IsLeast}
 use Rattle.tech_model.specs.declared.raw.Label.{Label}
 use Rattle.tech_model.specs.declared.raw.RawTech.{RawTech}
 use Rattle.ext_model.specs.declared.records.NodeRec.{NodeRec}

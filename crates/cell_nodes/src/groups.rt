@@ -1,6 +1,6 @@
 //! Tiles with the numbers of their nodes.
 ghost use Rattle.std.specs.Prelude.{◌<◌, ℕ, All, IfOk, length, slice_index_or};
-ghost use Rattle.flood_nodes.specs.Renumbered.{AreRenumbered};
+ghost use Rattle.measures.specs.FloodNodes.Renumbered.{AreRenumbered};
 ghost use Rattle.cell_nodes.specs.steps.NodeNumbers.{AreNodeNumbers, AreNumbered, numbers_at};
 ghost use Rattle.names.specs.declared.nodes.NamedNode.{NamedNode as OneNode};
 

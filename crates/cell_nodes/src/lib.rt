@@ -17,4 +17,5 @@ mod nodes;
 mod records;
 
 pub use capacitances::capacitance_of;
+pub use measures;
 pub use nodes::{CellNodes, CellRegions, cell_nodes, cell_regions};

@@ -20,7 +20,7 @@ use crate::groups::{grouped, node_numbers};
 use crate::records::record_of;
 use cell_paint::{CellPaint, PAINT_RANGE};
 use ext_model::NodeRec;
-use flood_nodes::{Regions, regions};
+use measures::flood_nodes::{Regions, regions};
 use measures::{MeasureRow, Measures, measure_tiles};
 use names::{NamedNode, name_nodes};
 use names_lists::{List, Name};

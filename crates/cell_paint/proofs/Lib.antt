@@ -1,3 +1,5 @@
+-- what crates above name of those below
+pub use Rattle.layout_model.proofs as LayoutModel
 pub mod AgainLaws
 pub mod AreaLaws
 mod ChangeLaws

@@ -25,7 +25,7 @@ use Rattle.finite_sets.proofs.Members.{In-map, In-map_source, In-filter_source, 
 use Rattle.finite_sets.proofs.Pairs.{Pairwise}
 use Rattle.finite_sets.proofs.Searches.{list_any-In, All-In, list_any-source}
 use Rattle.finite_sets.proofs.Sums.{sum_on-push, sum_on-nothing}
-use Rattle.flood_nodes.proofs.StackLaws.{same_from_test}
+use Rattle.fet_regions.proofs.FloodNodes.StackLaws.{same_from_test}
 use Rattle.cell_records.specs.steps.Joined.{is_to, length_in, length_told, AreJoined}
 
 -- what each terminal is named by

@@ -9,11 +9,11 @@ use Rattle.finite_sets.proofs.Sums.{sum_on-filter}
 use Rattle.finite_sets.proofs.Totals.{Total-iff, Total-at, Total-unique}
 use Rattle.tech_model.specs.declared.raw.RawTech.{RawTech}
 use Rattle.tech_model.specs.ChannelRoles.{is_terminal}
-use Rattle.layout_model.specs.EdgeCounts.{LeadsAcross, IsEdgeCount}
-use Rattle.layout_model.specs.Layouts.{Layout}
-use Rattle.layout_model.specs.Places.{Place, AreNeighbours}
-use Rattle.layout_model.specs.Transistors.{AreOneChannel, IsTerminalOf, Transistor, IsTransistor, gate_length}
-use Rattle.flood_nodes.proofs.StackLaws.{same_from_test}
+use Rattle.cell_paint.specs.LayoutModel.EdgeCounts.{LeadsAcross, IsEdgeCount}
+use Rattle.cell_paint.specs.LayoutModel.Layouts.{Layout}
+use Rattle.cell_paint.specs.LayoutModel.Places.{Place, AreNeighbours}
+use Rattle.cell_paint.specs.LayoutModel.Transistors.{AreOneChannel, IsTerminalOf, Transistor, IsTransistor, gate_length}
+use Rattle.fet_regions.proofs.FloodNodes.StackLaws.{same_from_test}
 use Rattle.own_record_laws.proofs.FetSizes.{edges_to_some, terminals_total}
 use Rattle.cell_records.specs.steps.Joined.{is_to, length_in, AreJoined}
 use Rattle.cell_records.proofs.JoinedLaws.{key, told_some, told_here, sum_some, keys_once, keys_of_part}

@@ -9,13 +9,13 @@ use Rattle.tech_model.specs.declared.raw.Label.{Label}
 use Rattle.tech_model.specs.declared.raw.RawTech.{RawTech}
 use Rattle.tech_model.specs.WellFormed.{IsWellFormed}
 use Rattle.ext_model.specs.declared.records.NodeRec.{NodeRec}
-use Rattle.layout_model.specs.LayerTypes.{HasTypesOf}
-use Rattle.layout_model.specs.Layouts.{Layout, IsMaterial}
-use Rattle.layout_model.specs.Places.{Place, IsBefore, IsNoLater}
-use Rattle.layout_model.proofs.PlaceLaws.{IsBefore-irreflexive}
-use Rattle.names.specs.NamedNodes.{AreOneNamedNode, IsNameOf}
-use Rattle.cell_nodes.specs.NodeRecords.{IsNodeRecord, AreNodeRecords}
-use Rattle.cell_nodes.proofs.NodePlaces.{AreOneNamedNode-sym, material_along}
+use Rattle.cell_paint.specs.LayoutModel.LayerTypes.{HasTypesOf}
+use Rattle.cell_paint.specs.LayoutModel.Layouts.{Layout, IsMaterial}
+use Rattle.cell_paint.specs.LayoutModel.Places.{Place, IsBefore, IsNoLater}
+use Rattle.cell_paint.proofs.LayoutModel.PlaceLaws.{IsBefore-irreflexive}
+use Rattle.own_record_laws.specs.Names.NamedNodes.{AreOneNamedNode, IsNameOf}
+use Rattle.own_record_laws.specs.CellNodes.NodeRecords.{IsNodeRecord, AreNodeRecords}
+use Rattle.own_record_laws.proofs.CellNodes.NodePlaces.{AreOneNamedNode-sym, material_along}
 use Rattle.own_record_laws.specs.TreeRecords.FetRecords.{IsOfNode, IsNodeBefore}
 use Rattle.own_record_laws.proofs.NodesByName.{one_name_one_node}
 use Rattle.own_record_laws.proofs.PreferredNames.{one_least, preferred_is_first}

@@ -18,21 +18,21 @@ use Rattle.ext_model.specs.declared.records.FetRec.{FetRec}
 use Rattle.ext_model.specs.declared.records.NodeRec.{NodeRec}
 use Rattle.ext_model.specs.declared.records.TermRec.{TermRec}
 use Rattle.tech_model.specs.ChannelRoles.{is_channel}
-use Rattle.layout_model.specs.LayerTypes.{HasTypesOf}
-use Rattle.layout_model.specs.Layouts.{Layout, IsMaterial}
-use Rattle.layout_model.specs.Places.{Place}
-use Rattle.layout_model.specs.RegionTiles.{IsInRegion, AreRegions, regions_of}
-use Rattle.layout_model.specs.Transistors.{AreOneChannel, IsTerminalOf, Transistor, IsTransistor, AreFetsInOrder, AreTransistors, gate_length}
-use Rattle.layout_model.specs.declared.region_tiles.RegionTile.{RegionTile}
+use Rattle.cell_paint.specs.LayoutModel.LayerTypes.{HasTypesOf}
+use Rattle.cell_paint.specs.LayoutModel.Layouts.{Layout, IsMaterial}
+use Rattle.cell_paint.specs.LayoutModel.Places.{Place}
+use Rattle.cell_paint.specs.LayoutModel.RegionTiles.{IsInRegion, AreRegions, regions_of}
+use Rattle.cell_paint.specs.LayoutModel.Transistors.{AreOneChannel, IsTerminalOf, Transistor, IsTransistor, AreFetsInOrder, AreTransistors, gate_length}
+use Rattle.cell_paint.specs.LayoutModel.declared.region_tiles.RegionTile.{RegionTile}
 use Rattle.fet_regions.specs.Measures.Bounds.{IsNearPlace}
-use Rattle.names.specs.NamedNodes.{AreOneNamedNode}
-use Rattle.flood_nodes.specs.TileShares.{no_tile, tile_at}
-use Rattle.flood_nodes.proofs.TileEdges.{lies_in_one}
+use Rattle.own_record_laws.specs.Names.NamedNodes.{AreOneNamedNode}
+use Rattle.fet_regions.specs.FloodNodes.TileShares.{no_tile, tile_at}
+use Rattle.fet_regions.proofs.FloodNodes.TileEdges.{lies_in_one}
 use Rattle.fet_regions.specs.declared.transistors.Fet.{Fet}
 use Rattle.fet_regions.specs.Transistors.{transistor_of}
 use Rattle.fet_regions.proofs.RoleLaws.{channel_type, type_not_space}
-use Rattle.cell_nodes.proofs.NodePlaces.{AreOneNamedNode-sym}
-use Rattle.cell_nodes.specs.RegionNodes.{AreNodesOfRegions}
+use Rattle.own_record_laws.proofs.CellNodes.NodePlaces.{AreOneNamedNode-sym}
+use Rattle.own_record_laws.specs.CellNodes.RegionNodes.{AreNodesOfRegions}
 use Rattle.own_record_laws.specs.TreeRecords.FetRecords.{IsOfNode, IsNodeBefore, IsFetRecord, AreFetRecords, terminal_names}
 use Rattle.own_record_laws.proofs.FetSizes.{few_edges, terminals_total}
 use Rattle.own_record_laws.proofs.SomeEdges.{some_edge}

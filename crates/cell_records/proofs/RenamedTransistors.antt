@@ -6,10 +6,10 @@ use Rattle.finite_sets.proofs.Members.{In-map, In-map_source}
 use Rattle.finite_sets.proofs.Totals.{Total-iff}
 use Rattle.tech_model.specs.declared.raw.RawTech.{RawTech}
 use Rattle.tech_model.specs.ChannelRoles.{is_terminal}
-use Rattle.layout_model.specs.EdgeCounts.{LeadsAcross, IsEdgeCount}
-use Rattle.layout_model.specs.Layouts.{Layout}
-use Rattle.layout_model.specs.Places.{Place, AreNeighbours}
-use Rattle.layout_model.specs.Transistors.{AreOneChannel, IsTerminalOf, Transistor, IsTransistor}
+use Rattle.cell_paint.specs.LayoutModel.EdgeCounts.{LeadsAcross, IsEdgeCount}
+use Rattle.cell_paint.specs.LayoutModel.Layouts.{Layout}
+use Rattle.cell_paint.specs.LayoutModel.Places.{Place, AreNeighbours}
+use Rattle.cell_paint.specs.LayoutModel.Transistors.{AreOneChannel, IsTerminalOf, Transistor, IsTransistor}
 use Rattle.cell_records.proofs.JoinedLaws.{key}
 
 -- the terminal of the other name

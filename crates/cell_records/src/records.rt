@@ -2,17 +2,17 @@
 ghost use Rattle.std.specs.Prelude.{◌≡◌, All, IfOk, length};
 ghost use Rattle.cell_paint.specs.Paints.{layout_of};
 ghost use Rattle.ext_model.specs.Lawful.{IsLawful};
-ghost use Rattle.names.specs.Attachments.{AreUnattached};
-ghost use Rattle.names.specs.Labels.{IsLabelOf};
+ghost use Rattle.own_record_laws.specs.Names.Attachments.{AreUnattached};
+ghost use Rattle.own_record_laws.specs.Names.Labels.{IsLabelOf};
 ghost use Rattle.own_record_laws.specs.TreeRecords.OwnRecords.{IsOwnRecord, class_values};
 ghost use Rattle.cell_records.specs.steps.Exts.{IsExtOf};
 
 use crate::fet_records::fet_records;
-use cell_nodes::{CellRegions, cell_regions};
 use cell_paint::CellPaint;
 use ext_model::{CellExt, FetRec, NodeRec};
 use fet_regions::fets;
 use names_lists::{List, Name};
+use own_record_laws::cell_nodes::{CellRegions, cell_regions};
 use own_record_laws::own_records_are_lawful;
 use std::alloc::{AllocError, Global};
 use tech_model::{Label, RawTech, Tech};

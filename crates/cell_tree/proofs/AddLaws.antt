@@ -4,7 +4,7 @@ use Rattle.std.specs.Option.{option_map_or}
 use Rattle.std.proofs.lemmas.Bool.{cases_eq, cases_lt}
 use Rattle.std.proofs.lemmas.List.{length-append, get_or_append_left, get_or_at, get_or_past, map_push}
 use Rattle.std.proofs.lemmas.Option.{slice_get_within, slice_get_past}
-use Rattle.finite_sets.proofs.Places.{slice_get-push_cases, slice_get-append_left, slice_get-append_front, slice_get-push_new}
+use Rattle.geo_core.proofs.FiniteSets.Places.{slice_get-push_cases, slice_get-append_left, slice_get-append_front, slice_get-push_new}
 use Rattle.cell_tree.specs.declared.cells.TreeCell.{TreeCell}
 use Rattle.cell_tree.specs.declared.limits.TheConstants.{MOST_USES}
 use Rattle.cell_tree.specs.declared.size_books.SizeBook.{SizeBook}

@@ -3,7 +3,7 @@ use Rattle.std.proofs.Common.{◌≡◌, ◌≢◌, inl, inr, ℕ, zero, suc, �
 use Rattle.std.proofs.lemmas.Bool.{cases_eq, cases_lt}
 use Rattle.std.proofs.lemmas.List.{get_or-set_same, get_or-set_other, get_or_past, length-set}
 use Rattle.std.proofs.lemmas.Option.{slice_get_within}
-use Rattle.finite_sets.specs.Chain.Chain.{stay, go}
+use Rattle.geo_core.specs.FiniteSets.Chain.Chain.{stay, go}
 use Rattle.cell_tree.specs.declared.sizes.Dimension.{Dimension}
 use Rattle.cell_tree.specs.declared.sizes.Dimension.TheVariants.{Depth, Elements, Hull}
 use Rattle.cell_tree.specs.declared.sizes.Size.{Size}

@@ -4,8 +4,8 @@ use Rattle.std.specs.Option.{option_map_or}
 use Rattle.std.proofs.lemmas.Bool.{cases_lt}
 use Rattle.std.proofs.lemmas.List.{length-append, length-replicate, length-take-le, get_or_append_left, get_or-append_right, get_or-replicate, get_or_past, take-map, take_at}
 use Rattle.std.proofs.lemmas.Option.{slice_get_within, slice_get_past}
-use Rattle.finite_sets.specs.Chain.Chain.{stay, go}
-use Rattle.finite_sets.proofs.Places.{slice_get-append_front, All-slice_get, slice_get-append_cases}
+use Rattle.geo_core.specs.FiniteSets.Chain.Chain.{stay, go}
+use Rattle.geo_core.proofs.FiniteSets.Places.{slice_get-append_front, All-slice_get, slice_get-append_cases}
 use Rattle.cell_tree.specs.declared.cells.TreeCell.{TreeCell}
 use Rattle.cell_tree.specs.declared.limits.TheConstants.{MOST_USES}
 use Rattle.cell_tree.specs.declared.size_books.SizeBook.{SizeBook}

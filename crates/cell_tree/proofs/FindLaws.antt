@@ -3,7 +3,7 @@ use Rattle.std.proofs.Common.{◌≡◌, inl, inr, ℕ, ◌-◌, ◌<◌, ◌≤
 use Rattle.std.specs.Option.{option_map}
 use Rattle.std.proofs.lemmas.List.{length-map}
 use Rattle.std.proofs.lemmas.Option.{slice_get_within, slice_get-map, slice_get-get_or}
-use Rattle.finite_sets.specs.Chain.{stay, go}
+use Rattle.geo_core.specs.FiniteSets.Chain.{stay, go}
 use Rattle.cell_tree.specs.declared.cells.TreeCell.{TreeCell}
 use Rattle.cell_tree.specs.declared.sizes.Dimension.TheVariants.{Depth}
 use Rattle.cell_tree.specs.declared.sizes.Size.{Size}

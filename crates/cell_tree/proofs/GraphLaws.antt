@@ -3,7 +3,7 @@ use Rattle.std.proofs.Common.{◌≡◌, inl, inr, ℕ, zero, suc, ◌<◌, List
 use Rattle.std.specs.Option.{option_map}
 use Rattle.std.proofs.lemmas.List.{length-map}
 use Rattle.std.proofs.lemmas.Option.{same_Some}
-use Rattle.finite_sets.specs.Lists.{In}
+use Rattle.geo_core.specs.FiniteSets.Lists.{In}
 use Rattle.use_orders.specs.Uses.{used_by, UsesCell, AreCells, IsAcyclicBelow}
 use Rattle.use_orders.proofs.Acyclic.{acyclic_by_rank}
 use Rattle.cell_tree.specs.declared.cells.TreeCell.{TreeCell}

@@ -6,11 +6,11 @@ use Rattle.std.proofs.Math.Nat.{mul-le-mul_right}
 use Rattle.std.specs.Prelude.{int_lt}
 use Rattle.std.specs.Int.{int_min, int_max}
 use Rattle.std.specs.Int.RustNames.{unsigned_abs}
-use Rattle.finite_sets.specs.Lists.{In}
-use Rattle.finite_sets.specs.Range.{integer_range, pairs_of, IsBetween}
-use Rattle.finite_sets.proofs.Members.{In-map, In-map_source}
-use Rattle.finite_sets.proofs.Ranges.{Lists-rectangle}
-use Rattle.finite_sets.proofs.Places.{In-slice_get}
+use Rattle.geo_core.specs.FiniteSets.Lists.{In}
+use Rattle.geo_core.specs.FiniteSets.Range.{integer_range, pairs_of, IsBetween}
+use Rattle.geo_core.proofs.FiniteSets.Members.{In-map, In-map_source}
+use Rattle.geo_core.proofs.FiniteSets.Ranges.{Lists-rectangle}
+use Rattle.geo_core.proofs.FiniteSets.Places.{In-slice_get}
 use Rattle.geo_core.specs.declared.grids.Grid.{Grid}
 use Rattle.geo_core.specs.declared.orients.Orient.{Orient}
 use Rattle.geo_core.specs.declared.orients.Orient.TheVariants.{R0}

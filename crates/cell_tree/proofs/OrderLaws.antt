@@ -2,13 +2,13 @@
 use Rattle.std.proofs.Common.{inl, inr, ℕ, ◌<◌, ◌≤◌, List, take, sym, ◌∙◌, arith}
 use Rattle.std.proofs.lemmas.Bool.{cases_lt}
 use Rattle.std.proofs.lemmas.List.{length-take, get_or-take}
-use Rattle.finite_sets.specs.Chain.{Chain}
-use Rattle.finite_sets.specs.Chain.Chain.{stay, go}
-use Rattle.finite_sets.specs.Least.{IsLeast}
-use Rattle.finite_sets.specs.Lists.{In}
-use Rattle.finite_sets.proofs.Chains.{Chain-push}
-use Rattle.finite_sets.proofs.Distincts.{Distinct-places}
-use Rattle.finite_sets.proofs.Members.{In-get_or, In-index}
+use Rattle.geo_core.specs.FiniteSets.Chain.{Chain}
+use Rattle.geo_core.specs.FiniteSets.Chain.Chain.{stay, go}
+use Rattle.geo_core.specs.FiniteSets.Least.{IsLeast}
+use Rattle.geo_core.specs.FiniteSets.Lists.{In}
+use Rattle.geo_core.proofs.FiniteSets.Chains.{Chain-push}
+use Rattle.geo_core.proofs.FiniteSets.Distincts.{Distinct-places}
+use Rattle.geo_core.proofs.FiniteSets.Members.{In-get_or, In-index}
 use Rattle.use_orders.specs.NewCells.{IsOwnDescendant, IsChildrenFirst}
 use Rattle.use_orders.specs.Uses.{UsesCell, UsesNewCell}
 use Rattle.use_orders.proofs.Acyclic.{own_by_new}

@@ -4,8 +4,8 @@ use Rattle.std.specs.Option.{option_map_or}
 use Rattle.std.proofs.lemmas.Bool.{cases_eq, cases_lt}
 use Rattle.std.proofs.lemmas.List.{append-nil, append_assoc, length-append, map_push}
 use Rattle.std.proofs.lemmas.Option.{slice_get_within, slice_get_past}
-use Rattle.finite_sets.specs.Lists.{In}
-use Rattle.finite_sets.proofs.Places.{slice_get-push_cases, slice_get-append_left, slice_get-append_front, slice_get-push_new}
+use Rattle.geo_core.specs.FiniteSets.Lists.{In}
+use Rattle.geo_core.proofs.FiniteSets.Places.{slice_get-push_cases, slice_get-append_left, slice_get-append_front, slice_get-push_new}
 use Rattle.cell_tree.specs.declared.cells.TreeCell.{TreeCell}
 use Rattle.cell_tree.specs.declared.use_tables.UseBody.{UseBody}
 use Rattle.cell_tree.specs.Uses.{HasIdAt}

@@ -23,7 +23,7 @@ use Rattle.cell_tree.proofs.EditLaws.{child_is_not_above, shrunk_within, smaller
 use Rattle.cell_tree.proofs.DecideLaws.{would_have}
 use Rattle.std.proofs.lemmas.List.{length-set}
 use Rattle.std.proofs.lemmas.Option.{same_Some}
-use Rattle.finite_sets.proofs.Places.{slice_get-set_same}
+use Rattle.geo_core.proofs.FiniteSets.Places.{slice_get-set_same}
 use Rattle.cell_tree.proofs.FindLaws.{length-states}
 use Rattle.cell_tree.proofs.WholeLaws.{IsLawfulState, IsChange, cell_is, kept_users, changed_users, whole_again, would_pass}
 

@@ -1,6 +1,6 @@
 -- Orders of cells in which each comes after all that use it.
 use Rattle.std.specs.Prelude.{◌≡◌, ◌≢◌, ◌⊎◌, ℕ, suc, ◌+◌, ◌-◌, ◌<◌, ◌≤◌, Bool, true, false, List, [], ◌∷◌, length, slice_index_or, Contains}
-use Rattle.finite_sets.specs.Chain.{Chain}
+use Rattle.geo_core.specs.FiniteSets.Chain.{Chain}
 use Rattle.cell_tree.specs.declared.cells.TreeCell.{TreeCell}
 use Rattle.cell_tree.specs.declared.sizes.Size.{Size}
 use Rattle.cell_tree.specs.declared.limits.TheConstants.{MOST_DEPTH}

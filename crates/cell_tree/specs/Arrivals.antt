@@ -1,7 +1,7 @@
 -- Cells that come at the end, behind those that were there: the order in which they are worked out, what that makes of their sizes, and
 -- which users are known meanwhile.
 use Rattle.std.specs.Prelude.{◌≡◌, ◌≢◌, ◌⊎◌, ◌↔◌, ℕ, suc, ◌-◌, ◌<◌, ◌≤◌, List, [], ◌++◌, length, map, replicate, Some, slice_get, vec_capacity}
-use Rattle.finite_sets.specs.Lists.{Distinct}
+use Rattle.geo_core.specs.FiniteSets.Lists.{Distinct}
 use Rattle.cell_tree.specs.declared.cells.TreeCell.{TreeCell}
 use Rattle.cell_tree.specs.declared.faults.TreeFault.{TreeFault}
 use Rattle.cell_tree.specs.declared.faults.TreeFault.TheVariants.{Cycle, Passed, Memory}

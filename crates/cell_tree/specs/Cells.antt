@@ -1,7 +1,7 @@
 -- Cells as they are kept, and which use which.
 use Rattle.std.specs.Prelude.{◌≡◌, ℕ, List, [], map, Contains, Some, slice_get}
 use Rattle.std.specs.Option.{option_map_or}
-use Rattle.finite_sets.specs.Chain.{Chain}
+use Rattle.geo_core.specs.FiniteSets.Chain.{Chain}
 use Rattle.cell_tree.specs.declared.cells.TreeCell.{TreeCell}
 use Rattle.cell_tree.specs.declared.use_tables.UseBody.{UseBody}
 use Rattle.cell_tree.specs.Sizes.{CellState}

@@ -1,4 +1,5 @@
 -- what crates above name of those below
+pub use Rattle.ext_model.specs as ExtModel
 pub use Rattle.use_orders.specs as UseOrders
 pub mod Uses
 pub mod Hulls

@@ -3,7 +3,7 @@ use Rattle.std.specs.Prelude.{◌≡◌, ℕ, suc, ◌<◌, ◌≤◌, List, [],
 use Rattle.geo_core.specs.declared.squares.Rect.{Rect}
 use Rattle.geo_core.specs.declared.grids.Grid.{Grid}
 use Rattle.geo_core.specs.declared.transforms.Transform.{Transform}
-use Rattle.finite_sets.specs.Lists.{Distinct}
+use Rattle.geo_core.specs.FiniteSets.Lists.{Distinct}
 use Rattle.cell_tree.specs.declared.faults.TreeFault.{TreeFault}
 use Rattle.cell_tree.specs.declared.faults.TreeFault.TheVariants.{Cycle, TooManyUses, Passed, Memory}
 use Rattle.cell_tree.specs.declared.limits.TheConstants.{MOST_USES}

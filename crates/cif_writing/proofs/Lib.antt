@@ -1,3 +1,5 @@
+-- what crates above name of those below
+pub use Rattle.cell_library.proofs as CellLibrary
 mod CommandLaws
 mod ElementLaws
 mod LineLaws

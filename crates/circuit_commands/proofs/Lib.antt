@@ -1,3 +1,5 @@
+-- what crates above name of those below
+pub use Rattle.ext_loading.proofs.PlainRecords as PlainRecords
 mod WrittenSims
 pub mod CircuitInside
 mod TreeCommands

@@ -8,7 +8,7 @@ use Rattle.ext_model.specs.declared.circuits.Circuit.{Circuit}
 use Rattle.ext_model.specs.declared.arrays.ArrayExt.{ArrayExt}
 use Rattle.circuit_model.specs.declared.faults.FlatFault.{FlatFault}
 use Rattle.circuit_model.specs.Refusals.{IsFlatFaultOf, IsFlatOf}
-use Rattle.plain_records.specs.Plains.{plains}
+use Rattle.ext_loading.specs.PlainRecords.Plains.{plains}
 use Rattle.ext_loading.specs.Loads.{AreRead}
 use Rattle.ext_loading.specs.Readings.{circuit_files}
 use Rattle.line_answers.proofs.AnswerLaws.{answers_refusal}

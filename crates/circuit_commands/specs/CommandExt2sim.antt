@@ -6,7 +6,7 @@ use Rattle.ext_model.specs.declared.circuits.Circuit.{Circuit}
 use Rattle.ext_model.specs.declared.arrays.ArrayExt.{ArrayExt}
 use Rattle.circuit_model.specs.declared.faults.FlatFault.{FlatFault}
 use Rattle.circuit_model.specs.Refusals.{IsFlatFaultOf, IsFlatOf}
-use Rattle.plain_records.specs.Plains.{plains}
+use Rattle.ext_loading.specs.PlainRecords.Plains.{plains}
 use Rattle.ext_loading.specs.declared.faults.ExtLoadFault.{ExtLoadFault}
 use Rattle.ext_loading.specs.Loads.{AreRead, LoadIsRefused}
 use Rattle.ext_loading.specs.Readings.{circuit_files}

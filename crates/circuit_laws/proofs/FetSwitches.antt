@@ -3,9 +3,9 @@ use Rattle.std.proofs.Common.{◌≡◌, ℕ, List, [], ◌∷◌, map, inl, inr
 use Rattle.std.specs.Prelude.{◌+ℤ◌}
 use Rattle.finite_sets.specs.Lists.{In}
 use Rattle.finite_sets.proofs.Members.{In-append_cases, In-map, In-map_source}
-use Rattle.ext_model.specs.declared.records.FetRec.{FetRec}
-use Rattle.ext_model.specs.declared.records.TermRec.{TermRec}
-use Rattle.sim_text.specs.declared.files.SimFet.{SimFet}
+use Rattle.full_names.specs.ExtModel.declared.records.FetRec.{FetRec}
+use Rattle.full_names.specs.ExtModel.declared.records.TermRec.{TermRec}
+use Rattle.sim_records.specs.SimText.declared.files.SimFet.{SimFet}
 use Rattle.sim_records.specs.Switches.{letter_of, switch_between, switches_among, switches_from, switches_of, switches_with}
 
 -- the names at terminals

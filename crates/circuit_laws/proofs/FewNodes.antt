@@ -14,16 +14,16 @@ use Rattle.finite_sets.proofs.Members.{In-index, In-map}
 use Rattle.finite_sets.proofs.Pairs.{Pairwise, Pairwise-from_AllPairs}
 use Rattle.finite_sets.proofs.Searches.{find-In, find-passes, In-from_list_any}
 use Rattle.finite_sets.proofs.Images.{In-flat_map}
-use Rattle.ext_model.specs.declared.circuits.Circuit.{Circuit}
-use Rattle.ext_model.specs.declared.records.NodeRec.{NodeRec}
-use Rattle.ext_model.specs.RecordNames.{names_of}
-use Rattle.circuit_model.specs.Elements.{Element}
-use Rattle.circuit_model.specs.FullNames.{full_names, name_in, AreLinked, AreOneNode}
-use Rattle.circuit_model.specs.FlatNodes.{AreFlatNodes, IsPlaced, gives_name, is_among}
-use Rattle.circuit_model.specs.Refusals.{node_count}
+use Rattle.full_names.specs.ExtModel.declared.circuits.Circuit.{Circuit}
+use Rattle.full_names.specs.ExtModel.declared.records.NodeRec.{NodeRec}
+use Rattle.full_names.specs.ExtModel.RecordNames.{names_of}
+use Rattle.full_names.specs.CircuitModel.Elements.{Element}
+use Rattle.full_names.specs.CircuitModel.FullNames.{full_names, name_in, AreLinked, AreOneNode}
+use Rattle.full_names.specs.CircuitModel.FlatNodes.{AreFlatNodes, IsPlaced, gives_name, is_among}
+use Rattle.full_names.specs.CircuitModel.Refusals.{node_count}
 use Rattle.sim_records.specs.SimRecords.{aliases_of, sim_of}
-use Rattle.switch_net.specs.SimRecords.{AreOfOneNode, IsAlias, SimRecords}
-use Rattle.switch_net.specs.SimRecords as Records
+use Rattle.sim_networks.specs.SwitchNet.SimRecords.{AreOfOneNode, IsAlias, SimRecords}
+use Rattle.sim_networks.specs.SwitchNet.SimRecords as Records
 use Rattle.sim_networks.specs.SimNetworks.{HasMoreNodesThan, records_of}
 use Rattle.circuit_laws.proofs.FlatNames.{IsOfNode}
 

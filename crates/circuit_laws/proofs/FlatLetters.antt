@@ -10,10 +10,10 @@ use Rattle.tech_model.specs.declared.raw.FetRule.{FetRule}
 use Rattle.tech_model.specs.declared.raw.RawTech.{RawTech}
 use Rattle.tech_model.specs.Forms.{is_fet_name}
 use Rattle.tech_model.specs.Rules.{KeepsRules}
-use Rattle.ext_model.specs.declared.records.FetRec.{FetRec}
+use Rattle.full_names.specs.ExtModel.declared.records.FetRec.{FetRec}
 use Rattle.tree_records.specs.NamedTrees.{NamedTree}
 use Rattle.tree_records.specs.TreeCircuits.{AreFlatFetRecords, IsFlatFetRecord}
-use Rattle.sim_text.specs.Parts.{is_letter}
+use Rattle.sim_records.specs.SimText.Parts.{is_letter}
 use Rattle.sim_records.specs.SimRecords.{sim_of}
 use Rattle.sim_records.specs.Switches.{letter_of, switches_of}
 use Rattle.sim_networks.specs.SimNetworks.{HasLetter}

@@ -9,23 +9,23 @@ use Rattle.finite_sets.specs.Lists.{In}
 use Rattle.finite_sets.proofs.Members.{Contains-from_In, In-append_cases, In-map, In-map_source}
 use Rattle.finite_sets.proofs.Searches.{find-In, find-none, list_any-of_In}
 use Rattle.finite_sets.proofs.Images.{In-flat_map_source}
-use Rattle.ext_model.specs.declared.circuits.Circuit.{Circuit}
-use Rattle.ext_model.specs.declared.records.CellExt.{CellExt}
-use Rattle.ext_model.specs.declared.records.FetRec.{FetRec}
-use Rattle.ext_model.specs.declared.records.NodeRec.{NodeRec}
-use Rattle.ext_model.specs.declared.records.TermRec.{TermRec}
-use Rattle.ext_model.specs.Lawful.{IsLawful, IsLawfulFet, IsLawfulTerm}
-use Rattle.ext_model.specs.RecordNames.{names_of, node_names}
-use Rattle.circuit_model.specs.Elements.{Element}
-use Rattle.circuit_model.specs.FullNames.{name_in}
-use Rattle.circuit_model.specs.FlatNodes.{AreFlatNodes, has_name}
-use Rattle.circuit_model.specs.FlatFets.{AreFlatFets, IsFlatFet, fets_in, fets_of, node_name, side_name}
-use Rattle.circuit_model.specs.Circuits.{IsCircuitOf}
-use Rattle.sim_text.specs.declared.files.SimFet.{SimFet}
+use Rattle.full_names.specs.ExtModel.declared.circuits.Circuit.{Circuit}
+use Rattle.full_names.specs.ExtModel.declared.records.CellExt.{CellExt}
+use Rattle.full_names.specs.ExtModel.declared.records.FetRec.{FetRec}
+use Rattle.full_names.specs.ExtModel.declared.records.NodeRec.{NodeRec}
+use Rattle.full_names.specs.ExtModel.declared.records.TermRec.{TermRec}
+use Rattle.full_names.specs.ExtModel.Lawful.{IsLawful, IsLawfulFet, IsLawfulTerm}
+use Rattle.full_names.specs.ExtModel.RecordNames.{names_of, node_names}
+use Rattle.full_names.specs.CircuitModel.Elements.{Element}
+use Rattle.full_names.specs.CircuitModel.FullNames.{name_in}
+use Rattle.full_names.specs.CircuitModel.FlatNodes.{AreFlatNodes, has_name}
+use Rattle.full_names.specs.CircuitModel.FlatFets.{AreFlatFets, IsFlatFet, fets_in, fets_of, node_name, side_name}
+use Rattle.full_names.specs.CircuitModel.Circuits.{IsCircuitOf}
+use Rattle.sim_records.specs.SimText.declared.files.SimFet.{SimFet}
 use Rattle.sim_records.specs.SimRecords.{aliases_of, cap_of, sim_of}
 use Rattle.sim_records.specs.Switches.{switches_of}
-use Rattle.switch_net.specs.SimRecords.{names_of_aliases, names_of_transistors}
-use Rattle.switch_net.specs.SimRecords as Records
+use Rattle.sim_networks.specs.SwitchNet.SimRecords.{names_of_aliases, names_of_transistors}
+use Rattle.sim_networks.specs.SwitchNet.SimRecords as Records
 use Rattle.sim_networks.specs.SimNetworks.{records_of, transistor_of}
 use Rattle.circuit_laws.proofs.FetSwitches.{nodes_at, switch_of_fet}
 

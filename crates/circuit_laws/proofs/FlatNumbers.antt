@@ -6,17 +6,17 @@ use Rattle.finite_sets.proofs.Chains.{Chain-either_back, Chain-either_through}
 use Rattle.finite_sets.proofs.Images.{In-flat_map_source}
 use Rattle.finite_sets.proofs.Members.{In-map, In-map_source}
 use Rattle.finite_sets.proofs.Pairs.{AllPairs-from_Pairwise, Pairwise-within}
-use Rattle.ext_model.specs.declared.circuits.Circuit.{Circuit}
-use Rattle.ext_model.specs.declared.records.NodeRec.{NodeRec}
-use Rattle.ext_model.specs.RecordNames.{names_of}
-use Rattle.circuit_model.specs.Elements.{Element, elements_of}
-use Rattle.circuit_model.specs.FullNames.{AreLinked, AreOneNode, IsFullName}
-use Rattle.circuit_model.specs.FlatNodes.{AreFlatNodes}
-use Rattle.ext_model.proofs.NameOrders.{name_cmp_total}
+use Rattle.full_names.specs.ExtModel.declared.circuits.Circuit.{Circuit}
+use Rattle.full_names.specs.ExtModel.declared.records.NodeRec.{NodeRec}
+use Rattle.full_names.specs.ExtModel.RecordNames.{names_of}
+use Rattle.full_names.specs.CircuitModel.Elements.{Element, elements_of}
+use Rattle.full_names.specs.CircuitModel.FullNames.{AreLinked, AreOneNode, IsFullName}
+use Rattle.full_names.specs.CircuitModel.FlatNodes.{AreFlatNodes}
+use Rattle.full_names.proofs.ExtModel.NameOrders.{name_cmp_total}
 use Rattle.full_names.proofs.ListOrders.{StandsBefore, not_before_itself, pairwise_names}
 use Rattle.sim_records.specs.SimRecords.{aliases_of, cap_of, sim_of}
-use Rattle.switch_net.specs.SimRecords.{AreOfOneNode, IsAlias, SimRecords}
-use Rattle.switch_net.specs.SimRecords as Records
+use Rattle.sim_networks.specs.SwitchNet.SimRecords.{AreOfOneNode, IsAlias, SimRecords}
+use Rattle.sim_networks.specs.SwitchNet.SimRecords as Records
 use Rattle.sim_networks.specs.SimNetworks.{HasNodeForEach, records_of}
 use Rattle.sim_networks.proofs.NumberedNames.{node_for_each}
 use Rattle.circuit_laws.specs.NetworkLaws.{FlatNetworksHaveTheNodes}

@@ -9,16 +9,16 @@ use Rattle.finite_sets.specs.Lists.{In}
 use Rattle.finite_sets.proofs.Members.{Contains-from_In}
 use Rattle.finite_sets.proofs.Searches.{find-In, option_or-none}
 use Rattle.finite_sets.proofs.Images.{In-flat_map_source}
-use Rattle.ext_model.specs.declared.records.UseRec.{UseRec}
-use Rattle.ext_model.specs.declared.records.CellExt.{CellExt}
-use Rattle.ext_model.specs.Lawful.{IsLawful}
-use Rattle.circuit_model.specs.declared.faults.FlatFault.TheVariants.{TooMany}
-use Rattle.circuit_model.specs.declared.limits.CircuitLimit.{CircuitLimit}
-use Rattle.circuit_model.specs.declared.limits.CircuitLimit.TheVariants.{Depth, Elements, Nodes, Names, Merges}
-use Rattle.circuit_model.specs.declared.limits.TheConstants.{LONGEST_CHAIN, MOST_FLAT_ELEMENTS, MOST_NODES, MOST_NAME_BYTES, MOST_MERGES}
-use Rattle.circuit_model.specs.Elements.{AreRecords, Element, elements_below, elements_of, ext_of, of_option}
-use Rattle.circuit_model.specs.Refusals.{past, depth_of, node_count, name_bytes, merge_count, class_fault, element_fault, first_fault}
-use Rattle.circuit_model.specs.Refusals.{walk_fault, count_fault, flat_fault}
+use Rattle.full_names.specs.ExtModel.declared.records.UseRec.{UseRec}
+use Rattle.full_names.specs.ExtModel.declared.records.CellExt.{CellExt}
+use Rattle.full_names.specs.ExtModel.Lawful.{IsLawful}
+use Rattle.full_names.specs.CircuitModel.declared.faults.FlatFault.TheVariants.{TooMany}
+use Rattle.full_names.specs.CircuitModel.declared.limits.CircuitLimit.{CircuitLimit}
+use Rattle.full_names.specs.CircuitModel.declared.limits.CircuitLimit.TheVariants.{Depth, Elements, Nodes, Names, Merges}
+use Rattle.full_names.specs.CircuitModel.declared.limits.TheConstants.{LONGEST_CHAIN, MOST_FLAT_ELEMENTS, MOST_NODES, MOST_NAME_BYTES, MOST_MERGES}
+use Rattle.full_names.specs.CircuitModel.Elements.{AreRecords, Element, elements_below, elements_of, ext_of, of_option}
+use Rattle.full_names.specs.CircuitModel.Refusals.{past, depth_of, node_count, name_bytes, merge_count, class_fault, element_fault, first_fault}
+use Rattle.full_names.specs.CircuitModel.Refusals.{walk_fault, count_fault, flat_fault}
 
 -- what holds of the record of an element and of all records holds of the record of each element at and below it
 below : (P : CellExt → Type 0) (levels : ℕ) (exts : List CellExt) (uses : List UseRec) (ext : CellExt) → P ext

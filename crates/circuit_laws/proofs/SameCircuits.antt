@@ -1,11 +1,11 @@
 -- The flat circuit of given records is unique.
 use Rattle.std.proofs.Common.{◌≡◌, List, sym, ◌∙◌, subst}
-use Rattle.ext_model.specs.declared.records.NodeRec.{NodeRec}
-use Rattle.ext_model.specs.declared.records.CellExt.{CellExt}
-use Rattle.ext_model.specs.declared.circuits.Circuit.{Circuit}
-use Rattle.circuit_model.specs.Elements.{Element, elements_of}
-use Rattle.circuit_model.specs.FlatFets.{fets_of, AreFlatFets}
-use Rattle.circuit_model.specs.Circuits.{IsCircuitOf}
+use Rattle.full_names.specs.ExtModel.declared.records.NodeRec.{NodeRec}
+use Rattle.full_names.specs.ExtModel.declared.records.CellExt.{CellExt}
+use Rattle.full_names.specs.ExtModel.declared.circuits.Circuit.{Circuit}
+use Rattle.full_names.specs.CircuitModel.Elements.{Element, elements_of}
+use Rattle.full_names.specs.CircuitModel.FlatFets.{fets_of, AreFlatFets}
+use Rattle.full_names.specs.CircuitModel.Circuits.{IsCircuitOf}
 use Rattle.circuit_laws.specs.CircuitLaws.{CircuitsAreUnique}
 use Rattle.circuit_laws.proofs.SameNodes.{same_nodes}
 use Rattle.circuit_laws.proofs.SameFets.{same_fets}

@@ -6,11 +6,11 @@ use Rattle.finite_sets.specs.Lists.{In}
 use Rattle.finite_sets.specs.Total.{sum_on}
 use Rattle.finite_sets.proofs.Members.{In-map, In-map_source}
 use Rattle.geo_core.specs.declared.squares.Square.{Square}
-use Rattle.ext_model.specs.declared.records.NodeRec.{NodeRec}
-use Rattle.ext_model.specs.declared.records.TermRec.{TermRec}
-use Rattle.ext_model.specs.declared.records.FetRec.{FetRec}
-use Rattle.circuit_model.specs.Elements.{Element}
-use Rattle.circuit_model.specs.FlatFets.{side_name, IsFlatFet, AreFlatFets}
+use Rattle.full_names.specs.ExtModel.declared.records.NodeRec.{NodeRec}
+use Rattle.full_names.specs.ExtModel.declared.records.TermRec.{TermRec}
+use Rattle.full_names.specs.ExtModel.declared.records.FetRec.{FetRec}
+use Rattle.full_names.specs.CircuitModel.Elements.{Element}
+use Rattle.full_names.specs.CircuitModel.FlatFets.{side_name, IsFlatFet, AreFlatFets}
 use Rattle.circuit_laws.proofs.SameLists.{same_by_name}
 
 -- each terminal of the one flat transistor is a terminal of the other

@@ -6,9 +6,9 @@ use Rattle.finite_sets.specs.Laws.{IsTransitive}
 use Rattle.finite_sets.specs.Lists.{In}
 use Rattle.finite_sets.proofs.Pairs.{Pairwise, Pairwise-unmap}
 use Rattle.finite_sets.proofs.InOrder.{same_by_order, Pairwise-from_order}
-use Rattle.ext_model.specs.NameOrder.{name_cmp}
-use Rattle.ext_model.proofs.NameOrders.{name_cmp_total}
-use Rattle.circuit_model.specs.FullNames.{AreInNameOrder}
+use Rattle.full_names.specs.ExtModel.NameOrder.{name_cmp}
+use Rattle.full_names.proofs.ExtModel.NameOrders.{name_cmp_total}
+use Rattle.full_names.specs.CircuitModel.FullNames.{AreInNameOrder}
 
 -- the first name stands before the second
 abbrev IsEarlier : List ℕ → List ℕ → Type 0

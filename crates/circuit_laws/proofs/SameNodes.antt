@@ -7,12 +7,12 @@ use Rattle.finite_sets.specs.Lists.{In}
 use Rattle.finite_sets.specs.Total.{sum_on}
 use Rattle.finite_sets.proofs.Chains.{Chain-append, Chain-either_back}
 use Rattle.geo_core.specs.declared.squares.Square.{Square}
-use Rattle.ext_model.specs.declared.records.NodeRec.{NodeRec}
-use Rattle.ext_model.specs.declared.records.MergeRec.{MergeRec}
-use Rattle.ext_model.specs.RecordNames.{names_of}
-use Rattle.circuit_model.specs.Elements.{Element, placed}
-use Rattle.circuit_model.specs.FullNames.{name_in, full_names, AreLinked, AreInNameOrder}
-use Rattle.circuit_model.specs.FlatNodes.{is_among, gives_name, sum_of, measure_of, IsPlaced, IsFlatNode, AreFlatNodes}
+use Rattle.full_names.specs.ExtModel.declared.records.NodeRec.{NodeRec}
+use Rattle.full_names.specs.ExtModel.declared.records.MergeRec.{MergeRec}
+use Rattle.full_names.specs.ExtModel.RecordNames.{names_of}
+use Rattle.full_names.specs.CircuitModel.Elements.{Element, placed}
+use Rattle.full_names.specs.CircuitModel.FullNames.{name_in, full_names, AreLinked, AreInNameOrder}
+use Rattle.full_names.specs.CircuitModel.FlatNodes.{is_among, gives_name, sum_of, measure_of, IsPlaced, IsFlatNode, AreFlatNodes}
 use Rattle.circuit_laws.proofs.SameLists.{same_by_name}
 
 -- what has one name of a node has all names of each other node that has it

@@ -11,16 +11,16 @@ use Rattle.finite_sets.specs.Total.{sum_on}
 use Rattle.finite_sets.proofs.Members.{In-map_source}
 use Rattle.finite_sets.proofs.Searches.{All-from_In, find-In, All-In}
 use Rattle.finite_sets.proofs.Images.{In-flat_map_source}
-use Rattle.ext_model.specs.declared.limits.TheConstants.{LENGTHS_EDGE}
-use Rattle.ext_model.specs.declared.records.CellExt.{CellExt}
-use Rattle.ext_model.specs.declared.records.FetRec.{FetRec}
-use Rattle.ext_model.specs.declared.records.NodeRec.{NodeRec}
-use Rattle.ext_model.specs.declared.records.TermRec.{TermRec}
-use Rattle.ext_model.specs.declared.records.UseRec.{UseRec}
-use Rattle.ext_model.specs.Lawful.{IsLawful, IsLawfulFet}
-use Rattle.ext_model.specs.NodeNames.{is_word}
-use Rattle.circuit_model.specs.Elements.{Element, elements_below, elements_of, ext_of, of_option}
-use Rattle.circuit_model.specs.FlatFets.{AreFlatFets, IsFlatFet, fets_in, fets_of, side_name}
+use Rattle.full_names.specs.ExtModel.declared.limits.TheConstants.{LENGTHS_EDGE}
+use Rattle.full_names.specs.ExtModel.declared.records.CellExt.{CellExt}
+use Rattle.full_names.specs.ExtModel.declared.records.FetRec.{FetRec}
+use Rattle.full_names.specs.ExtModel.declared.records.NodeRec.{NodeRec}
+use Rattle.full_names.specs.ExtModel.declared.records.TermRec.{TermRec}
+use Rattle.full_names.specs.ExtModel.declared.records.UseRec.{UseRec}
+use Rattle.full_names.specs.ExtModel.Lawful.{IsLawful, IsLawfulFet}
+use Rattle.full_names.specs.ExtModel.NodeNames.{is_word}
+use Rattle.full_names.specs.CircuitModel.Elements.{Element, elements_below, elements_of, ext_of, of_option}
+use Rattle.full_names.specs.CircuitModel.FlatFets.{AreFlatFets, IsFlatFet, fets_in, fets_of, side_name}
 use Rattle.sim_records.specs.SimRecords.{HasLetterAndLengths}
 use Rattle.circuit_laws.specs.CircuitLaws.{FlatTransistorHasLetterAndLengths, FlatTransistorsHaveLetterAndLengths}
 

@@ -1,14 +1,14 @@
 -- What the meaning of records is held to.
 use Rattle.std.specs.Prelude.{◌≡◌, ℕ, List, All}
-use Rattle.ext_model.specs.declared.records.CellExt.{CellExt}
-use Rattle.ext_model.specs.declared.circuits.Circuit.{Circuit}
-use Rattle.ext_model.specs.declared.records.FetRec.{FetRec}
-use Rattle.ext_model.specs.declared.records.NodeRec.{NodeRec}
-use Rattle.ext_model.specs.Lawful.{IsLawfulFet}
-use Rattle.circuit_model.specs.Circuits.{IsMeaning}
-use Rattle.circuit_model.specs.Elements.{AreRecords, Element}
-use Rattle.circuit_model.specs.FlatFets.{IsFlatFet}
-use Rattle.circuit_model.specs.Refusals.{IsFlatOf}
+use Rattle.full_names.specs.ExtModel.declared.records.CellExt.{CellExt}
+use Rattle.full_names.specs.ExtModel.declared.circuits.Circuit.{Circuit}
+use Rattle.full_names.specs.ExtModel.declared.records.FetRec.{FetRec}
+use Rattle.full_names.specs.ExtModel.declared.records.NodeRec.{NodeRec}
+use Rattle.full_names.specs.ExtModel.Lawful.{IsLawfulFet}
+use Rattle.full_names.specs.CircuitModel.Circuits.{IsMeaning}
+use Rattle.full_names.specs.CircuitModel.Elements.{AreRecords, Element}
+use Rattle.full_names.specs.CircuitModel.FlatFets.{IsFlatFet}
+use Rattle.full_names.specs.CircuitModel.Refusals.{IsFlatOf}
 use Rattle.sim_records.specs.SimRecords.{HasLetterAndLengths}
 
 -- two circuits that records mean at one root are one, whether the records are lawful or not

@@ -1,16 +1,16 @@
 -- What holds of the networks of flat circuits.
 use Rattle.std.specs.Prelude.{ℕ, List, All, map}
 use Rattle.tech_model.specs.declared.raw.RawTech.{RawTech}
-use Rattle.ext_model.specs.declared.records.CellExt.{CellExt}
-use Rattle.ext_model.specs.declared.circuits.Circuit.{Circuit}
-use Rattle.circuit_model.specs.Elements.{AreRecords}
-use Rattle.circuit_model.specs.Refusals.{IsFlatOf}
+use Rattle.full_names.specs.ExtModel.declared.records.CellExt.{CellExt}
+use Rattle.full_names.specs.ExtModel.declared.circuits.Circuit.{Circuit}
+use Rattle.full_names.specs.CircuitModel.Elements.{AreRecords}
+use Rattle.full_names.specs.CircuitModel.Refusals.{IsFlatOf}
 use Rattle.tree_records.specs.NamedTrees.{NamedTree}
 use Rattle.tree_records.specs.TreeCircuits.{IsFlatCircuit}
 use Rattle.sim_records.specs.SimRecords.{sim_of}
-use Rattle.switch_net.specs.declared.limits.TheConstants.{MOST_NODES}
-use Rattle.switch_net.specs.Network.{Network}
-use Rattle.switch_net.specs.SimRecords.{IsNetworkOf}
+use Rattle.sim_networks.specs.SwitchNet.declared.limits.TheConstants.{MOST_NODES}
+use Rattle.sim_networks.specs.SwitchNet.Network.{Network}
+use Rattle.sim_networks.specs.SwitchNet.SimRecords.{IsNetworkOf}
 use Rattle.sim_networks.specs.SimNetworks.{HasLetter, HasMoreNodesThan, HasNodeForEach, IsNumberedByCaps, records_of}
 
 -- the flat circuit of records has no more nodes than a network may have

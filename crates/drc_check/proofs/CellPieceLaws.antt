@@ -8,9 +8,9 @@ use Rattle.geo_core.specs.Covering.{Covers, IsProper}
 use Rattle.geo_core.proofs.CoveringLaws.{covers_is_proper, has_square-IsProper}
 use Rattle.tech_model.specs.declared.raw.TypeId.{TypeId}
 use Rattle.tech_model.specs.Types.{joined}
-use Rattle.offences.specs.LayoutModel.Places.{Place}
-use Rattle.offences.specs.LayoutModel.FlatSets.{flat_sets}
-use Rattle.offences.specs.Offences.{joined_at}
+use Rattle.hierarchy_model.specs.Offences.LayoutModel.Places.{Place}
+use Rattle.hierarchy_model.specs.Offences.LayoutModel.FlatSets.{flat_sets}
+use Rattle.hierarchy_model.specs.Offences.Offences.{joined_at}
 use Rattle.cell_library.specs.CellTree.declared.limits.TheConstants.{MOST_DEPTH}
 use Rattle.cell_library.specs.CellTree.Hulls.{SpansInRange}
 use Rattle.cell_library.specs.Libraries.{IsLawfulLibrary, LibraryParts, seen}

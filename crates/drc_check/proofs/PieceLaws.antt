@@ -4,8 +4,8 @@ use Rattle.finite_sets.specs.Lists.{In}
 use Rattle.finite_sets.proofs.Members.{In-append_cases, In-append_left, In-append_right}
 use Rattle.tech_model.specs.declared.raw.RawTech.{RawTech}
 use Rattle.tech_model.specs.declared.raw.TypeId.{TypeId}
-use Rattle.offences.specs.LayoutModel.Places.{Place}
-use Rattle.offences.specs.Offences.{SetLayout}
+use Rattle.hierarchy_model.specs.Offences.LayoutModel.Places.{Place}
+use Rattle.hierarchy_model.specs.Offences.Offences.{SetLayout}
 use Rattle.drc_check.specs.declared.pieces.ListedPiece.{ListedPiece}
 use Rattle.drc_check.specs.steps.Pieces.{AreListedPieces, HasPieceAt}
 

@@ -7,7 +7,7 @@ use Rattle.std.proofs.lemmas.List.{append_assoc}
 use Rattle.finite_sets.proofs.Members.{In-append_cases}
 use Rattle.tech_model.specs.declared.raw.RawTech.{RawTech}
 use Rattle.tech_model.specs.declared.raw.TypeId.{TypeId}
-use Rattle.offences.specs.LayoutModel.Places.{Place}
+use Rattle.hierarchy_model.specs.Offences.LayoutModel.Places.{Place}
 use Rattle.cell_library.specs.declared.part_tiles.PartTile.{PartTile}
 use Rattle.drc_rules.specs.declared.rules.Rule.{Rule}
 use Rattle.drc_rules.specs.LawfulRules.{IsLawfulRule}

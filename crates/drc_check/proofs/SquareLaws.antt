@@ -13,10 +13,10 @@ use Rattle.geo_core.specs.Strips.{IsInUnion}
 use Rattle.square_sets.specs.Boxes.{LiesInBox}
 use Rattle.tech_model.specs.declared.raw.RawTech.{RawTech}
 use Rattle.tech_model.specs.declared.raw.TypeId.{TypeId}
-use Rattle.offences.specs.LayoutModel.CellTrees.{CellTree}
-use Rattle.offences.specs.LayoutModel.FlatSets.{flat_sets}
-use Rattle.offences.specs.Offences.{joined_at}
-use Rattle.offences.specs.TypedStacks.{on_plane}
+use Rattle.hierarchy_model.specs.Offences.LayoutModel.CellTrees.{CellTree}
+use Rattle.hierarchy_model.specs.Offences.LayoutModel.FlatSets.{flat_sets}
+use Rattle.hierarchy_model.specs.Offences.Offences.{joined_at}
+use Rattle.hierarchy_model.specs.Offences.TypedStacks.{on_plane}
 use Rattle.drc_rules.specs.declared.rules.Rule.{Rule}
 use Rattle.drc_rules.specs.declared.rules.RuleKind.{RuleKind}
 use Rattle.drc_rules.specs.declared.rules.RuleKind.TheVariants.{Separation, Spacing, Width}

@@ -23,11 +23,11 @@ use Rattle.tech_model.specs.declared.raw.PartSet.{PartSet}
 use Rattle.tech_model.specs.declared.raw.RawTech.{RawTech}
 use Rattle.tech_model.specs.declared.raw.TypeId.{TypeId}
 use Rattle.tech_model.specs.Types.{joined, parts_of, type_number}
-use Rattle.offences.specs.LayoutModel.Places.{Place}
-use Rattle.offences.specs.TypedStacks.{on_plane}
-use Rattle.offences.proofs.LayoutModel.SetUnions.{none_union, union_assoc, union_none, union_some}
-use Rattle.offences.proofs.TileLaws.{bit_kept, union_bit}
-use Rattle.offences.proofs.UnionLaws.{same_sets}
+use Rattle.hierarchy_model.specs.Offences.LayoutModel.Places.{Place}
+use Rattle.hierarchy_model.specs.Offences.TypedStacks.{on_plane}
+use Rattle.hierarchy_model.proofs.Offences.LayoutModel.SetUnions.{none_union, union_assoc, union_none, union_some}
+use Rattle.hierarchy_model.proofs.Offences.TileLaws.{bit_kept, union_bit}
+use Rattle.hierarchy_model.proofs.Offences.UnionLaws.{same_sets}
 use Rattle.cell_library.specs.declared.part_tiles.PartTile.{PartTile}
 use Rattle.drc_check.specs.declared.pieces.ListedPiece.{ListedPiece}
 use Rattle.drc_check.specs.steps.Pieces.{tile_area, is_on_plane, marked_piece, member_union, stack_piece, part_set_at, set_in, set_of_all, set_of_tile}

@@ -12,13 +12,13 @@ use Rattle.geo_core.specs.Images.{rect_image}
 use Rattle.geo_core.proofs.CoveringLaws.{Covers-is_covered, is_covered-Covers, covers_second}
 use Rattle.tech_model.specs.declared.raw.RawTech.{RawTech}
 use Rattle.tech_model.specs.Types.{joined, parts_of}
-use Rattle.offences.specs.LayoutModel.Places.{Place}
-use Rattle.offences.specs.LayoutModel.CellTrees.{CellTree}
-use Rattle.offences.specs.LayoutModel.CellTrees.CellTree.{cell_tree}
-use Rattle.offences.specs.LayoutModel.FlatSets.{flat_sets, parts_in}
-use Rattle.offences.specs.Offences.{SetLayout, flat_type, joined_at, union_of}
-use Rattle.offences.proofs.TileLaws.{bit_kept, union_bit}
-use Rattle.offences.proofs.UnionLaws.{no_part, same_sets}
+use Rattle.hierarchy_model.specs.Offences.LayoutModel.Places.{Place}
+use Rattle.hierarchy_model.specs.Offences.LayoutModel.CellTrees.{CellTree}
+use Rattle.hierarchy_model.specs.Offences.LayoutModel.CellTrees.CellTree.{cell_tree}
+use Rattle.hierarchy_model.specs.Offences.LayoutModel.FlatSets.{flat_sets, parts_in}
+use Rattle.hierarchy_model.specs.Offences.Offences.{SetLayout, flat_type, joined_at, union_of}
+use Rattle.hierarchy_model.proofs.Offences.TileLaws.{bit_kept, union_bit}
+use Rattle.hierarchy_model.proofs.Offences.UnionLaws.{no_part, same_sets}
 use Rattle.hierarchy_model.proofs.CleanLaws.{flat_of_parts}
 use Rattle.cell_library.specs.declared.part_tiles.PartTile.{PartTile}
 use Rattle.cell_library.specs.PartTiles.{IsPartTileIn, set_from, set_of_part, set_of_tiles}

@@ -11,10 +11,10 @@ use Rattle.geo_core.specs.Covering.{Covers}
 use Rattle.geo_core.specs.Strips.{IsInUnion}
 use Rattle.geo_core.proofs.CoveringLaws.{within_trans, filled_within}
 use Rattle.tech_model.specs.declared.raw.RawTech.{RawTech}
-use Rattle.offences.specs.LayoutModel.Places.{Place}
-use Rattle.offences.specs.LayoutModel.CellTrees.{CellTree}
-use Rattle.offences.specs.LayoutModel.FlatSets.{flat_sets}
-use Rattle.offences.specs.TypedStacks.{on_plane}
+use Rattle.hierarchy_model.specs.Offences.LayoutModel.Places.{Place}
+use Rattle.hierarchy_model.specs.Offences.LayoutModel.CellTrees.{CellTree}
+use Rattle.hierarchy_model.specs.Offences.LayoutModel.FlatSets.{flat_sets}
+use Rattle.hierarchy_model.specs.Offences.TypedStacks.{on_plane}
 use Rattle.cell_library.specs.declared.part_tiles.PartTile.{PartTile}
 use Rattle.cell_library.specs.PartTiles.{IsPartTileIn, set_of_part, set_of_tiles}
 use Rattle.drc_rules.specs.declared.rules.Rule.{Rule}

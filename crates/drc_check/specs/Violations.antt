@@ -6,10 +6,10 @@ use Rattle.geo_core.specs.declared.squares.Rect.{Rect}
 use Rattle.geo_core.specs.Strips.{IsStrips}
 use Rattle.tech_model.specs.declared.raw.TypeId.{TypeId}
 use Rattle.tech_model.specs.declared.raw.RawTech.{RawTech}
-use Rattle.offences.specs.LayoutModel.CellTrees.{CellTree}
-use Rattle.offences.specs.LayoutModel.FlatSets.{flat_sets}
-use Rattle.offences.specs.Offences.{joined_at}
-use Rattle.offences.specs.TypedStacks.{on_plane}
+use Rattle.hierarchy_model.specs.Offences.LayoutModel.CellTrees.{CellTree}
+use Rattle.hierarchy_model.specs.Offences.LayoutModel.FlatSets.{flat_sets}
+use Rattle.hierarchy_model.specs.Offences.Offences.{joined_at}
+use Rattle.hierarchy_model.specs.Offences.TypedStacks.{on_plane}
 use Rattle.square_sets.specs.Boxes.{IsTooNarrow, IsTooNear, IsTooTight}
 use Rattle.drc_rules.specs.declared.rules.Rule.{Rule}
 use Rattle.drc_rules.specs.declared.rules.RuleKind.{RuleKind}

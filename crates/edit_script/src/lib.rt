@@ -21,4 +21,6 @@ mod own_edits;
 mod use_edits;
 
 pub use applying::apply;
+pub use cell_library;
 pub use faults::EditFault;
+pub use script_lines;

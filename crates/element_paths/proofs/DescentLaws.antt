@@ -7,16 +7,16 @@ use Rattle.std.proofs.lemmas.Bool.{cases_lt}
 use Rattle.std.proofs.lemmas.List.{append-nil, append_assoc, take_all}
 use Rattle.std.proofs.lemmas.Option.{get_or_from_slice_get, same_Some, slice_get_within}
 use Rattle.finite_sets.proofs.Places.{slice_get-below}
-use Rattle.layout_model.specs.CellTrees.{CellTree, Standing, standings, under}
-use Rattle.layout_model.specs.CellTrees.CellTree.{cell_tree}
+use Rattle.library_trees.specs.LayoutModel.CellTrees.{CellTree, Standing, standings, under}
+use Rattle.library_trees.specs.LayoutModel.CellTrees.CellTree.{cell_tree}
 use Rattle.cell_tree.specs.declared.limits.TheConstants.{MOST_ELEMENTS_BELOW}
 use Rattle.cell_tree.specs.declared.use_tables.UseBody.{UseBody}
 use Rattle.cell_tree.specs.Uses.{displacements}
-use Rattle.cell_library.specs.LayoutTrees.{element_transform, tree_at}
-use Rattle.cell_library.specs.Libraries.{LibraryParts, IsLawfulLibrary, seen}
-use Rattle.cell_library.specs.PartCounts.{element_count}
-use Rattle.cell_library.specs.Views.{LibraryView, view_at}
-use Rattle.cell_library.proofs.ElementCounts.{use_is_lawful}
+use Rattle.library_trees.specs.CellLibrary.LayoutTrees.{element_transform, tree_at}
+use Rattle.library_trees.specs.CellLibrary.Libraries.{LibraryParts, IsLawfulLibrary, seen}
+use Rattle.library_trees.specs.CellLibrary.PartCounts.{element_count}
+use Rattle.library_trees.specs.CellLibrary.Views.{LibraryView, view_at}
+use Rattle.library_trees.proofs.CellLibrary.ElementCounts.{use_is_lawful}
 use Rattle.library_trees.specs.TreeRecords.NamedTrees.{NamedTree, layouts_of, named_elements_in}
 use Rattle.library_trees.specs.TreeRecords.NamedTrees.NamedTree.{named_tree}
 use Rattle.library_trees.specs.ElementNames.{UseElement, use_elements}

@@ -6,8 +6,8 @@ use Rattle.std.proofs.lemmas.List.{length-map}
 use Rattle.std.proofs.lemmas.Option.{same_Some, slice_get-map}
 use Rattle.finite_sets.proofs.Places.{slice_get-append_left, slice_get-append_right}
 use Rattle.geo_core.specs.declared.transforms.Transform.{Transform}
-use Rattle.layout_model.specs.CellTrees.{Standing, standings, standings_from, under}
-use Rattle.cell_library.specs.LayoutTrees.{element_transform}
+use Rattle.library_trees.specs.LayoutModel.CellTrees.{Standing, standings, standings_from, under}
+use Rattle.library_trees.specs.CellLibrary.LayoutTrees.{element_transform}
 use Rattle.library_trees.specs.TreeRecords.NamedTrees.{NamedTree, NamedElements, layouts_below, layouts_of}
 use Rattle.library_trees.specs.TreeRecords.NamedTrees.NamedElements.{no_more, element_then}
 use Rattle.library_trees.specs.ElementNames.{UseElement}

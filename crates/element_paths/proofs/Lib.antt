@@ -1,4 +1,5 @@
 -- what crates above name of those below
+pub use Rattle.library_trees.proofs.CellLibrary as CellLibrary
 pub use Rattle.library_trees.proofs as LibraryTrees
 pub mod RecordLaws
 mod ElementLaws

@@ -19,11 +19,11 @@ use Rattle.ext_model.specs.declared.records.UseRec.{UseRec}
 use Rattle.ext_model.specs.Plain.{plain_uses, uses_of_grid}
 use Rattle.cell_tree.specs.declared.limits.TheConstants.{MOST_DEPTH, MOST_ELEMENTS_BELOW}
 use Rattle.cell_tree.specs.Uses.{displacements}
-use Rattle.cell_library.specs.LayoutTrees.{element_transform}
-use Rattle.cell_library.specs.Libraries.{IsLawfulLibrary, LibraryParts, seen}
-use Rattle.cell_library.specs.PartCounts.{element_count}
-use Rattle.cell_library.specs.Views.{LibraryView, view_at}
-use Rattle.cell_library.proofs.ElementCounts.{few_elements}
+use Rattle.library_trees.specs.CellLibrary.LayoutTrees.{element_transform}
+use Rattle.library_trees.specs.CellLibrary.Libraries.{IsLawfulLibrary, LibraryParts, seen}
+use Rattle.library_trees.specs.CellLibrary.PartCounts.{element_count}
+use Rattle.library_trees.specs.CellLibrary.Views.{LibraryView, view_at}
+use Rattle.library_trees.proofs.CellLibrary.ElementCounts.{few_elements}
 use Rattle.library_trees.specs.TreeRecords.NamedTrees.{NamedElements, NamedTree, named_elements_in, own_body}
 use Rattle.library_trees.specs.TreeRecords.TreeRecords.{use_records}
 use Rattle.library_trees.specs.ElementNames.{UseElement, array_element, use_elements}

@@ -5,16 +5,16 @@ use Rattle.std.specs.List.Sorted.{IsNonDecreasingBy}
 use Rattle.std.proofs.lemmas.List.{length-append}
 use Rattle.std.proofs.lemmas.Option.{get_or_from_slice_get, same_Some, slice_get_cases, slice_get_within}
 use Rattle.finite_sets.proofs.Places.{slice_get-append_front, slice_get-push_new}
-use Rattle.layout_model.specs.CellTrees.{CellTree, standings}
+use Rattle.library_trees.specs.LayoutModel.CellTrees.{CellTree, standings}
 use Rattle.cell_tree.specs.declared.use_tables.UseBody.{UseBody}
 use Rattle.cell_tree.specs.Uses.{displacements}
 use Rattle.cell_tree.specs.declared.limits.TheConstants.{MOST_ELEMENTS_BELOW}
-use Rattle.cell_library.specs.LayoutTrees.{tree_at}
-use Rattle.cell_library.specs.Libraries.{LibraryParts, IsLawfulLibrary, seen}
-use Rattle.cell_library.specs.PartCounts.{element_count}
-use Rattle.cell_library.specs.Views.{view_at}
-use Rattle.cell_library.proofs.ElementCounts.{few_elements}
-use Rattle.cell_library.proofs.StandingCounts.{standings_few}
+use Rattle.library_trees.specs.CellLibrary.LayoutTrees.{tree_at}
+use Rattle.library_trees.specs.CellLibrary.Libraries.{LibraryParts, IsLawfulLibrary, seen}
+use Rattle.library_trees.specs.CellLibrary.PartCounts.{element_count}
+use Rattle.library_trees.specs.CellLibrary.Views.{view_at}
+use Rattle.library_trees.proofs.CellLibrary.ElementCounts.{few_elements}
+use Rattle.library_trees.proofs.CellLibrary.StandingCounts.{standings_few}
 use Rattle.element_paths.specs.declared.starts.UseStart.{UseStart}
 use Rattle.element_paths.specs.UseStarts.{standing_below, start_behind, start_of, AreStarts}
 use Rattle.element_paths.proofs.UseLaws.{UsesWithIds, standing_all}

@@ -6,14 +6,14 @@ use Rattle.std.proofs.lemmas.Option.{same_Some}
 use Rattle.geo_core.specs.declared.grids.Grid.{Grid}
 use Rattle.geo_core.specs.declared.transforms.Transform.{Transform}
 use Rattle.geo_core.specs.Elements.{elements_of}
-use Rattle.layout_model.specs.CellTrees.{CellTree, Elements, standings, standings_from, under}
+use Rattle.library_trees.specs.LayoutModel.CellTrees.{CellTree, Elements, standings, standings_from, under}
 use Rattle.cell_tree.specs.declared.use_tables.UseBody.{UseBody}
 use Rattle.cell_tree.specs.Uses.{displacements}
-use Rattle.cell_library.specs.LayoutTrees.{element_transform, elements_at, elements_from, tree_at}
-use Rattle.cell_library.specs.Libraries.{LibraryParts, IsLawfulLibrary, seen}
-use Rattle.cell_library.specs.PartCounts.{element_count}
-use Rattle.cell_library.specs.Views.{view_at}
-use Rattle.cell_library.proofs.LayoutTreeLaws.{tree_unfolds}
+use Rattle.library_trees.specs.CellLibrary.LayoutTrees.{element_transform, elements_at, elements_from, tree_at}
+use Rattle.library_trees.specs.CellLibrary.Libraries.{LibraryParts, IsLawfulLibrary, seen}
+use Rattle.library_trees.specs.CellLibrary.PartCounts.{element_count}
+use Rattle.library_trees.specs.CellLibrary.Views.{view_at}
+use Rattle.library_trees.proofs.CellLibrary.LayoutTreeLaws.{tree_unfolds}
 use Rattle.library_trees.specs.TreeRecords.NamedTrees.{NamedTree, layouts_of}
 use Rattle.library_trees.specs.ElementNames.{UseElement, array_element, use_elements}
 use Rattle.library_trees.specs.NamedCells.{named_elements_from}

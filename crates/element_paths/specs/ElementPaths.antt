@@ -1,8 +1,8 @@
 -- The elements that lead from a cell down to what stands at or below it.
 use Rattle.std.specs.Prelude.{◌≡◌, ℕ, zero, suc, List, [], ◌∷◌, slice_get, Option, Some, None}
 use Rattle.geo_core.specs.declared.transforms.Transform.{Transform}
-use Rattle.layout_model.specs.CellTrees.{Standing, standings, under}
-use Rattle.cell_library.specs.Views.{LibraryView}
+use Rattle.library_trees.specs.LayoutModel.CellTrees.{Standing, standings, under}
+use Rattle.library_trees.specs.CellLibrary.Views.{LibraryView}
 use Rattle.library_trees.specs.TreeRecords.NamedTrees.{NamedTree, NamedElements, named_elements_in, layouts_of}
 use Rattle.library_trees.specs.TreeRecords.NamedTrees.NamedElements.{no_more, element_then}
 use Rattle.library_trees.specs.NamedCells.{named_tree_at}

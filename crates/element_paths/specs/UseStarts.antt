@@ -4,13 +4,13 @@ use Rattle.std.specs.HashMap.{get}
 use Rattle.std.specs.declared.alloc.Global.{Global}
 use Rattle.geo_core.specs.declared.grids.Grid.{Grid}
 use Rattle.geo_core.specs.declared.transforms.Transform.{Transform}
-use Rattle.layout_model.specs.CellTrees.{CellTree, standings}
+use Rattle.library_trees.specs.LayoutModel.CellTrees.{CellTree, standings}
 use Rattle.cell_tree.specs.declared.use_tables.UseBody.{UseBody}
 use Rattle.cell_tree.specs.Uses.{displacements}
-use Rattle.cell_library.specs.LayoutTrees.{tree_at}
-use Rattle.cell_library.specs.Libraries.{LibraryParts, seen}
-use Rattle.cell_library.specs.PartCounts.{element_count}
-use Rattle.cell_library.specs.Views.{LibraryView, view_at}
+use Rattle.library_trees.specs.CellLibrary.LayoutTrees.{tree_at}
+use Rattle.library_trees.specs.CellLibrary.Libraries.{LibraryParts, seen}
+use Rattle.library_trees.specs.CellLibrary.PartCounts.{element_count}
+use Rattle.library_trees.specs.CellLibrary.Views.{LibraryView, view_at}
 use Rattle.library_trees.specs.ElementNames.{use_elements}
 use Rattle.library_trees.specs.NamedCells.{named_tree_at}
 use Rattle.element_paths.specs.declared.starts.UseStart.{UseStart}

@@ -2,17 +2,17 @@
 ghost use Rattle.std.specs.Prelude.{◌≡◌, ◌<◌, ◌≤◌, [], length, nat_eq, IfOk, OnOk, IsSome};
 ghost use Rattle.std.specs.HashMap.{get};
 ghost use Rattle.std.specs.List.Sorted.{IsNonDecreasingBy};
-ghost use Rattle.layout_model.specs.CellTrees.{standings};
-ghost use Rattle.cell_library.specs.LayoutTrees.{tree_at};
-ghost use Rattle.cell_library.specs.Libraries.{seen};
+ghost use Rattle.library_trees.specs.LayoutModel.CellTrees.{standings};
+ghost use Rattle.library_trees.specs.CellLibrary.LayoutTrees.{tree_at};
+ghost use Rattle.library_trees.specs.CellLibrary.Libraries.{seen};
 ghost use Rattle.element_paths.specs.ElementPaths.{AreStepsTo};
 ghost use Rattle.element_paths.specs.UseStarts.{AreStartsIn, AreStartsOf, HasBegun, IsLastBegun, IsStepDown};
 
 use crate::element_names::element_name;
 use crate::starts::{UseStart, starts_of};
 use crate::steps::Step;
-use cell_library::Reader;
 use ext_model::CellKey;
+use library_trees::cell_library::Reader;
 use std::alloc::{AllocError, Global};
 use std::collections::HashMap;
 

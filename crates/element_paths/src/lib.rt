@@ -27,6 +27,8 @@ mod starts;
 mod steps;
 
 pub use element_names::element_name;
+pub use library_trees;
+pub use library_trees::cell_library;
 pub use paths::ElementPaths;
 pub use recorded_uses::use_records;
 pub use starts::element_count;

@@ -1,13 +1,13 @@
 //! Paths of elements.
 ghost use Rattle.std.specs.Prelude.{◌≡◌, ◌<◌, length, IfOk};
-ghost use Rattle.layout_model.specs.CellTrees.{standings};
-ghost use Rattle.cell_library.specs.LayoutTrees.{tree_at};
+ghost use Rattle.library_trees.specs.LayoutModel.CellTrees.{standings};
+ghost use Rattle.library_trees.specs.CellLibrary.LayoutTrees.{tree_at};
 ghost use Rattle.element_paths.specs.ElementPaths.{AreStepsTo};
 
 use crate::descents::UseStarts;
 use crate::steps::Step;
-use cell_library::Reader;
 use ext_model::CellKey;
+use library_trees::cell_library::Reader;
 use std::alloc::{AllocError, Global};
 use std::marker::Model;
 
@@ -23,7 +23,7 @@ pub struct ElementPaths<'a> {
 }
 
 impl<'a> Model for ElementPaths<'a> {
-    ghost use Rattle.cell_library.specs.Libraries.{LibraryParts, parts_code, seen};
+    ghost use Rattle.library_trees.specs.CellLibrary.Libraries.{LibraryParts, parts_code, seen};
     ghost use Rattle.element_paths.specs.UseStarts.{AreStartsOf};
 
     ghost Value = { LibraryParts };
@@ -36,7 +36,7 @@ impl<'a> Model for ElementPaths<'a> {
 }
 
 impl<'a> ElementPaths<'a> {
-    ghost use Rattle.cell_library.specs.Libraries.{seen};
+    ghost use Rattle.library_trees.specs.CellLibrary.Libraries.{seen};
 
     /// Paths in this library. It takes no memory now.
     pub fn of(alloc: Global, library: &'a Reader<'a>) -> ElementPaths<'a>

@@ -1,12 +1,12 @@
 //! The uses of a cell, as its record has them.
-ghost use Rattle.cell_library.specs.Libraries.{seen};
+ghost use Rattle.library_trees.specs.CellLibrary.Libraries.{seen};
 ghost use Rattle.geo_core.specs.Images.{six_of};
 ghost use Rattle.library_trees.specs.CellRecords.{library_uses};
 ghost use Rattle.std.specs.Prelude.{◌≡◌, ◌<◌, IfOk, length};
 
-use cell_library::Reader;
 use cell_tree::UseBody;
 use ext_model::{ArrayUse, CellKey};
+use library_trees::cell_library::Reader;
 use names_lists::Name;
 use std::alloc::{AllocError, Global};
 

@@ -1,15 +1,15 @@
 //! Where the elements of the uses of a cell begin.
 ghost use Rattle.std.specs.Prelude.{◌≡◌, ◌+◌, ◌*◌, ◌<◌, ◌≤◌, length, IfOk};
-ghost use Rattle.layout_model.specs.CellTrees.{standings};
+ghost use Rattle.library_trees.specs.LayoutModel.CellTrees.{standings};
 ghost use Rattle.cell_tree.specs.declared.limits.TheConstants.{MOST_ELEMENTS_BELOW};
 ghost use Rattle.cell_tree.specs.Uses.{displacements, IsLawfulUse};
-ghost use Rattle.cell_library.specs.LayoutTrees.{tree_at};
-ghost use Rattle.cell_library.specs.Libraries.{seen};
+ghost use Rattle.library_trees.specs.CellLibrary.LayoutTrees.{tree_at};
+ghost use Rattle.library_trees.specs.CellLibrary.Libraries.{seen};
 ghost use Rattle.element_paths.specs.UseStarts.{start_behind, AreStartsIn};
 
-use cell_library::Reader;
 use cell_tree::UseBody;
 use ext_model::CellKey;
+use library_trees::cell_library::Reader;
 use std::alloc::{AllocError, Global};
 
 /// Where the elements of a use begin: the number of the first among all that stands at and below the cell, and its position among the

@@ -3,8 +3,8 @@ use Rattle.std.proofs.Common.{◌≡◌, ℕ, zero, suc, ◌+◌, Some, List, []
 use Rattle.std.specs.List.{flat_map}
 use Rattle.std.proofs.lemmas.List.{append-nil}
 use Rattle.std.proofs.lemmas.Option.{slice_get-get_or}
-use Rattle.finite_sets.specs.Lists.{In}
-use Rattle.finite_sets.proofs.Images.{map-same}
+use Rattle.name_index.specs.FiniteSets.Lists.{In}
+use Rattle.name_index.proofs.FiniteSets.Images.{map-same}
 use Rattle.geo_core.specs.declared.squares.Square.{Square}
 use Rattle.geo_core.specs.Images.{image}
 use Rattle.geo_core.proofs.ImageLaws.{image-composed}

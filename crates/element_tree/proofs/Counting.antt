@@ -7,12 +7,12 @@ use Rattle.std.proofs.lemmas.Bool.{lt-ltb, le-ltb}
 use Rattle.std.proofs.lemmas.List.{length-reverse, get_or_read}
 use Rattle.std.proofs.lemmas.List.FromFn.{length-range_with_len, get_or-range_with_len}
 use Rattle.std.proofs.lemmas.List.Sums.{sum_by-cons}
-use Rattle.finite_sets.specs.Lists.{In}
-use Rattle.finite_sets.proofs.Members.{In-get_or}
-use Rattle.finite_sets.proofs.Distincts.{length-distinct}
-use Rattle.finite_sets.proofs.Images.{In-reverse, In-reverse_source}
-use Rattle.finite_sets.proofs.Places.{slice_get-below}
-use Rattle.finite_sets.proofs.Searches.{All-In}
+use Rattle.name_index.specs.FiniteSets.Lists.{In}
+use Rattle.name_index.proofs.FiniteSets.Members.{In-get_or}
+use Rattle.name_index.proofs.FiniteSets.Distincts.{length-distinct}
+use Rattle.name_index.proofs.FiniteSets.Images.{In-reverse, In-reverse_source}
+use Rattle.name_index.proofs.FiniteSets.Places.{slice_get-below}
+use Rattle.name_index.proofs.FiniteSets.Searches.{All-In}
 use Rattle.ext_model.specs.declared.records.UseRec.{UseRec}
 use Rattle.ext_model.specs.declared.records.CellExt.{CellExt}
 use Rattle.circuit_model.specs.declared.faults.FlatFault.TheVariants.{TooMany}

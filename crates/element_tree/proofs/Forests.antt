@@ -2,11 +2,11 @@
 use Rattle.std.proofs.Common.{◌≡◌, ℕ, suc, ◌<◌, ◌≤◌, ◌+◌, Some, List, [], ◌∷◌, length, map, reverse, All, inl, inr, refl, sym, ◌∙◌, ap, subst, arith}
 use Rattle.std.specs.List.{slice_get, sum_by}
 use Rattle.std.proofs.lemmas.List.Sums.{sum_by-cons, sum-map}
-use Rattle.finite_sets.specs.Lists.{In, Distinct}
-use Rattle.finite_sets.proofs.Members.{In-index}
-use Rattle.finite_sets.proofs.Images.{In-reverse, In-reverse_source}
-use Rattle.finite_sets.proofs.Searches.{All-In}
-use Rattle.finite_sets.proofs.Places.{slice_get-below, All-slice_get}
+use Rattle.name_index.specs.FiniteSets.Lists.{In, Distinct}
+use Rattle.name_index.proofs.FiniteSets.Members.{In-index}
+use Rattle.name_index.proofs.FiniteSets.Images.{In-reverse, In-reverse_source}
+use Rattle.name_index.proofs.FiniteSets.Searches.{All-In}
+use Rattle.name_index.proofs.FiniteSets.Places.{slice_get-below, All-slice_get}
 use Rattle.ext_model.specs.declared.records.UseRec.{UseRec}
 use Rattle.ext_model.specs.declared.records.CellExt.{CellExt}
 use Rattle.ext_model.specs.Lawful.{IsLawful, IsLawfulUse}

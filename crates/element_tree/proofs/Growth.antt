@@ -5,8 +5,8 @@ use Rattle.std.specs.List.{sum_by, flat_map, slice_get}
 use Rattle.std.proofs.lemmas.List.{append-nil, get_or_read, take_all, take_more, flat_map_more, map-append}
 use Rattle.std.proofs.lemmas.List.Sums.{sum_by-cons}
 use Rattle.std.proofs.lemmas.Option.{slice_get_read, slice_get-get_or, get_or_from_slice_get, slice_get_within}
-use Rattle.finite_sets.specs.Lists.{In}
-use Rattle.finite_sets.proofs.Places.{In-slice_get}
+use Rattle.name_index.specs.FiniteSets.Lists.{In}
+use Rattle.name_index.proofs.FiniteSets.Places.{In-slice_get}
 use Rattle.ext_model.specs.declared.records.UseRec.{UseRec}
 use Rattle.ext_model.specs.declared.records.CellExt.{CellExt}
 use Rattle.circuit_model.specs.Elements.{of_option, transform_of}

@@ -4,12 +4,12 @@ use Rattle.std.proofs.Common.{inl, inr, refl, sym, ◌∙◌, ap, subst, arith}
 use Rattle.std.proofs.lemmas.List.{get_or_read, get_or-set_same, get_or-set_other, take_more, take-append-drop, reverse-append, length-reverse, length-take-le}
 use Rattle.std.proofs.lemmas.List.Elements.{All-take}
 use Rattle.std.proofs.lemmas.List.Recursion.{max_push}
-use Rattle.finite_sets.specs.Lists.{In, Distinct}
-use Rattle.finite_sets.proofs.Members.{In-get_or}
-use Rattle.finite_sets.proofs.Distincts.{Distinct-append_left, Distinct-append_apart}
-use Rattle.finite_sets.proofs.Images.{In-reverse_source}
-use Rattle.finite_sets.proofs.Searches.{All-In}
-use Rattle.finite_sets.proofs.Places.{slice_get-below}
+use Rattle.name_index.specs.FiniteSets.Lists.{In, Distinct}
+use Rattle.name_index.proofs.FiniteSets.Members.{In-get_or}
+use Rattle.name_index.proofs.FiniteSets.Distincts.{Distinct-append_left, Distinct-append_apart}
+use Rattle.name_index.proofs.FiniteSets.Images.{In-reverse_source}
+use Rattle.name_index.proofs.FiniteSets.Searches.{All-In}
+use Rattle.name_index.proofs.FiniteSets.Places.{slice_get-below}
 use Rattle.ext_model.specs.declared.records.UseRec.{UseRec}
 use Rattle.ext_model.specs.declared.records.CellExt.{CellExt}
 use Rattle.circuit_model.specs.Refusals.{greatest}

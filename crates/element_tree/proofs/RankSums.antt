@@ -12,9 +12,9 @@ use Rattle.std.proofs.lemmas.Option.{get_or_from_slice_get, slice_get_within}
 use Rattle.std.specs.declared.cmp.Ordering.{Ordering}
 use Rattle.std.specs.declared.cmp.Ordering.TheVariants.{Less, Equal, Greater}
 use Rattle.std.specs.Ordering.{is_lt, ordering_reverse}
-use Rattle.finite_sets.specs.Lists.{In, Distinct}
-use Rattle.finite_sets.proofs.Distincts.{Distinct-places}
-use Rattle.finite_sets.proofs.Places.{slice_get-below}
+use Rattle.name_index.specs.FiniteSets.Lists.{In, Distinct}
+use Rattle.name_index.proofs.FiniteSets.Distincts.{Distinct-places}
+use Rattle.name_index.proofs.FiniteSets.Places.{slice_get-below}
 use Rattle.ext_model.specs.declared.records.UseRec.{UseRec}
 use Rattle.ext_model.specs.NameParts.{element_cmp}
 use Rattle.element_tree.specs.declared.tree.Branch.{Branch}

@@ -8,9 +8,9 @@ use Rattle.std.specs.declared.cmp.Ordering.{Ordering}
 use Rattle.std.specs.declared.cmp.Ordering.TheVariants.{Less, Equal, Greater}
 use Rattle.std.specs.Ordering.{nat_cmp, is_lt, ordering_then, ordering_reverse}
 use Rattle.std.specs.Cmp.Lexicographic.{slice_cmp}
-use Rattle.finite_sets.specs.Lists.{In}
-use Rattle.finite_sets.proofs.Orders.{nat_cmp-add}
-use Rattle.finite_sets.proofs.Images.{one_from_Distinct}
+use Rattle.name_index.specs.FiniteSets.Lists.{In}
+use Rattle.name_index.proofs.FiniteSets.Orders.{nat_cmp-add}
+use Rattle.name_index.proofs.FiniteSets.Images.{one_from_Distinct}
 use Rattle.ext_model.specs.declared.records.CellExt.{CellExt}
 use Rattle.ext_model.specs.NameParts.{element_cmp}
 use Rattle.element_tree.specs.declared.tree.Branch.{Branch}

@@ -4,9 +4,9 @@ use Rattle.std.proofs.Common.{subst, arith}
 use Rattle.std.specs.List.{slice_get}
 use Rattle.std.proofs.lemmas.List.{take_more, length-set, get_or-set_same, get_or-set_other, get_or_default}
 use Rattle.std.proofs.lemmas.Option.{slice_get_read}
-use Rattle.finite_sets.specs.Lists.{In}
-use Rattle.finite_sets.proofs.Members.{In-get_or, In-push_cases}
-use Rattle.finite_sets.proofs.Images.{In-reverse}
+use Rattle.name_index.specs.FiniteSets.Lists.{In}
+use Rattle.name_index.proofs.FiniteSets.Members.{In-get_or, In-push_cases}
+use Rattle.name_index.proofs.FiniteSets.Images.{In-reverse}
 use Rattle.ext_model.specs.declared.records.UseRec.{UseRec}
 use Rattle.ext_model.specs.declared.records.CellExt.{CellExt}
 use Rattle.circuit_model.specs.declared.limits.TheConstants.{MOST_FLAT_ELEMENTS}

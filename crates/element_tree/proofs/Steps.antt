@@ -8,8 +8,8 @@ use Rattle.std.proofs.lemmas.List.{get_or-set_same, get_or-set_other}
 use Rattle.std.proofs.lemmas.List.FromFn.{length-range_with_len, get_or-range_with_len, fill_by_all}
 use Rattle.std.proofs.lemmas.List.Sums.{sum_by-cons, sum_by_more_le}
 use Rattle.std.proofs.lemmas.List.Sorted.{sum_by-IsPermutation, All-permutation, length_permutation}
-use Rattle.finite_sets.proofs.Pairs.{AllPairs-permutation}
-use Rattle.finite_sets.proofs.Sums.{sum_by-map}
+use Rattle.name_index.proofs.FiniteSets.Pairs.{AllPairs-permutation}
+use Rattle.name_index.proofs.FiniteSets.Sums.{sum_by-map}
 use Rattle.element_tree.specs.declared.tree.Branch.{Branch}
 use Rattle.element_tree.specs.steps.Forests.{AreSteps}
 use Rattle.element_tree.specs.steps.RankSteps.{size_at, HaveRankSteps}

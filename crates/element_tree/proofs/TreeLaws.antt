@@ -5,8 +5,8 @@ use Rattle.std.specs.Ordering.{nat_cmp}
 use Rattle.std.specs.Cmp.Lexicographic.{slice_cmp}
 use Rattle.std.proofs.lemmas.List.{length-map, map-append}
 use Rattle.std.proofs.lemmas.Option.{slice_get-get_or, get_or_from_slice_get, slice_get_within}
-use Rattle.finite_sets.specs.Lists.{In}
-use Rattle.finite_sets.proofs.Places.{slice_get-below, In-slice_get, slice_get-map_source, slice_get-map_there}
+use Rattle.name_index.specs.FiniteSets.Lists.{In}
+use Rattle.name_index.proofs.FiniteSets.Places.{slice_get-below, In-slice_get, slice_get-map_source, slice_get-map_there}
 use Rattle.ext_model.specs.declared.records.UseRec.{UseRec}
 use Rattle.ext_model.specs.declared.records.CellExt.{CellExt}
 use Rattle.ext_model.specs.NameParts.{element_cmp, path_length}

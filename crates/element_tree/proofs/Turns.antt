@@ -4,8 +4,8 @@ use Rattle.std.proofs.Common.{arith, reverse, inl, inr, length-append}
 use Rattle.std.proofs.lemmas.List.{reverse-append, length-reverse}
 use Rattle.std.specs.List.{slice_get}
 use lib.ListN.{replicate}
-use Rattle.finite_sets.specs.Lists.{In}
-use Rattle.finite_sets.proofs.Members.{In-get_or}
+use Rattle.name_index.specs.FiniteSets.Lists.{In}
+use Rattle.name_index.proofs.FiniteSets.Members.{In-get_or}
 use Rattle.element_tree.specs.declared.faults.WalkFault.TheVariants.{NoCell, Cycle}
 use Rattle.element_tree.specs.declared.walks.Mark.{Mark}
 use Rattle.element_tree.specs.declared.walks.Mark.TheVariants.{New, Open, Done}

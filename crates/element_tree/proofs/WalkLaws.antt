@@ -8,9 +8,9 @@ use Rattle.std.proofs.Math.ListN.{length-set}
 use Rattle.std.specs.List.{list_any}
 use Rattle.std.specs.Option.{option_or}
 use Rattle.std.proofs.lemmas.Bool.{eqb-true, cases_lt, cases_Bool}
-use Rattle.finite_sets.specs.Lists.{In, Distinct}
-use Rattle.finite_sets.proofs.Distincts.{length-distinct}
-use Rattle.finite_sets.proofs.Searches.{list_any-fails, list_any-passes}
+use Rattle.name_index.specs.FiniteSets.Lists.{In, Distinct}
+use Rattle.name_index.proofs.FiniteSets.Distincts.{length-distinct}
+use Rattle.name_index.proofs.FiniteSets.Searches.{list_any-fails, list_any-passes}
 use Rattle.element_tree.specs.declared.faults.WalkFault.{WalkFault}
 use Rattle.element_tree.specs.declared.faults.WalkFault.TheVariants.{NoCell, Cycle}
 use Rattle.element_tree.specs.declared.walks.Mark.{Mark}

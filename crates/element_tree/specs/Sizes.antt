@@ -1,6 +1,6 @@
 -- How long the chains are from each record on, and how many elements are at or below it, as far as numbers of records say.
 use Rattle.std.specs.Prelude.{◌≡◌, ℕ, suc, ◌≤◌, min, List, [], ◌∷◌, map, length, reverse, sum, slice_index_or}
-use Rattle.finite_sets.specs.Lists.{In}
+use Rattle.name_index.specs.FiniteSets.Lists.{In}
 use Rattle.ext_model.specs.declared.records.CellExt.{CellExt}
 use Rattle.circuit_model.specs.declared.limits.TheConstants.{LONGEST_CHAIN, MOST_FLAT_ELEMENTS}
 use Rattle.circuit_model.specs.Refusals.{greatest}

@@ -1,7 +1,7 @@
 //! The branches of each record.
 ghost use Rattle.std.specs.Prelude.{◌≡◌, ◌<◌, ◌≤◌, ◌+◌, suc, length, map, take, All, sum, sum_by, IfOk, IsPermutation, slice_index_or};
 ghost use Rattle.std.specs.List.{range_with_len};
-ghost use Rattle.finite_sets.specs.Lists.{Distinct};
+ghost use Rattle.name_index.specs.FiniteSets.Lists.{Distinct};
 ghost use Rattle.circuit_model.specs.Elements.{AreRecords};
 ghost use Rattle.element_tree.specs.Sizes.{IsSomeGraph, value_at, size_from, AreMeasuredIn};
 ghost use Rattle.element_tree.specs.steps.Forests.{AreSteps, AreBranchesOf, AreBranches};

@@ -4,12 +4,12 @@ use Rattle.finite_sets.specs.Chain.{Chain}
 use Rattle.finite_sets.specs.Chain.Chain.{stay, go}
 use Rattle.finite_sets.proofs.Chains.{Chain-push}
 use Rattle.use_orders.specs.Uses.{IsAtOrBelow}
-use Rattle.cell_tree.specs.Additions.{children_of}
-use Rattle.cell_tree.specs.Cells.{IsAbove}
-use Rattle.cell_tree.proofs.GraphLaws.{graph_uses, uses_graph}
-use Rattle.cell_library.specs.Additions.{children_in}
-use Rattle.cell_library.specs.Libraries.{LibraryParts, IsLawfulLibrary, seen}
-use Rattle.cell_library.proofs.AddedCells.{children_seen}
+use Rattle.tree_merges.specs.CellTree.Additions.{children_of}
+use Rattle.tree_merges.specs.CellTree.Cells.{IsAbove}
+use Rattle.tree_merges.proofs.CellTree.GraphLaws.{graph_uses, uses_graph}
+use Rattle.tree_merges.specs.CellLibrary.Additions.{children_in}
+use Rattle.tree_merges.specs.CellLibrary.Libraries.{LibraryParts, IsLawfulLibrary, seen}
+use Rattle.tree_merges.proofs.CellLibrary.AddedCells.{children_seen}
 
 -- a chain read backward, each step of which goes over to one of the other relation
 turned : {R S : ℕ → ℕ → Type 0} → ((a b : ℕ) → R a b → S b a) → {a b : ℕ} → Chain R a b → Chain S b a

@@ -2,13 +2,13 @@
 use Rattle.std.proofs.Common.{◌≡◌, ◌<◌, ◌≤◌, ℕ, List, [], ◌∷◌, ◌++◌, length, map, Option, Some, None, refl, sym, ap, ◌∙◌, arith, length-append}
 use Rattle.std.proofs.lemmas.List.{get_or_append_left}
 use Rattle.ext_model.specs.declared.tables.ExtEntry.{ExtEntry}
-use Rattle.cell_library.specs.CellBodies.declared.bodies.CellBody.{CellBody}
-use Rattle.cell_tree.specs.Trees.{stamp_at}
-use Rattle.cell_library.specs.Additions.{AreNextCells, kept_cell, names_with, with_all}
-use Rattle.cell_library.specs.Libraries.{LibraryParts, IsLawfulLibrary, IsNextCell, edits_of, seen}
-use Rattle.cell_library.specs.Views.{no_cell, view_at}
-use Rattle.cell_library.proofs.ViewLaws.{count_seen}
-use Rattle.element_paths.proofs.LibraryTrees.EditedTrees.{below_is_cell}
+use Rattle.tree_merges.specs.CellLibrary.CellBodies.declared.bodies.CellBody.{CellBody}
+use Rattle.tree_merges.specs.CellTree.Trees.{stamp_at}
+use Rattle.tree_merges.specs.CellLibrary.Additions.{AreNextCells, kept_cell, names_with, with_all}
+use Rattle.tree_merges.specs.CellLibrary.Libraries.{LibraryParts, IsLawfulLibrary, IsNextCell, edits_of, seen}
+use Rattle.tree_merges.specs.CellLibrary.Views.{no_cell, view_at}
+use Rattle.tree_merges.proofs.CellLibrary.ViewLaws.{count_seen}
+use Rattle.tree_merges.proofs.ElementPaths.LibraryTrees.EditedTrees.{below_is_cell}
 use Rattle.ext_cache.specs.Caches.{Agrees, Records, entry_in, is_dirty, is_stale, stamp_in}
 use Rattle.ext_cache.proofs.RecordLaws.{StaysBelow, agrees_with}
 

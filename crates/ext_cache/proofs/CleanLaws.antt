@@ -7,9 +7,9 @@ use Rattle.finite_sets.proofs.Members.{In-filter}
 use Rattle.use_orders.specs.LibraryOrder.{IsLibraryOrder}
 use Rattle.use_orders.proofs.Visiting.{library_order-lists}
 use Rattle.hierarchy_model.specs.CleanCells.{IsClean}
-use Rattle.cell_library.specs.Additions.{children_in}
-use Rattle.cell_library.specs.LayoutTrees.{tree_at}
-use Rattle.cell_library.specs.Libraries.{LibraryParts, seen}
+use Rattle.tree_merges.specs.CellLibrary.Additions.{children_in}
+use Rattle.tree_merges.specs.CellLibrary.LayoutTrees.{tree_at}
+use Rattle.tree_merges.specs.CellLibrary.Libraries.{LibraryParts, seen}
 use Rattle.ext_cache.specs.declared.extraction.Extracted.{Extracted}
 use Rattle.ext_cache.specs.Caches.{Agrees, MakesRecords, Records, dirty_cells, is_dirty, stamp_in, with_record}
 use Rattle.ext_cache.proofs.RecordLaws.{kept_clean}

@@ -3,11 +3,11 @@ use Rattle.std.proofs.Common.{◌≡◌, ◌≤◌, ℕ, true, length, Some, ap,
 use Rattle.std.proofs.lemmas.Bool.{cases_lt}
 use Rattle.use_orders.specs.Uses.{IsAtOrBelow}
 use Rattle.ext_model.specs.declared.tables.ExtEntry.{ExtEntry}
-use Rattle.cell_tree.specs.Cells.{IsAbove}
-use Rattle.cell_library.specs.Additions.{children_in}
-use Rattle.cell_library.specs.Libraries.{LibraryParts, IsLawfulLibrary, IsNextEdit, seen}
-use Rattle.cell_library.specs.Views.{CellView, with_cell_changed}
-use Rattle.element_paths.proofs.LibraryTrees.StampedTrees.{stamps_keep_views}
+use Rattle.tree_merges.specs.CellTree.Cells.{IsAbove}
+use Rattle.tree_merges.specs.CellLibrary.Additions.{children_in}
+use Rattle.tree_merges.specs.CellLibrary.Libraries.{LibraryParts, IsLawfulLibrary, IsNextEdit, seen}
+use Rattle.tree_merges.specs.CellLibrary.Views.{CellView, with_cell_changed}
+use Rattle.tree_merges.proofs.ElementPaths.LibraryTrees.StampedTrees.{stamps_keep_views}
 use Rattle.ext_cache.specs.Caches.{Agrees, Records, entry_in, is_dirty, is_stale, stamp_in}
 use Rattle.ext_cache.proofs.AboveLaws.{above_leads_down, leads_down_from_above}
 use Rattle.ext_cache.proofs.RecordLaws.{agrees_with, stale_if}

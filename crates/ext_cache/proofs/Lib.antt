@@ -1,3 +1,6 @@
+-- what crates above name of those below
+pub use Rattle.tree_merges.proofs.CellLibrary as CellLibrary
+pub use Rattle.lawful_trees.proofs.LibraryTrees as LibraryTrees
 mod AboveLaws
 mod AgreementLaws
 pub mod ArrivalLaws

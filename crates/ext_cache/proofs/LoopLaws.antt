@@ -8,14 +8,14 @@ use Rattle.finite_sets.specs.Lists.{Distinct, In}
 use Rattle.finite_sets.proofs.Distincts.{Distinct-places}
 use Rattle.finite_sets.proofs.Members.{In-filter, In-filter_passes, In-filter_source}
 use Rattle.ext_model.specs.declared.arrays.ArrayExt.{ArrayExt}
-use Rattle.names.specs.Attachments.{AreUnattached}
+use Rattle.tree_merges.specs.Names.Attachments.{AreUnattached}
 use Rattle.use_orders.specs.Uses.{AreBehindChildren, UsesCell}
-use Rattle.cell_library.specs.Additions.{children_in}
-use Rattle.cell_library.specs.Libraries.{LibraryParts, seen}
-use Rattle.cell_library.specs.Views.{view_at}
+use Rattle.tree_merges.specs.CellLibrary.Additions.{children_in}
+use Rattle.tree_merges.specs.CellLibrary.Libraries.{LibraryParts, seen}
+use Rattle.tree_merges.specs.CellLibrary.Views.{view_at}
 use Rattle.tree_merges.specs.HierMerge.Interactions.{IsWork}
 use Rattle.tree_merges.specs.HierMerge.UncleanCells.{IsCleanCell}
-use Rattle.element_paths.specs.LibraryTrees.KeptRecords.{HaveKeptRecordsBelow, IsBelow}
+use Rattle.tree_merges.specs.ElementPaths.LibraryTrees.KeptRecords.{HaveKeptRecordsBelow, IsBelow}
 use Rattle.ext_cache.specs.declared.extraction.Extracted.{Extracted}
 use Rattle.ext_cache.specs.declared.undo.Undo.{Undo}
 use Rattle.ext_cache.specs.Caches.{Agrees, IsRecordNow, IsWorkOfAll, MakesRecords, Records, dirty_cells, entry_in, is_dirty}

@@ -5,24 +5,24 @@ use Rattle.std.proofs.lemmas.Bool.Decides.{nat_tests}
 use Rattle.geo_core.specs.declared.squares.Rect.{Rect}
 use Rattle.tech_model.specs.declared.raw.Label.{Label}
 use Rattle.tech_model.specs.declared.raw.RawTech.{RawTech}
-use Rattle.layout_model.specs.Layouts.{Layout}
+use Rattle.tree_merges.specs.LayoutModel.Layouts.{Layout}
 use Rattle.cell_records.specs.TreeRecords.OwnRecords.{IsOwnRecord}
 use Rattle.cell_records.specs.TreeRecords.FetRecords.{AreFetRecords, IsNodeBefore}
 use Rattle.cell_records.specs.CellNodes.NodeRecords.{AreNodeRecords}
 use Rattle.tree_merges.specs.TreeRecords.NamedTrees.{OwnBody, named_elements_in, own_body}
 use Rattle.tree_merges.specs.TreeRecords.Merges.{AreGroupMerges}
 use Rattle.tree_merges.specs.TreeRecords.TreeRecords.{use_records}
-use Rattle.cell_library.specs.Libraries.{IsLawfulLibrary, LibraryParts, seen}
-use Rattle.cell_library.specs.Views.{LibraryView, view_at}
-use Rattle.element_paths.specs.LibraryTrees.NamedCells.{named_tree_at, own_body_of}
+use Rattle.tree_merges.specs.CellLibrary.Libraries.{IsLawfulLibrary, LibraryParts, seen}
+use Rattle.tree_merges.specs.CellLibrary.Views.{LibraryView, view_at}
+use Rattle.tree_merges.specs.ElementPaths.LibraryTrees.NamedCells.{named_tree_at, own_body_of}
 use Rattle.tree_merges.specs.HierMerge.UncleanCells.{IsCleanCell}
 use Rattle.lawful_trees.specs.Laws.{RecordIsLawful}
 use Rattle.ext_model.specs.declared.records.CellExt.{CellExt}
 use Rattle.ext_model.specs.declared.records.MergeRec.{MergeRec}
 use Rattle.ext_model.specs.Plain.{plain_uses}
 use Rattle.ext_model.specs.Rows.{AreRowsOf}
-use Rattle.element_paths.specs.LibraryTrees.CellRecords.{IsRecordOf, library_uses}
-use Rattle.element_paths.proofs.RecordLaws.{uses_are_elements}
+use Rattle.tree_merges.specs.ElementPaths.LibraryTrees.CellRecords.{IsRecordOf, library_uses}
+use Rattle.tree_merges.proofs.ElementPaths.RecordLaws.{uses_are_elements}
 use Rattle.cell_records.specs.declared.records.CellRecord.{CellRecord}
 use Rattle.tree_merges.specs.declared.relating.Related.{Related}
 use Rattle.tree_merges.proofs.CellMerges.{body_at}

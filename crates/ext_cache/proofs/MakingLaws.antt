@@ -4,9 +4,9 @@ use Rattle.std.proofs.lemmas.Bool.Decides.{eqb_tells}
 use Rattle.finite_sets.specs.Lists.{In}
 use Rattle.ext_model.specs.declared.arrays.ArrayExt.{ArrayExt}
 use Rattle.ext_model.specs.declared.tables.ExtEntry.{ExtEntry}
-use Rattle.names.specs.Attachments.{AreUnattached}
-use Rattle.cell_library.specs.Libraries.{LibraryParts, seen}
-use Rattle.cell_library.specs.Views.{view_at}
+use Rattle.tree_merges.specs.Names.Attachments.{AreUnattached}
+use Rattle.tree_merges.specs.CellLibrary.Libraries.{LibraryParts, seen}
+use Rattle.tree_merges.specs.CellLibrary.Views.{view_at}
 use Rattle.ext_cache.specs.declared.extraction.Extracted.{Extracted}
 use Rattle.ext_cache.specs.Caches.{Agrees, IsRecordNow, MakesRecords, Records, entry_in, is_dirty, is_stale, stamp_in, with_record}
 use Rattle.ext_cache.proofs.RecordLaws.{agrees_made, clean_made, found_there}

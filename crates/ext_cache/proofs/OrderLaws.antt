@@ -6,13 +6,13 @@ use Rattle.finite_sets.specs.Chain.Chain.{stay, go}
 use Rattle.finite_sets.specs.Lists.{In}
 use Rattle.finite_sets.proofs.Members.{In-get_or, In-index}
 use Rattle.use_orders.specs.Uses.{AreBehindChildren, UsesCell}
-use Rattle.cell_tree.specs.Uses.{HasChild}
-use Rattle.cell_library.specs.Additions.{children_in}
-use Rattle.cell_library.specs.Libraries.{LibraryParts, seen}
-use Rattle.cell_library.specs.Views.{LibraryView, view_at}
-use Rattle.cell_library.proofs.ChildLaws.{child_used}
-use Rattle.element_paths.specs.LibraryTrees.NamedCells.{IsAtOrBelow as IsSeenAtOrBelow}
-use Rattle.element_paths.specs.LibraryTrees.KeptRecords.{IsBelow}
+use Rattle.tree_merges.specs.CellTree.Uses.{HasChild}
+use Rattle.tree_merges.specs.CellLibrary.Additions.{children_in}
+use Rattle.tree_merges.specs.CellLibrary.Libraries.{LibraryParts, seen}
+use Rattle.tree_merges.specs.CellLibrary.Views.{LibraryView, view_at}
+use Rattle.tree_merges.proofs.CellLibrary.ChildLaws.{child_used}
+use Rattle.tree_merges.specs.ElementPaths.LibraryTrees.NamedCells.{IsAtOrBelow as IsSeenAtOrBelow}
+use Rattle.tree_merges.specs.ElementPaths.LibraryTrees.KeptRecords.{IsBelow}
 
 -- ---- what stands below
 

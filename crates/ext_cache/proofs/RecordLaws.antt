@@ -11,26 +11,26 @@ use Rattle.std.proofs.lemmas.Cmp.{nat_cmp_total}
 use Rattle.ext_model.specs.declared.arrays.ArrayExt.{ArrayExt}
 use Rattle.ext_model.specs.declared.tables.ExtEntry.{ExtEntry}
 use Rattle.tech_model.specs.declared.raw.RawTech.{RawTech}
-use Rattle.layout_model.specs.CellTrees.{CellTree}
+use Rattle.tree_merges.specs.LayoutModel.CellTrees.{CellTree}
 use Rattle.hierarchy_model.specs.CleanCells.{IsClean}
-use Rattle.cell_library.specs.LayoutTrees.{tree_at}
+use Rattle.tree_merges.specs.CellLibrary.LayoutTrees.{tree_at}
 use Rattle.tree_merges.specs.TreeRecords.NamedTrees.{NamedTree, layouts_of}
 use Rattle.tree_merges.specs.TreeRecords.TreeRecords.{IsTreeRecord}
-use Rattle.element_paths.specs.LibraryTrees.NamedCells.{IsAtOrBelow, named_tree_at}
-use Rattle.element_paths.proofs.LibraryTrees.AgreeingViews.{agreeing_views}
-use Rattle.element_paths.proofs.LibraryTrees.LayoutLaws.{layouts_of_cell}
+use Rattle.tree_merges.specs.ElementPaths.LibraryTrees.NamedCells.{IsAtOrBelow, named_tree_at}
+use Rattle.tree_merges.proofs.ElementPaths.LibraryTrees.AgreeingViews.{agreeing_views}
+use Rattle.tree_merges.proofs.ElementPaths.LibraryTrees.LayoutLaws.{layouts_of_cell}
 use Rattle.finite_sets.specs.Chain.Chain.{stay, go}
 use Rattle.finite_sets.proofs.Images.{map-same}
 use Rattle.finite_sets.proofs.Places.{slice_get-In}
 use Rattle.geo_core.specs.Images.{six_of}
 use Rattle.ext_model.specs.declared.arrays.ArrayUse.{ArrayUse}
 use Rattle.ext_model.specs.Plain.{plain}
-use Rattle.element_paths.specs.LibraryTrees.CellRecords.{library_use, library_uses}
-use Rattle.cell_tree.specs.Trees.{stamp_at}
-use Rattle.cell_tree.specs.Uses.{HasChild}
-use Rattle.cell_library.specs.Libraries.{LibraryParts, IsSame, seen}
-use Rattle.cell_library.specs.Views.{CellView, LibraryView, view_at}
-use Rattle.cell_library.proofs.ViewLaws.{count_seen}
+use Rattle.tree_merges.specs.ElementPaths.LibraryTrees.CellRecords.{library_use, library_uses}
+use Rattle.tree_merges.specs.CellTree.Trees.{stamp_at}
+use Rattle.tree_merges.specs.CellTree.Uses.{HasChild}
+use Rattle.tree_merges.specs.CellLibrary.Libraries.{LibraryParts, IsSame, seen}
+use Rattle.tree_merges.specs.CellLibrary.Views.{CellView, LibraryView, view_at}
+use Rattle.tree_merges.proofs.CellLibrary.ViewLaws.{count_seen}
 use Rattle.ext_cache.specs.declared.limits.TheConstants.{LAST_SERIAL}
 use Rattle.ext_cache.specs.Caches.{Agrees, IsRecordNow, Records, entry_in, is_dirty, is_stale, next_serial, no_records}
 use Rattle.ext_cache.specs.Caches.{record_in, stamp_in, with_record}

@@ -6,7 +6,7 @@ use Rattle.finite_sets.specs.Lists.{Distinct}
 use Rattle.finite_sets.proofs.Distincts.{Distinct-filter}
 use Rattle.ext_model.specs.declared.arrays.ArrayExt.{ArrayExt}
 use Rattle.ext_model.specs.declared.tables.ExtEntry.{ExtEntry}
-use Rattle.cell_library.specs.Libraries.{LibraryParts}
+use Rattle.tree_merges.specs.CellLibrary.Libraries.{LibraryParts}
 use Rattle.ext_cache.specs.declared.extraction.Extracted.{Extracted}
 use Rattle.ext_cache.specs.Caches.{Extracts, HasNewSerials, HasSerialsFor, IsCounted, MakesRecords, Records, dirty_cells, entry_in, is_dirty}
 use Rattle.ext_cache.specs.Caches.{next_serial, serial_in, stamp_in, with_record}

@@ -1,6 +1,6 @@
 -- Why an extraction is refused: by one cell, and by an order.
 use Rattle.std.proofs.Common.{◌≡◌, ℕ, List, Result, Ok, Err, IfErr, IsErrAnd, sym, subst}
-use Rattle.cell_library.specs.Views.{LibraryView}
+use Rattle.tree_merges.specs.CellLibrary.Views.{LibraryView}
 use Rattle.tree_merges.specs.HierMerge.UncleanCells.{AreOffendingOf, IsCleanCell, IsFirstUnclean}
 use Rattle.ext_cache.specs.declared.faults.ExtractFault.{ExtractFault}
 use Rattle.ext_cache.specs.declared.faults.ExtractFault.TheVariants.{Memory, Unclean}

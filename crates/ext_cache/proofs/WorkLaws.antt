@@ -1,6 +1,6 @@
 -- The work of several cells.
 use Rattle.std.proofs.Common.{◌≡◌, ◌≤◌, ◌+◌, ◌*◌, ℕ, List, [], ◌∷◌, ◌++◌, refl, arith}
-use Rattle.cell_library.specs.Views.{LibraryView}
+use Rattle.tree_merges.specs.CellLibrary.Views.{LibraryView}
 use Rattle.tree_merges.specs.HierMerge.Interactions.{IsWork}
 use Rattle.ext_cache.specs.Caches.{IsWorkOfAll}
 

@@ -9,15 +9,15 @@ use Rattle.ext_model.specs.declared.arrays.ArrayExt.{ArrayExt}
 use Rattle.ext_model.specs.declared.tables.ExtEntry.{ExtEntry}
 use Rattle.ext_model.specs.contracts.tables.ExtEntry.{the_row as entry_row}
 use Rattle.ext_model.specs.LawfulArrays.{IsLawfulArrayExt}
-use Rattle.names.specs.Attachments.{AreUnattached}
-use Rattle.cell_tree.specs.Trees.{stamp_at}
-use Rattle.cell_library.specs.Libraries.{LibraryParts, seen}
-use Rattle.cell_library.specs.Views.{LibraryView, view_at}
+use Rattle.tree_merges.specs.Names.Attachments.{AreUnattached}
+use Rattle.tree_merges.specs.CellTree.Trees.{stamp_at}
+use Rattle.tree_merges.specs.CellLibrary.Libraries.{LibraryParts, seen}
+use Rattle.tree_merges.specs.CellLibrary.Views.{LibraryView, view_at}
 use Rattle.use_orders.specs.LibraryOrder.{IsLibraryOrder}
 use Rattle.hierarchy_model.specs.CleanCells.{IsClean}
-use Rattle.cell_library.specs.Additions.{children_in}
-use Rattle.cell_library.specs.LayoutTrees.{tree_at}
-use Rattle.element_paths.specs.LibraryTrees.CellRecords.{IsRecordOf}
+use Rattle.tree_merges.specs.CellLibrary.Additions.{children_in}
+use Rattle.tree_merges.specs.CellLibrary.LayoutTrees.{tree_at}
+use Rattle.tree_merges.specs.ElementPaths.LibraryTrees.CellRecords.{IsRecordOf}
 use Rattle.tree_merges.specs.HierMerge.Interactions.{IsWork}
 use Rattle.ext_cache.specs.declared.extraction.Extracted.{Extracted}
 use Rattle.ext_cache.specs.declared.limits.TheConstants.{LAST_SERIAL}

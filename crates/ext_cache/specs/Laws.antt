@@ -1,11 +1,11 @@
 -- What records that agree with a library are held to.
 use Rattle.std.specs.Prelude.{◌≡◌, ℕ, true, List}
 use Rattle.use_orders.specs.Uses.{IsAtOrBelow}
-use Rattle.cell_library.specs.Additions.{AreNextCells, children_in, with_all}
-use Rattle.cell_library.specs.CellBodies.declared.bodies.CellBody.{CellBody}
-use Rattle.cell_library.specs.Edits.{with_new_cell}
-use Rattle.cell_library.specs.Libraries.{IsLawfulLibrary, IsNextCell, IsNextEdit, LibraryParts, seen}
-use Rattle.cell_library.specs.Views.{CellView, with_cell_changed}
+use Rattle.tree_merges.specs.CellLibrary.Additions.{AreNextCells, children_in, with_all}
+use Rattle.tree_merges.specs.CellLibrary.CellBodies.declared.bodies.CellBody.{CellBody}
+use Rattle.tree_merges.specs.CellLibrary.Edits.{with_new_cell}
+use Rattle.tree_merges.specs.CellLibrary.Libraries.{IsLawfulLibrary, IsNextCell, IsNextEdit, LibraryParts, seen}
+use Rattle.tree_merges.specs.CellLibrary.Views.{CellView, with_cell_changed}
 use Rattle.ext_cache.specs.Caches.{Agrees, Records, is_dirty, no_records}
 
 -- where no records are kept, they agree with each library

@@ -1,6 +1,6 @@
 -- Why an extraction is refused.
 use Rattle.std.specs.Prelude.{◌≡◌, ℕ, List}
-use Rattle.cell_library.specs.Views.{LibraryView}
+use Rattle.tree_merges.specs.CellLibrary.Views.{LibraryView}
 use Rattle.tree_merges.specs.HierMerge.UncleanCells.{AreOffendingOf, IsCleanCell, IsFirstUnclean, IsUncleanBelow}
 use Rattle.ext_cache.specs.declared.faults.ExtractFault.{ExtractFault}
 use Rattle.ext_cache.specs.declared.faults.ExtractFault.TheVariants.{Memory, Unclean}

@@ -1,14 +1,14 @@
 //! Extraction of what is dirty.
 ghost use Rattle.std.specs.Prelude.{◌≡◌, ◌<◌, ◌+◌, ◌≤◌, ◌*◌, ◌++◌, ◌∷◌, ℕ, [], length, map, IfErr, IfOk, OnErr, OnOk, vec_capacity, vec_len};
 ghost use Rattle.use_orders.specs.LibraryOrder.{IsLibraryOrder};
-ghost use Rattle.names.specs.Attachments.{AreUnattached};
+ghost use Rattle.tree_merges.specs.Names.Attachments.{AreUnattached};
 ghost use Rattle.hierarchy_model.specs.CleanCells.{IsCleanBelow};
 ghost use Rattle.hierarchy_model.specs.Laws.{KeepsWhatItHas};
-ghost use Rattle.cell_library.specs.Additions.{children_in};
-ghost use Rattle.cell_library.specs.LayoutTrees.{tree_at};
-ghost use Rattle.cell_library.specs.Libraries.{seen};
-ghost use Rattle.cell_library.specs.Views.{view_at};
-ghost use Rattle.element_paths.specs.LibraryTrees.KeptRecords.{HaveKeptRecordsBelow};
+ghost use Rattle.tree_merges.specs.CellLibrary.Additions.{children_in};
+ghost use Rattle.tree_merges.specs.CellLibrary.LayoutTrees.{tree_at};
+ghost use Rattle.tree_merges.specs.CellLibrary.Libraries.{seen};
+ghost use Rattle.tree_merges.specs.CellLibrary.Views.{view_at};
+ghost use Rattle.tree_merges.specs.ElementPaths.LibraryTrees.KeptRecords.{HaveKeptRecordsBelow};
 ghost use Rattle.tree_merges.specs.HierMerge.Interactions.{IsWork};
 ghost use Rattle.ext_cache.specs.Caches.{Agrees, Extracts, HasNewSerials, HasSerialsFor, IsCounted, IsRecordNow, IsWorkOfAll, IsWorkOfExtraction};
 ghost use Rattle.ext_cache.specs.Caches.{MakesRecords, dirty_cells, record_in};
@@ -20,15 +20,15 @@ ghost use Rattle.ext_cache.specs.declared.faults.ExtractFault.TheVariants.{Memor
 use crate::caches::Cache;
 use crate::faults::{ExtractFault, Unclean};
 use crate::undo::Undo;
-use cell_library::{Opened, Reader};
 use cell_records::{CellRecord, cell_record};
-use element_paths::use_records;
 use ext_model::{ArrayExt, CellExt, CellKey};
 use hierarchy_model::clean_cells_keep_what_they_have;
 use lawful_trees::record_is_lawful;
 use names_lists::{List, Name};
 use std::alloc::{AllocError, Global};
 use std::sync::ledger::Ledger;
+use tree_merges::cell_library::{Opened, Reader};
+use tree_merges::element_paths::use_records;
 use tree_merges::{Related, relate};
 use use_orders::library_order_law;
 

@@ -34,6 +34,8 @@ mod undo;
 pub use caches::Cache;
 pub use extraction::{Extracted, extract_dirty};
 pub use faults::{ExtractFault, Unclean};
+pub use lawful_trees::library_trees;
 pub use laws::{edits_keep_agreement, new_cells_keep_agreement, no_records_agree};
 pub use lending::Lent;
 pub use limits::LAST_SERIAL;
+pub use tree_merges::cell_library;

@@ -17,11 +17,11 @@ use Rattle.ext_model.specs.declared.records.CellExt.{CellExt}
 use Rattle.ext_model.specs.declared.arrays.ArrayExt.{ArrayExt}
 use Rattle.ext_model.specs.declared.arrays.ArrayUse.{ArrayUse}
 use Rattle.ext_model.specs.Plain.{plain, plain_uses}
-use Rattle.circuit_model.specs.declared.faults.FlatFault.{FlatFault}
-use Rattle.circuit_model.specs.declared.faults.FlatFault.TheVariants.{NoCell, Cycle}
-use Rattle.circuit_model.specs.Elements.{ext_of}
-use Rattle.circuit_model.specs.FlatNodes.{is_among}
-use Rattle.circuit_model.specs.Refusals.{use_fault}
+use Rattle.plain_records.specs.CircuitModel.declared.faults.FlatFault.{FlatFault}
+use Rattle.plain_records.specs.CircuitModel.declared.faults.FlatFault.TheVariants.{NoCell, Cycle}
+use Rattle.plain_records.specs.CircuitModel.Elements.{ext_of}
+use Rattle.plain_records.specs.CircuitModel.FlatNodes.{is_among}
+use Rattle.plain_records.specs.CircuitModel.Refusals.{use_fault}
 use Rattle.plain_records.specs.Plains.{plains}
 use Rattle.plain_records.proofs.UseLaws.{uses_cell}
 use Rattle.ext_loading.specs.ExtFiles.{cells_read}

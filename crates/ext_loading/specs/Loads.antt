@@ -13,8 +13,8 @@ use Rattle.session_model.specs.Fetches.{cause_of_fault}
 use Rattle.session_model.specs.FileTrees.{All, FileIsRefused, Reads, fetched_by}
 use Rattle.ext_model.specs.declared.records.CellExt.{CellExt}
 use Rattle.ext_model.specs.declared.arrays.ArrayExt.{ArrayExt}
-use Rattle.circuit_model.specs.Elements.{ext_of}
-use Rattle.circuit_model.specs.Refusals.{walk_fault}
+use Rattle.plain_records.specs.CircuitModel.Elements.{ext_of}
+use Rattle.plain_records.specs.CircuitModel.Refusals.{walk_fault}
 use Rattle.plain_records.specs.Plains.{AreArrayRecords, plains}
 use Rattle.ext_loading.specs.declared.faults.ExtLoadFault.{ExtLoadFault}
 use Rattle.ext_loading.specs.declared.faults.ExtLoadFault.TheVariants as fault

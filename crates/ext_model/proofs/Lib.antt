@@ -1,4 +1,6 @@
 -- what crates above name of those below
+pub use Rattle.text_scan.proofs as TextScan
+pub use Rattle.geo_core.proofs.FiniteSets as FiniteSets
 pub use Rattle.geo_core.proofs as GeoCore
 pub mod NameKinds
 pub mod NameOrders

@@ -9,7 +9,7 @@ use Rattle.session_model.specs.Effects.{AnswersFetching}
 use Rattle.line_answers.proofs.AnswerLaws.{answers_refusal}
 use Rattle.line_answers.specs.LineEffects.{refused}
 use Rattle.line_answers.specs.Refusals.{file_refusal, refusal_line}
-use Rattle.network_runs.specs.declared.network_runs.NetworkRun.{NetworkRun}
+use Rattle.workspace.specs.NetworkRuns.declared.network_runs.NetworkRun.{NetworkRun}
 use Rattle.workspace.specs.declared.extractions.Extracting.TheVariants.{Done}
 use Rattle.workspace.specs.declared.extractions.Extraction.{Extraction}
 use Rattle.workspace.specs.Extracting.{IsExtracted}

@@ -3,13 +3,13 @@ use Rattle.std.proofs.Common.{◌≡◌, ◌<◌, ◌⊎◌, ◌++◌, ℕ, List
 use Rattle.session_model.specs.Effects.{Effect}
 use Rattle.ext_model.specs.declared.circuits.Circuit.{Circuit}
 use Rattle.circuit_model.specs.declared.limits.CircuitLimit.{CircuitLimit}
-use Rattle.cell_library.specs.Views.{LibraryView}
-use Rattle.library_answers.specs.HierMerge.UncleanCells.{IsCleanCell}
-use Rattle.circuit_commands.specs.declared.circuits.CircuitFile.{CircuitFile}
-use Rattle.circuit_commands.specs.declared.circuits.Written.{Written}
-use Rattle.circuit_commands.specs.declared.circuits.Written.TheVariants.{Passed, Stored}
-use Rattle.circuit_commands.specs.declared.limits.Limit.TheVariants.{Circuit as OfCircuit, Switches, Text}
-use Rattle.circuit_commands.specs.Circuits.{IsWritten, lines_of, stores_of}
+use Rattle.layout_gen.specs.CellLibrary.Views.{LibraryView}
+use Rattle.workspace.specs.LibraryAnswers.HierMerge.UncleanCells.{IsCleanCell}
+use Rattle.uniqueness.specs.CircuitCommands.declared.circuits.CircuitFile.{CircuitFile}
+use Rattle.uniqueness.specs.CircuitCommands.declared.circuits.Written.{Written}
+use Rattle.uniqueness.specs.CircuitCommands.declared.circuits.Written.TheVariants.{Passed, Stored}
+use Rattle.uniqueness.specs.CircuitCommands.declared.limits.Limit.TheVariants.{Circuit as OfCircuit, Switches, Text}
+use Rattle.uniqueness.specs.CircuitCommands.Circuits.{IsWritten, lines_of, stores_of}
 use Rattle.uniqueness.specs.Ext2simEffects.{WrittenCircuitsAreUnique}
 use Rattle.workspace.specs.declared.extractions.Extraction.{Extraction}
 use Rattle.workspace.specs.CellCircuits.{IsCircuitAt, PassesAt}
@@ -19,7 +19,7 @@ use Rattle.extract_commands.specs.CommandCircuits.{IsWrittenAt, WritesCircuit}
 use Rattle.extract_commands.specs.OneCircuits.{CellCircuitsAreUnique, CellCircuitsPassNoLimit, CellLimitsAreUnique}
 use Rattle.extract_commands.specs.OneExtractions.{ExtractedCellsAreNotRefused, ExtractionsAreUnique, UncleanRefusalsAreUnique}
 use Rattle.extract_commands.specs.OneEffects.{CircuitMeansOneEffect}
-use Rattle.cell_library.specs.LawfulViews.{IsSoundView}
+use Rattle.layout_gen.specs.CellLibrary.LawfulViews.{IsSoundView}
 use Rattle.extract_commands.proofs.OnCells.{MeansOneOnCells, one_extracted, one_on_cell}
 
 -- what is written of the circuit of a cell

@@ -1,13 +1,13 @@
 -- What is written of the circuits of cells.
 use Rattle.std.proofs.Common.{ℕ, List, refl, inr}
 use Rattle.ext_model.specs.declared.circuits.Circuit.{Circuit}
-use Rattle.cell_library.specs.Views.{LibraryView}
+use Rattle.layout_gen.specs.CellLibrary.Views.{LibraryView}
 use Rattle.line_answers.specs.LineEffects.{IsOfInside}
-use Rattle.circuit_commands.proofs.CircuitInside.{written_inside}
-use Rattle.circuit_commands.specs.declared.circuits.CircuitFile.{CircuitFile}
-use Rattle.circuit_commands.specs.declared.circuits.Written.{Written}
-use Rattle.circuit_commands.specs.declared.circuits.Written.TheVariants.{Stored, Passed}
-use Rattle.circuit_commands.specs.Circuits.{IsWritten, lines_of}
+use Rattle.uniqueness.proofs.CircuitCommands.CircuitInside.{written_inside}
+use Rattle.uniqueness.specs.CircuitCommands.declared.circuits.CircuitFile.{CircuitFile}
+use Rattle.uniqueness.specs.CircuitCommands.declared.circuits.Written.{Written}
+use Rattle.uniqueness.specs.CircuitCommands.declared.circuits.Written.TheVariants.{Stored, Passed}
+use Rattle.uniqueness.specs.CircuitCommands.Circuits.{IsWritten, lines_of}
 use Rattle.workspace.specs.CellCircuits.{IsCircuitAt}
 use Rattle.extract_commands.specs.CommandCircuits.{IsWrittenAt}
 

@@ -5,9 +5,9 @@ use Rattle.session_model.specs.declared.report.ReportLine.{ReportLine}
 use Rattle.session_model.specs.Effects.{AnswersAlone, Effect}
 use Rattle.line_answers.proofs.AnswerLaws.{answers_with}
 use Rattle.line_answers.specs.LineEffects.{reply}
-use Rattle.circuit_commands.specs.declared.circuits.CircuitFile.{CircuitFile}
-use Rattle.circuit_commands.specs.declared.circuits.Written.{Written}
-use Rattle.circuit_commands.specs.Circuits.{lines_of, stores_of}
+use Rattle.uniqueness.specs.CircuitCommands.declared.circuits.CircuitFile.{CircuitFile}
+use Rattle.uniqueness.specs.CircuitCommands.declared.circuits.Written.{Written}
+use Rattle.uniqueness.specs.CircuitCommands.Circuits.{lines_of, stores_of}
 use Rattle.workspace.specs.declared.extractions.Extracting.TheVariants.{Done, Refused}
 use Rattle.workspace.specs.declared.extractions.Extraction.{Extraction}
 use Rattle.workspace.specs.Extracting.{IsExtracted}

@@ -10,9 +10,9 @@ use Rattle.layout_gen.specs.declared.limits.TheConstants.{MOST_TILES}
 use Rattle.session_model.specs.declared.answer.Answer.{Answer}
 use Rattle.session_model.specs.Effects.{AnswersAlone, Effect}
 use Rattle.ext_model.specs.declared.tables.CellKey.{CellKey}
-use Rattle.cell_library.specs.Additions.{kept_cell, names_with, with_all}
-use Rattle.cell_library.specs.Libraries.{IsLawfulLibrary, LibraryParts, edits_of, seen}
-use Rattle.cell_library.proofs.ViewLaws.{count_seen}
+use Rattle.layout_gen.specs.CellLibrary.Additions.{kept_cell, names_with, with_all}
+use Rattle.layout_gen.specs.CellLibrary.Libraries.{IsLawfulLibrary, LibraryParts, edits_of, seen}
+use Rattle.layout_gen.proofs.CellLibrary.ViewLaws.{count_seen}
 use Rattle.layout_gen.specs.declared.faults.GenerateFault.{GenerateFault}
 use Rattle.layout_gen.specs.Generated.{CameAtOnce, IsGenerated}
 use Rattle.layout_gen.specs.Refusals.{generate_fault}
@@ -20,9 +20,9 @@ use Rattle.workspace.specs.Caches.{Agrees, Records}
 use Rattle.workspace.proofs.ArrivalLaws.{agrees_all, dirty_cells}
 use Rattle.line_answers.proofs.AnswerLaws.{answers_refusal}
 use Rattle.line_answers.specs.Refusals.{refusal_line}
-use Rattle.library_answers.specs.Refusals.{generate_refusal}
-use Rattle.network_runs.specs.declared.network_runs.NetworkRun.TheVariants.{Stack}
-use Rattle.undo_log.specs.Inverses.{Inverses, kept_versions}
+use Rattle.workspace.specs.LibraryAnswers.Refusals.{generate_refusal}
+use Rattle.workspace.specs.NetworkRuns.declared.network_runs.NetworkRun.TheVariants.{Stack}
+use Rattle.workspace.specs.UndoLog.Inverses.{Inverses, kept_versions}
 use Rattle.workspace.proofs.WorkspaceLaws.{workspace_of}
 use Rattle.workspace.specs.States.{State, Workspace}
 use Rattle.extract_commands.specs.CellRuns.{RunsExtracted}

@@ -1,3 +1,6 @@
+-- what crates above name of those below
+pub use Rattle.uniqueness.proofs.NetworkCommands as NetworkCommands
+pub use Rattle.uniqueness.proofs.CircuitCommands as CircuitCommands
 mod CellRunLaws
 mod CircuitLaws
 mod ExtractionCommands

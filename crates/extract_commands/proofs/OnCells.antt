@@ -2,8 +2,8 @@
 use Rattle.std.proofs.Common.{◌≡◌, ◌<◌, ◌⊎◌, ◌++◌, ℕ, List, [], ◌∷◌, length, Option, Some, None, inl, inr, refl, sym, ◌∙◌}
 use Rattle.std.specs.Prelude.{MatchOption}
 use Rattle.session_model.specs.Effects.{Effect}
-use Rattle.cell_library.specs.Views.{cell_named}
-use Rattle.edit_script.proofs.CellLaws.{named_below}
+use Rattle.layout_gen.specs.CellLibrary.Views.{cell_named}
+use Rattle.uniqueness.proofs.EditScript.CellLaws.{named_below}
 use Rattle.line_answers.specs.LineEffects.{refused, reply}
 use Rattle.line_answers.specs.Refusals.{no_cell}
 use Rattle.workspace.specs.declared.extractions.Extraction.{Extraction}
@@ -12,7 +12,7 @@ use Rattle.workspace.specs.States.{State, Workspace}
 use Rattle.extract_commands.specs.CommandExtract.{ExtractsCell, extracted_text}
 use Rattle.extract_commands.specs.OneExtractions.{ExtractedCellsAreNotRefused, ExtractionsAreUnique, UncleanRefusalsAreUnique}
 use Rattle.extract_commands.specs.OneEffects.{ExtractMeansOneEffect}
-use Rattle.cell_library.specs.LawfulViews.{IsSoundView}
+use Rattle.layout_gen.specs.CellLibrary.LawfulViews.{IsSoundView}
 use Rattle.workspace.specs.KeptSessions.{SeesSoundLibrary}
 
 -- what is meant of each cell of a lawful library is one effect

@@ -3,14 +3,14 @@ use Rattle.std.proofs.Common.{◌≡◌, ◌<◌, ℕ, List, length}
 use Rattle.ext_model.specs.declared.records.CellExt.{CellExt}
 use Rattle.circuit_model.specs.declared.faults.FlatFault.TheVariants.{TooMany as FlatTooMany}
 use Rattle.circuit_model.specs.declared.limits.CircuitLimit.{CircuitLimit}
-use Rattle.cell_library.specs.Views.{LibraryView, view_at}
-use Rattle.library_trees.specs.NamedCells.{named_tree_at}
-use Rattle.library_trees.specs.TreeRecords.TreeRecords.{HasTreeRecords}
+use Rattle.layout_gen.specs.CellLibrary.Views.{LibraryView, view_at}
+use Rattle.uniqueness.specs.LibraryTrees.NamedCells.{named_tree_at}
+use Rattle.uniqueness.specs.LibraryTrees.TreeRecords.TreeRecords.{HasTreeRecords}
 use Rattle.uniqueness.specs.RecordUniqueness.{RecordsOfTreesAreUnique}
-use Rattle.library_answers.specs.HierMerge.UncleanCells.{IsCleanCell}
+use Rattle.workspace.specs.LibraryAnswers.HierMerge.UncleanCells.{IsCleanCell}
 use Rattle.uniqueness.specs.FlatCircuits.{AgreeBelow, FlatCircuitsAreUnique, FlatCircuitsHaveNoFault, FlatFaultsAreUnique}
 use Rattle.extract_commands.specs.OneCircuits.{CellCircuitsAreUnique, CellCircuitsPassNoLimit, CellLimitsAreUnique}
-use Rattle.cell_library.specs.LawfulViews.{IsSoundView}
+use Rattle.layout_gen.specs.CellLibrary.LawfulViews.{IsSoundView}
 use Rattle.extract_commands.proofs.ReachedRecords.{agree_below}
 use Rattle.extract_commands.proofs.SoundLibraries.{clean_tree_seen, lawful_tech, tree_named}
 

@@ -7,17 +7,17 @@ use Rattle.use_orders.proofs.Visiting.{Visits-unique, library_order-lists}
 use Rattle.session_model.specs.declared.answer.Store.{Store}
 use Rattle.session_model.specs.declared.report.ReportLine.{ReportLine}
 use Rattle.session_model.specs.Effects.{Effect}
-use Rattle.cell_library.specs.Additions.{children_in}
-use Rattle.cell_library.specs.Views.{LibraryView, view_at}
+use Rattle.layout_gen.specs.CellLibrary.Additions.{children_in}
+use Rattle.layout_gen.specs.CellLibrary.Views.{LibraryView, view_at}
 use Rattle.uniqueness.specs.OwnUniqueness.{UnattachedTextsAreUnique}
-use Rattle.library_answers.specs.HierMerge.UncleanCells.{IsCleanCell}
+use Rattle.workspace.specs.LibraryAnswers.HierMerge.UncleanCells.{IsCleanCell}
 use Rattle.uniqueness.specs.UncleanCells.{CleanCellsHaveNoneBelow, UncleanCellsBelowAreUnique}
 use Rattle.line_answers.specs.Refusals.{refusal_line}
-use Rattle.library_answers.specs.Offending.{offending_line}
+use Rattle.workspace.specs.LibraryAnswers.Offending.{offending_line}
 use Rattle.workspace.specs.Extractions.{MakesRecord, MakesRecords, ext_store, unattached_line, unclean_refusal}
 use Rattle.workspace.specs.States.{State}
 use Rattle.extract_commands.specs.OneExtractions.{ExtractedCellsAreNotRefused, ExtractionsAreUnique, UncleanRefusalsAreUnique}
-use Rattle.cell_library.specs.LawfulViews.{IsSoundView}
+use Rattle.layout_gen.specs.CellLibrary.LawfulViews.{IsSoundView}
 use Rattle.extract_commands.proofs.SoundLibraries.{clean_below_clean, none_below_clean, same_record}
 
 module _ (one_list : UnattachedTextsAreUnique) (view : LibraryView) (sound : IsSoundView view) where

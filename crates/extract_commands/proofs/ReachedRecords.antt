@@ -3,19 +3,19 @@ use Rattle.std.proofs.Common.{◌≡◌, ℕ, List, [], map, inl, inr, refl, sym
 use Rattle.std.specs.Prelude.{Some}
 use Rattle.finite_sets.specs.Chain.Chain.{stay, go}
 use Rattle.finite_sets.specs.Lists.{In}
-use Rattle.cell_library.specs.TechModel.declared.raw.RawTech.{RawTech}
-use Rattle.cell_library.specs.TechModel.Rules.{KeepsRules}
-use Rattle.cell_library.specs.TechModel.WellFormed.{IsWellFormed}
+use Rattle.layout_gen.specs.CellLibrary.TechModel.declared.raw.RawTech.{RawTech}
+use Rattle.layout_gen.specs.CellLibrary.TechModel.Rules.{KeepsRules}
+use Rattle.layout_gen.specs.CellLibrary.TechModel.WellFormed.{IsWellFormed}
 use Rattle.ext_model.specs.declared.records.CellExt.{CellExt}
 use Rattle.ext_model.specs.declared.records.UseRec.{UseRec}
 use Rattle.geo_core.specs.Images.{identity}
 use Rattle.circuit_model.specs.Elements.{ext_of}
-use Rattle.library_trees.specs.TreeRecords.NamedTrees.{NamedElements, NamedTree, own_body}
-use Rattle.library_trees.specs.TreeRecords.NamedTrees.NamedTree.{named_tree}
-use Rattle.library_trees.specs.TreeRecords.NamedTrees.NamedElements.{element_then, no_more}
-use Rattle.library_trees.specs.TreeNames.CleanTrees.{IsCleanTree}
-use Rattle.library_trees.specs.TreeRecords.TreeRecords.{HasTreeRecords, HaveTreeRecords, use_records}
-use Rattle.library_trees.proofs.TreeNames.CleanTrees.{AreCleanTrees, clean_below, clean_first, clean_rest}
+use Rattle.uniqueness.specs.LibraryTrees.TreeRecords.NamedTrees.{NamedElements, NamedTree, own_body}
+use Rattle.uniqueness.specs.LibraryTrees.TreeRecords.NamedTrees.NamedTree.{named_tree}
+use Rattle.uniqueness.specs.LibraryTrees.TreeRecords.NamedTrees.NamedElements.{element_then, no_more}
+use Rattle.uniqueness.specs.LibraryTrees.TreeNames.CleanTrees.{IsCleanTree}
+use Rattle.uniqueness.specs.LibraryTrees.TreeRecords.TreeRecords.{HasTreeRecords, HaveTreeRecords, use_records}
+use Rattle.uniqueness.proofs.LibraryTrees.TreeNames.CleanTrees.{AreCleanTrees, clean_below, clean_first, clean_rest}
 use Rattle.uniqueness.specs.RecordUniqueness.{IsFoundInBoth, RecordsOfTreesAreUnique}
 use Rattle.uniqueness.specs.FlatCircuits.{AgreeBelow, UsesName}
 

@@ -6,11 +6,11 @@ use Rattle.session_model.specs.declared.fetching.FetchFault.{FetchFault}
 use Rattle.session_model.specs.Effects.{Effect}
 use Rattle.session_model.specs.Fetches.{AgreeOn, text_in}
 use Rattle.session_model.proofs.FetchLaws.{text_same}
-use Rattle.cell_library.specs.Views.{cell_named}
+use Rattle.layout_gen.specs.CellLibrary.Views.{cell_named}
 use Rattle.line_answers.specs.LineEffects.{refused}
 use Rattle.line_answers.specs.Refusals.{no_cell}
-use Rattle.network_runs.specs.declared.network_runs.NetworkRun.{NetworkRun}
-use Rattle.network_runs.specs.Simulations.{vec_file}
+use Rattle.workspace.specs.NetworkRuns.declared.network_runs.NetworkRun.{NetworkRun}
+use Rattle.workspace.specs.NetworkRuns.Simulations.{vec_file}
 use Rattle.workspace.specs.States.{State, Workspace}
 use Rattle.extract_commands.specs.CellRuns.{RunsExtracted}
 use Rattle.extract_commands.specs.CommandVectors.{RunsFetched, VectorsMeans, run_of}

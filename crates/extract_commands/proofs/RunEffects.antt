@@ -7,13 +7,13 @@ use Rattle.session_model.specs.Effects.{Effect}
 use Rattle.session_model.specs.Fetches.{text_in}
 use Rattle.ext_model.specs.declared.circuits.Circuit.{Circuit}
 use Rattle.circuit_model.specs.declared.limits.CircuitLimit.{CircuitLimit}
-use Rattle.cell_library.specs.Views.{LibraryView}
+use Rattle.layout_gen.specs.CellLibrary.Views.{LibraryView}
 use Rattle.line_answers.specs.Refusals.{refusal_line, too_many}
-use Rattle.library_answers.specs.HierMerge.UncleanCells.{IsCleanCell}
-use Rattle.circuit_commands.specs.Refusals.{circuit_limit_word}
-use Rattle.network_runs.specs.declared.network_runs.NetworkRun.{NetworkRun}
-use Rattle.network_runs.specs.NetworkRuns.{TellsCircuit}
-use Rattle.network_runs.specs.Simulations.{vec_file}
+use Rattle.workspace.specs.LibraryAnswers.HierMerge.UncleanCells.{IsCleanCell}
+use Rattle.uniqueness.specs.CircuitCommands.Refusals.{circuit_limit_word}
+use Rattle.workspace.specs.NetworkRuns.declared.network_runs.NetworkRun.{NetworkRun}
+use Rattle.workspace.specs.NetworkRuns.NetworkRuns.{TellsCircuit}
+use Rattle.workspace.specs.NetworkRuns.Simulations.{vec_file}
 use Rattle.uniqueness.specs.Simulations.{CircuitAnswersAreUnique}
 use Rattle.workspace.specs.declared.extractions.Extraction.{Extraction}
 use Rattle.workspace.specs.Extractions.{with_clean}
@@ -24,7 +24,7 @@ use Rattle.extract_commands.specs.declared.command_vectors.VectorQuestion.{Vecto
 use Rattle.extract_commands.specs.OneCircuits.{CellCircuitsAreUnique, CellCircuitsPassNoLimit, CellLimitsAreUnique}
 use Rattle.extract_commands.specs.OneExtractions.{ExtractedCellsAreNotRefused, ExtractionsAreUnique, UncleanRefusalsAreUnique}
 use Rattle.extract_commands.specs.OneEffects.{VectorsMeansOneEffect}
-use Rattle.cell_library.specs.LawfulViews.{IsSoundView}
+use Rattle.layout_gen.specs.CellLibrary.LawfulViews.{IsSoundView}
 use Rattle.extract_commands.proofs.OnCells.{MeansOneOnCells, one_extracted, one_on_cell}
 
 module _ (one_circuit : CellCircuitsAreUnique) (one_limit : CellLimitsAreUnique) (either : CellCircuitsPassNoLimit)

@@ -4,25 +4,25 @@ use Rattle.finite_sets.specs.Chain.{Chain}
 use Rattle.geo_core.specs.declared.squares.Rect.{Rect}
 use Rattle.use_orders.specs.Uses.{UsesCell}
 use Rattle.ext_model.specs.declared.arrays.ArrayExt.{ArrayExt}
-use Rattle.cell_library.specs.TechModel.Rules.{KeepsRules}
-use Rattle.cell_library.specs.TechModel.WellFormed.{IsWellFormed}
-use Rattle.cell_library.specs.LayoutModel.FlatSets.{IsTyped}
-use Rattle.cell_library.specs.Additions.{children_in}
-use Rattle.cell_library.specs.LawfulViews.{HasSoundPaint, IsLawfulView, IsSoundView}
-use Rattle.cell_library.specs.LayoutTrees.{tree_at}
-use Rattle.cell_library.specs.Libraries.{IsLawfulLibrary, LibraryParts, seen}
-use Rattle.cell_library.specs.Views.{LibraryView, view_at}
-use Rattle.cell_library.proofs.LawfulViews.{held_sound}
-use Rattle.cell_library.proofs.TreeTypes.{library_is_typed}
-use Rattle.cell_library.proofs.ViewLaws.{count_seen}
-use Rattle.library_trees.specs.CellRecords.{IsRecordOf}
-use Rattle.library_trees.specs.NamedCells.{named_tree_at}
-use Rattle.library_trees.specs.TreeRecords.NamedTrees.{NamedTree, own_body}
-use Rattle.library_trees.specs.TreeNames.CleanTrees.{IsCleanTree}
-use Rattle.library_trees.proofs.CleanTrees.{clean_tree}
-use Rattle.library_trees.proofs.WholeTrees.{named_tree_unfolds}
+use Rattle.layout_gen.specs.CellLibrary.TechModel.Rules.{KeepsRules}
+use Rattle.layout_gen.specs.CellLibrary.TechModel.WellFormed.{IsWellFormed}
+use Rattle.layout_gen.specs.CellLibrary.LayoutModel.FlatSets.{IsTyped}
+use Rattle.layout_gen.specs.CellLibrary.Additions.{children_in}
+use Rattle.layout_gen.specs.CellLibrary.LawfulViews.{HasSoundPaint, IsLawfulView, IsSoundView}
+use Rattle.layout_gen.specs.CellLibrary.LayoutTrees.{tree_at}
+use Rattle.layout_gen.specs.CellLibrary.Libraries.{IsLawfulLibrary, LibraryParts, seen}
+use Rattle.layout_gen.specs.CellLibrary.Views.{LibraryView, view_at}
+use Rattle.layout_gen.proofs.CellLibrary.LawfulViews.{held_sound}
+use Rattle.layout_gen.proofs.CellLibrary.TreeTypes.{library_is_typed}
+use Rattle.layout_gen.proofs.CellLibrary.ViewLaws.{count_seen}
+use Rattle.uniqueness.specs.LibraryTrees.CellRecords.{IsRecordOf}
+use Rattle.uniqueness.specs.LibraryTrees.NamedCells.{named_tree_at}
+use Rattle.uniqueness.specs.LibraryTrees.TreeRecords.NamedTrees.{NamedTree, own_body}
+use Rattle.uniqueness.specs.LibraryTrees.TreeNames.CleanTrees.{IsCleanTree}
+use Rattle.uniqueness.proofs.LibraryTrees.CleanTrees.{clean_tree}
+use Rattle.uniqueness.proofs.LibraryTrees.WholeTrees.{named_tree_unfolds}
 use Rattle.uniqueness.proofs.OneRecord.{one_record}
-use Rattle.library_answers.specs.HierMerge.UncleanCells.{IsCleanCell, IsUncleanBelow}
+use Rattle.workspace.specs.LibraryAnswers.HierMerge.UncleanCells.{IsCleanCell, IsUncleanBelow}
 use Rattle.uniqueness.proofs.CleanBelow.{all_are_clean}
 use Rattle.uniqueness.specs.UncleanCells.{CleanCellsHaveNoneBelow}
 

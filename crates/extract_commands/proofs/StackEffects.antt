@@ -4,9 +4,9 @@ use Rattle.std.specs.Prelude.{◌+◌, Bool, true, false, if◌then◌else◌, o
 use Rattle.std.specs.Int.RustNames.{unsigned_abs}
 use Rattle.session_model.specs.declared.report.ReportLine.{ReportLine}
 use Rattle.session_model.specs.Effects.{Effect}
-use Rattle.cell_library.specs.Views.{CellView, LibraryView}
+use Rattle.layout_gen.specs.CellLibrary.Views.{CellView, LibraryView}
 use Rattle.layout_gen.specs.Generated.{IsGenerated, array_cell, row_grid, row_name, stack_grid, stack_name, tile_cell, with_generated}
-use Rattle.network_runs.specs.declared.network_runs.NetworkRun.TheVariants.{Stack}
+use Rattle.workspace.specs.NetworkRuns.declared.network_runs.NetworkRun.TheVariants.{Stack}
 use Rattle.uniqueness.specs.Simulations.{CircuitAnswersAreUnique}
 use Rattle.workspace.specs.States.{State, Workspace}
 use Rattle.extract_commands.specs.CellRuns.{RunsExtracted}
@@ -15,7 +15,7 @@ use Rattle.extract_commands.specs.CommandGenerate.{without_versions}
 use Rattle.extract_commands.specs.OneCircuits.{CellCircuitsAreUnique, CellCircuitsPassNoLimit, CellLimitsAreUnique}
 use Rattle.extract_commands.specs.OneExtractions.{ExtractedCellsAreNotRefused, ExtractionsAreUnique, UncleanRefusalsAreUnique}
 use Rattle.extract_commands.specs.OneEffects.{GenerateMeansOneEffect}
-use Rattle.cell_library.specs.LawfulViews.{IsSoundView}
+use Rattle.layout_gen.specs.CellLibrary.LawfulViews.{IsSoundView}
 use Rattle.workspace.specs.KeptSessions.{SeesSoundLibrary}
 use Rattle.extract_commands.proofs.RunEffects.{same_run}
 

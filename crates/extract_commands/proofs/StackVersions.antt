@@ -2,15 +2,15 @@
 use Rattle.std.proofs.Common.{◌≡◌, ◌<◌, ◌≤◌, ◌+◌, ◌∙◌, ℕ, List, [], ◌∷◌, length, refl, sym, arith}
 use Rattle.std.specs.Prelude.{All, Option, None, Some, codes, unwrap_or}
 use Rattle.std.proofs.lemmas.List.Elements.{All-cons, All-nil}
-use Rattle.cell_library.specs.CellTree.declared.use_tables.UseBody.{UseBody}
-use Rattle.cell_library.specs.LawfulViews.{IsLawfulView}
-use Rattle.cell_library.specs.Libraries.{IsLawfulLibrary, IsLawfulScale, LibraryParts, seen}
-use Rattle.cell_library.specs.Views.{CellView}
-use Rattle.cell_library.proofs.ViewLaws.{count_seen}
+use Rattle.layout_gen.specs.CellLibrary.CellTree.declared.use_tables.UseBody.{UseBody}
+use Rattle.layout_gen.specs.CellLibrary.LawfulViews.{IsLawfulView}
+use Rattle.layout_gen.specs.CellLibrary.Libraries.{IsLawfulLibrary, IsLawfulScale, LibraryParts, seen}
+use Rattle.layout_gen.specs.CellLibrary.Views.{CellView}
+use Rattle.layout_gen.proofs.CellLibrary.ViewLaws.{count_seen}
 use Rattle.layout_gen.specs.Generated.{IsGenerated, array_cell, row_grid, row_name, stack_grid, stack_name, tile_cell}
-use Rattle.undo_log.specs.Inverses.{CellsCame, Inverses, kept_versions}
-use Rattle.undo_log.proofs.CameLaws.{cells_come}
-use Rattle.undo_log.proofs.LeadLaws.{versions_unique}
+use Rattle.workspace.specs.UndoLog.Inverses.{CellsCame, Inverses, kept_versions}
+use Rattle.workspace.proofs.UndoLog.CameLaws.{cells_come}
+use Rattle.workspace.proofs.UndoLog.LeadLaws.{versions_unique}
 use Rattle.workspace.proofs.VersionLaws.{KeepsSome}
 
 -- a library that has cells has a scale

@@ -5,10 +5,10 @@ use Rattle.session_model.specs.Effects.{Effect}
 use Rattle.line_answers.specs.Refusals.{refusal_line, too_many}
 use Rattle.ext_model.specs.declared.circuits.Circuit.{Circuit}
 use Rattle.circuit_model.specs.declared.limits.CircuitLimit.{CircuitLimit}
-use Rattle.cell_library.specs.Views.{LibraryView}
-use Rattle.circuit_commands.specs.Refusals.{circuit_limit_word}
-use Rattle.network_runs.specs.declared.network_runs.NetworkRun.{NetworkRun}
-use Rattle.network_runs.specs.NetworkRuns.{TellsCircuit}
+use Rattle.layout_gen.specs.CellLibrary.Views.{LibraryView}
+use Rattle.uniqueness.specs.CircuitCommands.Refusals.{circuit_limit_word}
+use Rattle.workspace.specs.NetworkRuns.declared.network_runs.NetworkRun.{NetworkRun}
+use Rattle.workspace.specs.NetworkRuns.NetworkRuns.{TellsCircuit}
 use Rattle.workspace.specs.declared.extractions.Extraction.{Extraction}
 use Rattle.workspace.specs.CellCircuits.{IsCircuitAt, PassesAt}
 use Rattle.workspace.specs.Extractions.{IsExtraction, RefusesUnclean, with_clean}

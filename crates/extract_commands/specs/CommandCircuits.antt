@@ -2,13 +2,13 @@
 use Rattle.std.specs.Prelude.{◌≡◌, ◌⊎◌, ℕ, List, [], ◌++◌, Some}
 use Rattle.session_model.specs.Effects.{Effect}
 use Rattle.ext_model.specs.declared.circuits.Circuit.{Circuit}
-use Rattle.cell_library.specs.Views.{LibraryView}
-use Rattle.circuit_commands.specs.declared.circuits.CircuitFile.{CircuitFile}
-use Rattle.circuit_commands.specs.declared.circuits.Written.{Written}
-use Rattle.circuit_commands.specs.declared.circuits.Written.TheVariants.{Stored, Passed}
-use Rattle.circuit_commands.specs.declared.limits.Limit.{Limit}
-use Rattle.circuit_commands.specs.declared.limits.Limit.TheVariants.{Circuit as OfCircuit}
-use Rattle.circuit_commands.specs.Circuits.{IsWritten, lines_of, stores_of}
+use Rattle.layout_gen.specs.CellLibrary.Views.{LibraryView}
+use Rattle.uniqueness.specs.CircuitCommands.declared.circuits.CircuitFile.{CircuitFile}
+use Rattle.uniqueness.specs.CircuitCommands.declared.circuits.Written.{Written}
+use Rattle.uniqueness.specs.CircuitCommands.declared.circuits.Written.TheVariants.{Stored, Passed}
+use Rattle.uniqueness.specs.CircuitCommands.declared.limits.Limit.{Limit}
+use Rattle.uniqueness.specs.CircuitCommands.declared.limits.Limit.TheVariants.{Circuit as OfCircuit}
+use Rattle.uniqueness.specs.CircuitCommands.Circuits.{IsWritten, lines_of, stores_of}
 use Rattle.workspace.specs.declared.extractions.Extraction.{Extraction}
 use Rattle.workspace.specs.CellCircuits.{IsCircuitAt, PassesAt}
 use Rattle.workspace.specs.Extractions.{IsExtraction, OnCell, RefusesUnclean, with_clean}

@@ -6,15 +6,15 @@ use Rattle.session_model.specs.declared.report.LineKind.{LineKind}
 use Rattle.session_model.specs.declared.report.LineKind.TheVariants.{Refusal}
 use Rattle.session_model.specs.declared.report.ReportLine.{ReportLine}
 use Rattle.session_model.specs.Effects.{Effect}
-use Rattle.cell_library.specs.Views.{LibraryView}
+use Rattle.layout_gen.specs.CellLibrary.Views.{LibraryView}
 use Rattle.layout_gen.specs.declared.faults.GenerateFault.{GenerateFault}
 use Rattle.layout_gen.specs.Generated.{IsGenerated}
 use Rattle.layout_gen.specs.Refusals.{generate_fault}
 use Rattle.line_answers.specs.LineEffects.{refused}
 use Rattle.line_answers.specs.Refusals.{no_tech}
-use Rattle.library_answers.specs.Refusals.{generate_refusal}
-use Rattle.network_runs.specs.declared.network_runs.NetworkRun.TheVariants.{Stack}
-use Rattle.undo_log.specs.Versions.{no_versions}
+use Rattle.workspace.specs.LibraryAnswers.Refusals.{generate_refusal}
+use Rattle.workspace.specs.NetworkRuns.declared.network_runs.NetworkRun.TheVariants.{Stack}
+use Rattle.workspace.specs.UndoLog.Versions.{no_versions}
 use Rattle.workspace.specs.States.{State, Workspace}
 use Rattle.extract_commands.specs.CellRuns.{RunsExtracted}
 

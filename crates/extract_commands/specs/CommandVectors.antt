@@ -6,9 +6,9 @@ use Rattle.session_model.specs.Effects.{Effect}
 use Rattle.session_model.specs.Fetches.{text_in}
 use Rattle.line_answers.specs.LineEffects.{refused}
 use Rattle.line_answers.specs.Refusals.{file_refusal}
-use Rattle.network_runs.specs.declared.network_runs.NetworkRun.{NetworkRun}
-use Rattle.network_runs.specs.declared.network_runs.NetworkRun.TheVariants as run
-use Rattle.network_runs.specs.Simulations.{vec_file}
+use Rattle.workspace.specs.NetworkRuns.declared.network_runs.NetworkRun.{NetworkRun}
+use Rattle.workspace.specs.NetworkRuns.declared.network_runs.NetworkRun.TheVariants as run
+use Rattle.workspace.specs.NetworkRuns.Simulations.{vec_file}
 use Rattle.workspace.specs.Extractions.{OnCell}
 use Rattle.workspace.specs.States.{State, Workspace}
 use Rattle.extract_commands.specs.CellRuns.{RunsExtracted}

@@ -1,4 +1,7 @@
 -- what crates above name of those below
+pub use Rattle.uniqueness.specs.NetworkCommands as NetworkCommands
+pub use Rattle.uniqueness.specs.CircuitCommands as CircuitCommands
+pub use Rattle.uniqueness.specs as Uniqueness
 pub use Rattle.workspace.specs as Workspace
 pub mod CellRuns
 pub mod CommandCircuits

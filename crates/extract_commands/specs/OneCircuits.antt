@@ -2,10 +2,10 @@
 use Rattle.std.specs.Prelude.{◌≡◌, ◌<◌, ℕ, length}
 use Rattle.ext_model.specs.declared.circuits.Circuit.{Circuit}
 use Rattle.circuit_model.specs.declared.limits.CircuitLimit.{CircuitLimit}
-use Rattle.cell_library.specs.Views.{LibraryView}
-use Rattle.library_answers.specs.HierMerge.UncleanCells.{IsCleanCell}
+use Rattle.layout_gen.specs.CellLibrary.Views.{LibraryView}
+use Rattle.workspace.specs.LibraryAnswers.HierMerge.UncleanCells.{IsCleanCell}
 use Rattle.workspace.specs.CellCircuits.{IsCircuitAt, PassesAt}
-use Rattle.cell_library.specs.LawfulViews.{IsSoundView}
+use Rattle.layout_gen.specs.CellLibrary.LawfulViews.{IsSoundView}
 
 -- a clean cell of a lawful library has one circuit
 abbrev pub CellCircuitsAreUnique : Type 0

@@ -2,7 +2,7 @@
 use Rattle.std.specs.Prelude.{◌≡◌, ℕ, ℤ, List}
 use Rattle.outside_io.specs.Files.{Files}
 use Rattle.session_model.specs.Effects.{Effect}
-use Rattle.circuit_commands.specs.declared.circuits.CircuitFile.{CircuitFile}
+use Rattle.uniqueness.specs.CircuitCommands.declared.circuits.CircuitFile.{CircuitFile}
 use Rattle.workspace.specs.States.{State}
 use Rattle.extract_commands.specs.CommandCircuits.{CircuitMeans}
 use Rattle.extract_commands.specs.CommandExtract.{ExtractMeans}

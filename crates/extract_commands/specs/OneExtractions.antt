@@ -4,7 +4,7 @@ use Rattle.session_model.specs.Effects.{Effect}
 use Rattle.workspace.specs.declared.extractions.Extraction.{Extraction}
 use Rattle.workspace.specs.Extractions.{IsExtraction, RefusesUnclean}
 use Rattle.workspace.specs.States.{State, Workspace}
-use Rattle.cell_library.specs.LawfulViews.{IsLawfulView, IsSoundView}
+use Rattle.layout_gen.specs.CellLibrary.LawfulViews.{IsLawfulView, IsSoundView}
 
 -- a cell of a lawful library has one extraction, and the cells at and below it have one order
 abbrev pub ExtractionsAreUnique : Type 0

@@ -1,18 +1,18 @@
 //! What the commands have in common that run something on the network of a cell's circuit.
 ghost use Rattle.std.specs.Prelude.{◌≡◌, ◌<◌, ℕ, List as Words, Some, length, IfOk, IsOkUnless};
-ghost use Rattle.cell_library.specs.Libraries.{seen};
+ghost use Rattle.layout_gen.specs.CellLibrary.Libraries.{seen};
 ghost use Rattle.workspace.specs.Caches.{Agrees};
 ghost use Rattle.line_answers.specs.LineEffects.{IsOfInside};
 ghost use Rattle.workspace.specs.Extracting.{IsFreshBelow};
 ghost use Rattle.workspace.specs.KeptSessions.{IsEdited, edited_state};
 ghost use Rattle.extract_commands.specs.CellRuns.{RunsExtracted, TellsAt};
 
-use circuit_commands::circuit_limit_word;
 use ext_model::CellKey;
 use line_answers::{joined, told};
-use network_runs::{NetworkRun, limit_passed, run_circuit};
 use session_model::{Answer, Halt, ReportLine};
 use std::alloc::Global;
+use uniqueness::circuit_commands::circuit_limit_word;
+use workspace::network_runs::{NetworkRun, limit_passed, run_circuit};
 use workspace::{Edited, Extracting, Flattened, extract_cell, flatten_kept};
 
 /// Extracts the cell, and then runs this on the network of its circuit.

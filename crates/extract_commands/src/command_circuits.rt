@@ -1,22 +1,24 @@
 //! `flat c` and `sim c`: extract c, and store the flat file or the sim file of its circuit.
 ghost use Rattle.std.specs.Prelude.{◌≡◌, ◌<◌, ◌⊎◌, ◌++◌, Some, [], length, IfOk, IsOkUnless};
-ghost use Rattle.cell_library.specs.Libraries.{seen};
+ghost use Rattle.layout_gen.specs.CellLibrary.Libraries.{seen};
 ghost use Rattle.workspace.specs.Caches.{Agrees};
 ghost use Rattle.session_model.specs.Effects.{AnswersAlone};
 ghost use Rattle.line_answers.specs.LineEffects.{IsOfInside};
 ghost use Rattle.workspace.specs.KeptSessions.{IsEdited, IsSession, edited_state, state_of};
-ghost use Rattle.circuit_commands.specs.Circuits.{lines_of, stores_of};
+ghost use Rattle.uniqueness.specs.CircuitCommands.Circuits.{lines_of, stores_of};
 ghost use Rattle.extract_commands.specs.CommandCircuits.{CircuitMeans, IsWrittenAt, WritesCircuit};
 ghost use Rattle.workspace.specs.Extracting.{IsFreshBelow};
 ghost use Rattle.workspace.specs.Extractions.{RefusesUnclean};
 
-use circuit_commands::{CircuitFile, Limit, Written, write_flat_file, write_given, written_alone};
-use circuit_laws::flat_transistor_has_letter_and_lengths;
 use ext_model::CellKey;
 use line_answers::{joined, refuse_no_cell, refuse_no_tech, told};
 use names_lists::Name;
 use session_model::{Answer, Halt};
 use std::alloc::Global;
+use uniqueness::circuit_commands::{
+    CircuitFile, Limit, Written, write_flat_file, write_given, written_alone,
+};
+use workspace::circuit_laws::flat_transistor_has_letter_and_lengths;
 use workspace::{
     Edited, Extracting, Extraction, Flattened, LayoutSession, extract_cell, flatten_kept,
     flatten_kept_into,

@@ -11,12 +11,12 @@ ghost use Rattle.extract_commands.specs.steps.MadeStacks.{IsCellOf, IsStackMade}
 use crate::cell_runs::run_extracted;
 use ext_model::CellKey;
 use layout_gen::{GenerateFault, MOST_TILES, generate as make_cells};
-use library_answers::refuse_generate;
 use line_answers::refuse_no_tech;
-use network_runs::NetworkRun;
 use script_lines::MOST_GENERATED;
 use session_model::{Answer, Halt, LineKind, ReportLine};
 use std::alloc::Global;
+use workspace::library_answers::refuse_generate;
+use workspace::network_runs::NetworkRun;
 use workspace::{Edited, LayoutSession};
 
 /// The stack that was made, or why none was.

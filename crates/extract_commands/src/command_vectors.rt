@@ -11,10 +11,10 @@ use crate::cell_runs::run_extracted;
 use ext_model::CellKey;
 use line_answers::{file_name, refuse_file, refuse_no_cell, refuse_no_tech};
 use names_lists::{List, Name};
-use network_runs::NetworkRun;
 use outside_io::Shelf;
 use session_model::{Answer, Fetched, Halt, fetch_text};
 use std::alloc::{AllocError, Global};
+use workspace::network_runs::NetworkRun;
 use workspace::{Edited, LayoutSession};
 
 /// What is asked of vectors on the circuit of a cell.

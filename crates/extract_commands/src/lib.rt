@@ -29,3 +29,5 @@ pub use command_vectors::{VectorQuestion, vectors};
 pub use laws::{
     cell_circuits_are_unique, extracting_lines_have_one_effect, extractions_are_unique,
 };
+pub use uniqueness;
+pub use uniqueness::{circuit_commands, network_commands};

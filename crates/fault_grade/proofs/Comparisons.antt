@@ -11,12 +11,12 @@ use Rattle.switch_net.specs.declared.switches.Level.{Level}
 use Rattle.switch_net.specs.Path.{state_of}
 use Rattle.vector_files.specs.declared.files.VecLine.{VecLine}
 use Rattle.vector_files.specs.declared.files.VecLine.TheVariants.{Set, Free, Size, Phase, Show}
-use Rattle.vector_runs.specs.declared.stuck_faults.StuckFault.{StuckFault}
-use Rattle.vector_runs.specs.declared.watching.Seen.{Seen}
-use Rattle.vector_runs.specs.Running.{FitsNodes}
-use Rattle.vector_runs.specs.Watching.{LineIsTaken, LinesShow, Watched, counting, is_left_out, seen_in}
-use Rattle.vector_runs.proofs.LineOutcomes.{IsSoundAt}
-use Rattle.vector_runs.proofs.WatchedRuns.{counting_fits, next_line, same_shown}
+use Rattle.fault_replay.specs.VectorRuns.declared.stuck_faults.StuckFault.{StuckFault}
+use Rattle.fault_replay.specs.VectorRuns.declared.watching.Seen.{Seen}
+use Rattle.fault_replay.specs.VectorRuns.Running.{FitsNodes}
+use Rattle.fault_replay.specs.VectorRuns.Watching.{LineIsTaken, LinesShow, Watched, counting, is_left_out, seen_in}
+use Rattle.fault_replay.proofs.VectorRuns.LineOutcomes.{IsSoundAt}
+use Rattle.fault_replay.proofs.VectorRuns.WatchedRuns.{counting_fits, next_line, same_shown}
 use Rattle.fault_grade.specs.steps.Comparing.{Finds, HasShown, are_apart, asked_count, is_apart, is_shown_apart, least_of}
 use Rattle.fault_grade.specs.Grades.{Lead, TellsApart, are_opposed}
 

@@ -13,10 +13,10 @@ use Rattle.switch_net.specs.Network.{IsSound, Network}
 use Rattle.switch_net.specs.SimRecords.{AreStarts}
 use Rattle.vector_files.specs.declared.files.VecLine.{VecLine}
 use Rattle.vector_files.specs.declared.files.Vectors.{Vectors}
-use Rattle.vector_runs.specs.declared.stuck_faults.StuckFault.{StuckFault}
-use Rattle.vector_runs.specs.Running.{HasBegun}
-use Rattle.vector_runs.specs.Watching.{LinesShow, Watched, begun_with}
-use Rattle.vector_runs.proofs.Starts.{same_starts}
+use Rattle.fault_replay.specs.VectorRuns.declared.stuck_faults.StuckFault.{StuckFault}
+use Rattle.fault_replay.specs.VectorRuns.Running.{HasBegun}
+use Rattle.fault_replay.specs.VectorRuns.Watching.{LinesShow, Watched, begun_with}
+use Rattle.fault_replay.proofs.VectorRuns.Starts.{same_starts}
 use Rattle.finite_sets.proofs.Searches.{range_one_more}
 use Rattle.fault_grade.specs.declared.detecting.GoodRun.{GoodRun}
 use Rattle.fault_grade.specs.declared.grading.Graded.{Graded}

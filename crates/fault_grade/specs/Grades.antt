@@ -11,9 +11,9 @@ use Rattle.vector_files.specs.declared.files.VecLine.{VecLine}
 use Rattle.vector_files.specs.declared.files.VecLine.TheVariants.{Show}
 use Rattle.vector_files.specs.declared.files.Vectors.{Vectors}
 use Rattle.vector_files.specs.LineForms.{is_rail}
-use Rattle.vector_runs.specs.declared.stuck_faults.StuckFault.{StuckFault}
-use Rattle.vector_runs.specs.declared.watching.Seen.{Seen}
-use Rattle.vector_runs.specs.Watching.{LinesShow, Watched, begun_with, counting}
+use Rattle.fault_replay.specs.VectorRuns.declared.stuck_faults.StuckFault.{StuckFault}
+use Rattle.fault_replay.specs.VectorRuns.declared.watching.Seen.{Seen}
+use Rattle.fault_replay.specs.VectorRuns.Watching.{LinesShow, Watched, begun_with, counting}
 use Rattle.fault_grade.specs.declared.grading.Graded.{Graded}
 
 -- ---- the faults

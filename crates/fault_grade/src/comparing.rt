@@ -1,13 +1,13 @@
 //! What tells a run with a fault from the run without.
 ghost use Rattle.std.specs.Prelude.{◌≡◌, ◌<◌, All, length};
-ghost use Rattle.vector_runs.specs.Running.{FitsNodes, states_of};
+ghost use Rattle.fault_replay.specs.VectorRuns.Running.{FitsNodes, states_of};
 ghost use Rattle.fault_grade.specs.steps.Comparing.{are_apart, asked_count, is_apart, is_shown_apart, least_of};
 ghost use Rattle.fault_grade.specs.Grades.{are_opposed};
 
+use fault_replay::vector_runs::{Seen, WatchedRun};
 use names_lists::Name;
 use switch_net::Level;
 use vector_files::VecLine;
-use vector_runs::{Seen, WatchedRun};
 
 // Whether one is 0 and the other is 1.
 fn are_opposed(one: Level, other: Level) -> bool

@@ -3,21 +3,23 @@ ghost use Rattle.std.specs.Prelude.{◌≡◌, ◌≢◌, ◌<◌, true, All, So
 ghost use Rattle.std.specs.List.Sorted.{IsNonDecreasingBy};
 ghost use Rattle.switch_net.specs.Net.{network_of};
 ghost use Rattle.vector_files.specs.VectorFiles.{IsWithin};
-ghost use Rattle.vector_runs.specs.RailNodes.{AreBelow, AreRails};
-ghost use Rattle.vector_runs.specs.Running.{FitsNodes, watched};
-ghost use Rattle.vector_runs.specs.Runs.{IsFresh};
-ghost use Rattle.vector_runs.specs.Watching.{Watched as WatchedAt};
+ghost use Rattle.fault_replay.specs.VectorRuns.RailNodes.{AreBelow, AreRails};
+ghost use Rattle.fault_replay.specs.VectorRuns.Running.{FitsNodes, watched};
+ghost use Rattle.fault_replay.specs.VectorRuns.Runs.{IsFresh};
+ghost use Rattle.fault_replay.specs.VectorRuns.Watching.{Watched as WatchedAt};
 ghost use Rattle.fault_replay.specs.Replays.{FitsRecord, Records};
 ghost use Rattle.fault_replay.specs.Runs.{IsBeside, IsReady};
 ghost use Rattle.fault_grade.specs.steps.Comparing.{Finds, HasShown, IsGoodRun};
 ghost use Rattle.fault_grade.specs.Grades.{IsDetectedAt, IsUndetected};
 
 use crate::comparing::{asked_count, is_apart, least_of};
+use fault_replay::vector_runs::{
+    Rails, Seen, StuckFault, make_net_fresh, rails_of, start_states, watch,
+};
 use fault_replay::{PhaseRecord, ReplayedRun, record};
 use std::alloc::{AllocError, Global};
 use switch_net::{Level, NamedNet, Net};
 use vector_files::{VecLine, Vectors};
-use vector_runs::{Rails, Seen, StuckFault, make_net_fresh, rails_of, start_states, watch};
 
 /// The run of vectors without a fault: what it shows, whether the numbers of their lines rise, and what the runs with faults share with it:
 /// power and ground, the states in which the network begins, and what is recorded of the phases.

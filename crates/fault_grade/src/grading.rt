@@ -4,18 +4,18 @@ ghost use Rattle.std.specs.List.{AllZip};
 ghost use Rattle.switch_net.specs.Net.{network_of};
 ghost use Rattle.vector_files.specs.NodeLookup.{is_either_node};
 ghost use Rattle.vector_files.specs.VectorFiles.{IsWithin};
-ghost use Rattle.vector_runs.specs.Runs.{IsFresh};
-ghost use Rattle.vector_runs.specs.declared.stuck_faults.StuckFault.{StuckFault as StuckFaultOf};
+ghost use Rattle.fault_replay.specs.VectorRuns.Runs.{IsFresh};
+ghost use Rattle.fault_replay.specs.VectorRuns.declared.stuck_faults.StuckFault.{StuckFault as StuckFaultOf};
 ghost use Rattle.fault_grade.specs.steps.Comparing.{IsGoodRun};
 ghost use Rattle.fault_grade.specs.Grades.{AreGrades, IsGrade, faults_at as faults_of_node, faults_but, faults_of};
 
 use crate::detecting::{GoodRun, detect};
 use crate::faults::GradeFault;
 use crate::limits::MOST_FAULTS;
+use fault_replay::vector_runs::{Rails, StuckFault, rails_of};
 use std::alloc::{AllocError, Global};
 use switch_net::{Level, NamedNet};
 use vector_files::Vectors;
-use vector_runs::{Rails, StuckFault, rails_of};
 
 /// The grade of a fault: its node, at what it is stuck, and the line that detects it, if there is one.
 #[derive(Clone, Copy, Debug, PartialEq, Eq)]

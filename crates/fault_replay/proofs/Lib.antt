@@ -1,3 +1,5 @@
+-- what crates above name of those below
+pub use Rattle.vector_runs.proofs as VectorRuns
 mod ChangedStates
 mod Beside
 mod PhaseEnds

@@ -29,3 +29,4 @@ mod runs;
 pub use recording::record;
 pub use records::PhaseRecord;
 pub use runs::ReplayedRun;
+pub use vector_runs;

@@ -1,3 +1,5 @@
+-- what crates above name of those below
+pub use Rattle.flood_nodes.proofs as FloodNodes
 mod AlikeTiles
 mod ChannelLaws
 mod ContactLaws

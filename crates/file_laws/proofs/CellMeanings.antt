@@ -11,8 +11,8 @@ use Rattle.cif_model.specs.declared.cifs.CifMove.{CifMove}
 use Rattle.cif_model.specs.declared.cifs.CifSymbol.{CifSymbol}
 use Rattle.cif_model.specs.Cifs.{CifParts}
 use Rattle.cif_model.specs.Meanings.{Means, items_at, moved}
-use Rattle.cell_library.specs.LayoutTrees.{tree_at}
-use Rattle.cell_library.specs.Views.{LibraryView}
+use Rattle.cif_writing.specs.CellLibrary.LayoutTrees.{tree_at}
+use Rattle.cif_writing.specs.CellLibrary.Views.{LibraryView}
 use Rattle.cif_writing.specs.Commands.{part_name}
 use Rattle.cif_writing.specs.Parts.{part_sets}
 use Rattle.file_laws.specs.CellCifs.{IsCellCif, symbol_place}

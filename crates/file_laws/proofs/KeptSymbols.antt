@@ -1,6 +1,6 @@
 -- A symbol of a cell stays one where layers come behind those that were there.
 use Rattle.std.proofs.Common.{ℕ, suc, List, [], ◌∷◌}
-use Rattle.cell_library.specs.Views.{LibraryView, view_at}
+use Rattle.cif_writing.specs.CellLibrary.Views.{LibraryView, view_at}
 use Rattle.cif_model.specs.declared.cifs.CifSymbol.{CifSymbol}
 use Rattle.cif_writing.specs.Commands.{part_name}
 use Rattle.cif_writing.specs.Parts.{part_sets}

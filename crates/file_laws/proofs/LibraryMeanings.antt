@@ -5,13 +5,13 @@ use Rattle.use_orders.specs.LibraryOrder.{IsLibraryOrder}
 use Rattle.use_orders.proofs.Visiting.{library_order-lists}
 use Rattle.layout_model.specs.CellTrees.{CellTree}
 use Rattle.cell_tree.specs.declared.limits.TheConstants.{MOST_DEPTH}
-use Rattle.cell_library.specs.Additions.{children_in}
-use Rattle.cell_library.specs.CellPaint.Painting.{place_at}
-use Rattle.cell_library.specs.LayoutTrees.{tree_at, tree_to}
-use Rattle.cell_library.specs.Libraries.{IsLawfulLibrary, LibraryParts, seen}
-use Rattle.cell_library.specs.Views.{LibraryView}
-use Rattle.cell_library.proofs.HullsHoldMaterial.{hull_holds}
-use Rattle.cell_library.proofs.LayoutTreeLaws.{tree_unfolds}
+use Rattle.cif_writing.specs.CellLibrary.Additions.{children_in}
+use Rattle.cif_writing.specs.CellLibrary.CellPaint.Painting.{place_at}
+use Rattle.cif_writing.specs.CellLibrary.LayoutTrees.{tree_at, tree_to}
+use Rattle.cif_writing.specs.CellLibrary.Libraries.{IsLawfulLibrary, LibraryParts, seen}
+use Rattle.cif_writing.specs.CellLibrary.Views.{LibraryView}
+use Rattle.cif_writing.proofs.CellLibrary.HullsHoldMaterial.{hull_holds}
+use Rattle.cif_writing.proofs.CellLibrary.LayoutTreeLaws.{tree_unfolds}
 use Rattle.cif_writing.proofs.OrderLaws.{order_there}
 use Rattle.cif_writing.proofs.PartLaws.{IsBit, part_bit}
 use Rattle.file_laws.specs.CellMeanings.{CellTextsMeanTheLayout, HoldsPartOfTree}

@@ -30,18 +30,18 @@ use Rattle.cell_tree.specs.Hulls.{IsLawfulBox, SpansInRange, displaced, element_
 use Rattle.cell_tree.specs.Sizes.{IsHullInRange, hulls_below, size_at}
 use Rattle.cell_tree.specs.Trees.{cell_at}
 use Rattle.cell_tree.specs.Uses.{displacements}
-use Rattle.cell_library.specs.CellPaint.Painting.{kinds_on, paint_range, place_at}
-use Rattle.cell_library.specs.Contents.{no_held}
-use Rattle.cell_library.specs.LayoutTrees.{element_transform}
-use Rattle.cell_library.specs.Libraries.{IsLawfulLibrary, LibraryParts, seen, uses_in}
-use Rattle.cell_library.specs.Limits.{HullIs}
-use Rattle.cell_library.specs.LayoutModel.Layouts.{IsMaterial, Layout}
-use Rattle.cell_library.specs.LayoutModel.Places.{Place}
-use Rattle.cell_library.specs.Views.{CellView, view_at}
-use Rattle.cell_library.proofs.BoxesBelow.{boxes_are_lawful, hull_seen}
-use Rattle.cell_library.proofs.HullsHoldMaterial.{In-element_hulls, element_image, hull_holds_material}
-use Rattle.cell_library.proofs.UseEdits.{cell_below, child_below, uses_here}
-use Rattle.cell_library.proofs.ViewLaws.{cell_viewed}
+use Rattle.cif_writing.specs.CellLibrary.CellPaint.Painting.{kinds_on, paint_range, place_at}
+use Rattle.cif_writing.specs.CellLibrary.Contents.{no_held}
+use Rattle.cif_writing.specs.CellLibrary.LayoutTrees.{element_transform}
+use Rattle.cif_writing.specs.CellLibrary.Libraries.{IsLawfulLibrary, LibraryParts, seen, uses_in}
+use Rattle.cif_writing.specs.CellLibrary.Limits.{HullIs}
+use Rattle.cif_writing.specs.CellLibrary.LayoutModel.Layouts.{IsMaterial, Layout}
+use Rattle.cif_writing.specs.CellLibrary.LayoutModel.Places.{Place}
+use Rattle.cif_writing.specs.CellLibrary.Views.{CellView, view_at}
+use Rattle.cif_writing.proofs.CellLibrary.BoxesBelow.{boxes_are_lawful, hull_seen}
+use Rattle.cif_writing.proofs.CellLibrary.HullsHoldMaterial.{In-element_hulls, element_image, hull_holds_material}
+use Rattle.cif_writing.proofs.CellLibrary.UseEdits.{cell_below, child_below, uses_here}
+use Rattle.cif_writing.proofs.CellLibrary.ViewLaws.{cell_viewed}
 use Rattle.cif_writing.specs.Parts.{HoldsPart, atom_sets, is_atom, is_second_image, mark_sets, own_mark, part_sets}
 use Rattle.cif_writing.specs.Symbols.{elements_of_use}
 use Rattle.file_laws.proofs.HalfNumbers.{IsNear, IsNearBox}

@@ -14,10 +14,10 @@ use Rattle.use_orders.specs.Uses.{IsAtOrBelow, UsesCell}
 use Rattle.use_orders.proofs.Listed.{In-numbers}
 use Rattle.use_orders.proofs.Visiting.{library_order-behind, library_order-lists}
 use Rattle.cell_tree.specs.declared.use_tables.UseBody.{UseBody}
-use Rattle.cell_library.specs.Additions.{children_in}
-use Rattle.cell_library.specs.Libraries.{IsLawfulLibrary, LibraryParts, seen}
-use Rattle.cell_library.specs.Views.{view_at}
-use Rattle.cell_library.proofs.ChildLaws.{child_of, child_there, child_used}
+use Rattle.cif_writing.specs.CellLibrary.Additions.{children_in}
+use Rattle.cif_writing.specs.CellLibrary.Libraries.{IsLawfulLibrary, LibraryParts, seen}
+use Rattle.cif_writing.specs.CellLibrary.Views.{view_at}
+use Rattle.cif_writing.proofs.CellLibrary.ChildLaws.{child_of, child_there, child_used}
 
 module _ (library : LibraryParts) (lawful : IsLawfulLibrary library) where
   module _ (root : ℕ) (there : root < length library.contents) (order : List ℕ) (is_order : IsLibraryOrder (children_in (seen library)) root order) where

@@ -11,7 +11,7 @@ use Rattle.geo_core.specs.declared.squares.Square.{Square}
 use Rattle.geo_core.specs.Covering.{Covers}
 use Rattle.geo_core.proofs.StripSets.{strip_within}
 use Rattle.tech_model.specs.declared.raw.RawTech.{RawTech}
-use Rattle.cell_library.specs.LayoutModel.Layouts.{Layout}
+use Rattle.cif_writing.specs.CellLibrary.LayoutModel.Layouts.{Layout}
 use Rattle.cif_model.specs.declared.cifs.CifItem.{CifItem}
 use Rattle.cif_model.specs.declared.cifs.CifItem.TheVariants.{Area, Call}
 use Rattle.cif_model.specs.declared.cifs.CifMove.{CifMove}

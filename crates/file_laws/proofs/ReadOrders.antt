@@ -6,9 +6,9 @@ use Rattle.std.proofs.lemmas.List.{length_push}
 use Rattle.std.proofs.lemmas.Option.{slice_get_within}
 use Rattle.finite_sets.proofs.Places.{In-slice_get, slice_get-In, slice_get-append_left, slice_get-append_right, slice_get-below, slice_get-push_cases}
 use Rattle.use_orders.specs.LibraryOrder.{IsLibraryOrder}
-use Rattle.cell_library.specs.Additions.{children_in}
-use Rattle.cell_library.specs.Libraries.{IsLawfulLibrary, LibraryParts, seen}
-use Rattle.cell_library.specs.Views.{LibraryView, view_at}
+use Rattle.cif_writing.specs.CellLibrary.Additions.{children_in}
+use Rattle.cif_writing.specs.CellLibrary.Libraries.{IsLawfulLibrary, LibraryParts, seen}
+use Rattle.cif_writing.specs.CellLibrary.Views.{LibraryView, view_at}
 use Rattle.cif_model.specs.declared.cifs.CifSymbol.{CifSymbol}
 use Rattle.cif_reading.specs.Drafts.{has_symbol}
 use Rattle.cif_writing.specs.Symbols.{AreSymbols, IsSymbol}

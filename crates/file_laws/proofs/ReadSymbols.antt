@@ -6,7 +6,7 @@ use Rattle.text_scan.specs.PlainNames.{is_plain_name}
 use Rattle.geo_core.specs.declared.squares.Rect.{Rect}
 use Rattle.geo_core.specs.Strips.{IsStrips}
 use Rattle.cell_tree.specs.declared.use_tables.UseBody.{UseBody}
-use Rattle.cell_library.specs.Views.{LibraryView, view_at}
+use Rattle.cif_writing.specs.CellLibrary.Views.{LibraryView, view_at}
 use Rattle.cif_model.specs.declared.cifs.CifSymbol.{CifSymbol}
 use Rattle.cif_reading.specs.Drafts.{has_symbol}
 use Rattle.cif_writing.specs.Commands.{finish_command, name_command, start_command}

@@ -17,9 +17,9 @@ use Rattle.cif_model.specs.Cifs.{CifParts}
 use Rattle.cif_model.specs.Meanings.{Means, moved}
 use Rattle.cif_model.specs.Placings.{placing}
 use Rattle.cif_model.proofs.PlacingLaws.{moved-placing}
-use Rattle.cell_library.specs.LayoutTrees.{elements_from, own_cell, tree_at}
-use Rattle.cell_library.specs.Limits.{HullIs}
-use Rattle.cell_library.specs.Views.{LibraryView, view_at}
+use Rattle.cif_writing.specs.CellLibrary.LayoutTrees.{elements_from, own_cell, tree_at}
+use Rattle.cif_writing.specs.CellLibrary.Limits.{HullIs}
+use Rattle.cif_writing.specs.CellLibrary.Views.{LibraryView, view_at}
 use Rattle.cif_writing.specs.Commands.{part_name}
 use Rattle.cif_writing.specs.Parts.{HoldsPart, part_sets}
 use Rattle.file_laws.specs.CellCifs.{IsCellCif, IsCellSymbol, symbol_place}

@@ -13,9 +13,9 @@ use Rattle.use_orders.specs.LibraryOrder.{IsLibraryOrder}
 use Rattle.use_orders.specs.Uses.{UsesCell}
 use Rattle.use_orders.proofs.Visiting.{library_order-behind, library_order-lists}
 use Rattle.cell_tree.specs.declared.use_tables.UseBody.{UseBody}
-use Rattle.cell_library.specs.Additions.{children_in}
-use Rattle.cell_library.specs.Views.{LibraryView, view_at}
-use Rattle.cell_library.proofs.ChildLaws.{children_at}
+use Rattle.cif_writing.specs.CellLibrary.Additions.{children_in}
+use Rattle.cif_writing.specs.CellLibrary.Views.{LibraryView, view_at}
+use Rattle.cif_writing.proofs.CellLibrary.ChildLaws.{children_at}
 use Rattle.file_laws.specs.CellCifs.{symbol_place}
 
 -- ---- places

@@ -12,8 +12,8 @@ use Rattle.layout_model.specs.CellTrees.CellTree.{cell_tree}
 use Rattle.layout_model.specs.FlatSets.{flat_sets, sets_below, sets_in}
 use Rattle.cell_tree.specs.declared.use_tables.UseBody.{UseBody}
 use Rattle.cell_tree.specs.Uses.{displacements}
-use Rattle.cell_library.specs.CellPaint.Painting.{place_at}
-use Rattle.cell_library.specs.LayoutTrees.{element_transform, elements_at, elements_from}
+use Rattle.cif_writing.specs.CellLibrary.CellPaint.Painting.{place_at}
+use Rattle.cif_writing.specs.CellLibrary.LayoutTrees.{element_transform, elements_at, elements_from}
 use Rattle.cif_writing.specs.Parts.{HoldsPart}
 use Rattle.cif_writing.specs.Symbols.{elements_of_use}
 use Rattle.cif_writing.proofs.PartLaws.{IsBit}

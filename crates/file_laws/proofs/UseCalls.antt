@@ -9,8 +9,8 @@ use Rattle.cif_model.specs.declared.cifs.CifItem.TheVariants.{Area, Call}
 use Rattle.cif_model.specs.declared.cifs.CifMove.{CifMove}
 use Rattle.cif_model.specs.Placings.{placing}
 use Rattle.cell_tree.specs.declared.use_tables.UseBody.{UseBody}
-use Rattle.cell_library.specs.Limits.{HullIs}
-use Rattle.cell_library.specs.Views.{LibraryView}
+use Rattle.cif_writing.specs.CellLibrary.Limits.{HullIs}
+use Rattle.cif_writing.specs.CellLibrary.Views.{LibraryView}
 use Rattle.cif_writing.specs.Symbols.{AreRuns, elements_of_use}
 use Rattle.file_laws.specs.CellCifs.{AreUseItems, symbol_place, use_items}
 

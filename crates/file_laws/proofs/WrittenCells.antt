@@ -2,7 +2,7 @@
 use Rattle.std.proofs.Common.{◌≡◌, ◌<◌, ℕ, false, pos, List, [], ◌∷◌, ◌++◌, length, None, Ok, refl, sym, ap, ◌∙◌, append_assoc, append-nil, arith}
 use Rattle.std.proofs.lemmas.Option.{slice_get_within}
 use Rattle.text_scan.specs.Written.{text_of}
-use Rattle.cell_library.specs.Libraries.{IsLawfulLibrary, LibraryParts, seen}
+use Rattle.cif_writing.specs.CellLibrary.Libraries.{IsLawfulLibrary, LibraryParts, seen}
 use Rattle.cif_model.specs.Cifs.{CifParts}
 use Rattle.cif_model.specs.declared.cifs.CifItem.TheVariants.{Call}
 use Rattle.cif_reading.specs.CifTexts.{cif_in, parts_of}

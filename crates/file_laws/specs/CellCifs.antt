@@ -7,10 +7,10 @@ use Rattle.geo_core.specs.Strips.{IsStrips}
 use Rattle.tech_model.specs.declared.raw.RawTech.{RawTech}
 use Rattle.cell_tree.specs.declared.use_tables.UseBody.{UseBody}
 use Rattle.cell_tree.specs.UseOrders.LibraryOrder.{IsLibraryOrder}
-use Rattle.cell_library.specs.Additions.{children_in}
-use Rattle.cell_library.specs.Limits.{HullIs}
-use Rattle.cell_library.specs.LayoutModel.Layouts.{Layout}
-use Rattle.cell_library.specs.Views.{LibraryView, view_at}
+use Rattle.cif_writing.specs.CellLibrary.Additions.{children_in}
+use Rattle.cif_writing.specs.CellLibrary.Limits.{HullIs}
+use Rattle.cif_writing.specs.CellLibrary.LayoutModel.Layouts.{Layout}
+use Rattle.cif_writing.specs.CellLibrary.Views.{LibraryView, view_at}
 use Rattle.cif_model.specs.declared.cifs.CifItem.{CifItem}
 use Rattle.cif_model.specs.declared.cifs.CifItem.TheVariants.{Area, Call}
 use Rattle.cif_model.specs.declared.cifs.CifSymbol.{CifSymbol}

@@ -5,9 +5,9 @@ use Rattle.tech_model.specs.declared.raw.RawTech.{RawTech}
 use Rattle.tech_model.specs.Types.{is_subset}
 use Rattle.layout_model.specs.CellTrees.{CellTree}
 use Rattle.layout_model.specs.FlatSets.{flat_sets}
-use Rattle.cell_library.specs.CellPaint.Painting.{place_at}
-use Rattle.cell_library.specs.LayoutTrees.{tree_at}
-use Rattle.cell_library.specs.Libraries.{IsLawfulLibrary, LibraryParts, seen}
+use Rattle.cif_writing.specs.CellLibrary.CellPaint.Painting.{place_at}
+use Rattle.cif_writing.specs.CellLibrary.LayoutTrees.{tree_at}
+use Rattle.cif_writing.specs.CellLibrary.Libraries.{IsLawfulLibrary, LibraryParts, seen}
 use Rattle.cif_model.specs.Cifs.{CifParts}
 use Rattle.cif_model.specs.Meanings.{Means}
 use Rattle.cif_writing.specs.Commands.{part_name}

@@ -1,6 +1,6 @@
 -- What the text of a cell is read as.
 use Rattle.std.specs.Prelude.{◌≡◌, ◌<◌, ℕ, List, length, Ok}
-use Rattle.cell_library.specs.Libraries.{IsLawfulLibrary, LibraryParts, seen}
+use Rattle.cif_writing.specs.CellLibrary.Libraries.{IsLawfulLibrary, LibraryParts, seen}
 use Rattle.cif_model.specs.Cifs.{CifParts}
 use Rattle.cif_reading.specs.CifTexts.{cif_in}
 use Rattle.cif_writing.specs.Symbols.{IsCifText}

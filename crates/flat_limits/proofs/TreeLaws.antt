@@ -1,6 +1,6 @@
 -- Sums and first faults along the elements of a tree.
 use Rattle.std.proofs.Common.{◌≡◌, ℕ, ◌<◌, List, [], length, map, get_or, refl, sym, ◌∙◌, ap, arith, sum_by, pos, Bool, cond, nat_lt}
-use Rattle.geo_core.specs.declared.orients.Orient.TheVariants.{R0}
+use Rattle.ext_model.specs.GeoCore.declared.orients.Orient.TheVariants.{R0}
 use Rattle.std.specs.Prelude.{Some, None, Option, slice_get, slice_index}
 use Rattle.std.specs.Option.{option_map}
 use Rattle.std.proofs.lemmas.List.{length-map}

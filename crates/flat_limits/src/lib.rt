@@ -10,4 +10,5 @@ mod roots;
 
 pub use classes::check_classes;
 pub use counts::{check_merges, check_nodes, is_past};
+pub use element_tree;
 pub use roots::root_number;

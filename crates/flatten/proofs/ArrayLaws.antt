@@ -14,8 +14,8 @@ use Rattle.circuit_model.specs.Elements.{AreRecords, ext_of, elements_of}
 use Rattle.circuit_model.specs.Circuits.{IsMeaning}
 use Rattle.circuit_model.specs.Refusals.{walk_fault, depth_of, past, flat_fault, IsFlatOf, IsFlatFaultOf}
 use Rattle.element_tree.proofs.Cells.{found_cell}
-use Rattle.full_names.specs.NameLists.{name_fault, HasNoNameFault, IsNameFaultOf}
-use Rattle.flat_limits.specs.Counts.{node_fault, merge_fault, HasNoNodeFault, IsNodeFaultOf, IsMergeFaultOf}
+use Rattle.name_classes.specs.FullNames.NameLists.{name_fault, HasNoNameFault, IsNameFaultOf}
+use Rattle.plain_records.specs.FlatLimits.Counts.{node_fault, merge_fault, HasNoNodeFault, IsNodeFaultOf, IsMergeFaultOf}
 use Rattle.plain_records.specs.Plains.{plains, AreArrayRecords}
 use Rattle.plain_records.specs.Thin.{thin, thins}
 use Rattle.plain_records.specs.Reached.{with_merges, AreCalled, HasNoReachFault, IsExpandedAt}

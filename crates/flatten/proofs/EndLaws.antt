@@ -13,9 +13,9 @@ use Rattle.ext_model.specs.RecordNames.{node_names}
 use Rattle.circuit_model.specs.Elements.{Element}
 use Rattle.circuit_model.specs.FullNames.{name_in}
 use Rattle.element_tree.specs.declared.tree.TreeElement.{TreeElement}
-use Rattle.full_names.specs.declared.names.FullNames.{FullNames}
-use Rattle.full_names.specs.Names.{AreNames, IsElement, IsSpotOf, elements_in}
-use Rattle.full_names.specs.NameLists.{IsFullNameList}
+use Rattle.name_classes.specs.FullNames.declared.names.FullNames.{FullNames}
+use Rattle.name_classes.specs.FullNames.Names.{AreNames, IsElement, IsSpotOf, elements_in}
+use Rattle.name_classes.specs.FullNames.NameLists.{IsFullNameList}
 use Rattle.flatten.proofs.FlatLimits.TreeLaws.{no_flat}
 use Rattle.name_classes.specs.declared.classes.NameClasses.{NameClasses}
 use Rattle.flatten.proofs.PlaceLaws.{place_of}

@@ -12,13 +12,13 @@ use Rattle.circuit_model.specs.declared.faults.FlatFault.TheVariants.{TooMany, C
 use Rattle.circuit_model.specs.declared.limits.CircuitLimit.{CircuitLimit}
 use Rattle.circuit_model.specs.declared.limits.CircuitLimit.TheVariants.{Depth, Elements, Nodes, Merges}
 use Rattle.circuit_model.specs.Elements.{Element, ext_of, elements_of}
-use Rattle.full_names.specs.declared.names.FullNames.{FullNames}
-use Rattle.full_names.specs.Names.{AreNames, elements_in}
+use Rattle.name_classes.specs.FullNames.declared.names.FullNames.{FullNames}
+use Rattle.name_classes.specs.FullNames.Names.{AreNames, elements_in}
 use Rattle.circuit_model.specs.Refusals.{past, class_fault, node_count, merge_count, walk_fault, depth_of, count_fault, flat_fault, IsFlatFaultOf, IsFlatOf}
 use Rattle.circuit_model.specs.declared.limits.TheConstants.{LONGEST_CHAIN, MOST_FLAT_ELEMENTS, MOST_NODES, MOST_MERGES}
 use Rattle.element_tree.specs.Trees.{tree_fault}
-use Rattle.full_names.specs.NameLists.{name_fault}
-use Rattle.flat_limits.specs.Counts.{node_fault, merge_fault}
+use Rattle.name_classes.specs.FullNames.NameLists.{name_fault}
+use Rattle.plain_records.specs.FlatLimits.Counts.{node_fault, merge_fault}
 use Rattle.flatten.specs.steps.Stages.{use_fault, number_fault, late_fault, HasNoUseFault, HasNoCountFault, HasNoLateFault}
 use Rattle.flatten.specs.steps.Stages.{IsLateFaultOf, IsMeantAt}
 use Rattle.flatten.specs.Sinks.{IsGiven}

@@ -11,7 +11,7 @@ use Rattle.ext_model.specs.RecordNames.{names_of}
 use Rattle.circuit_model.specs.Elements.{Element}
 use Rattle.circuit_model.specs.FullNames.{IsFullName, AreOneNode, AreInNameOrder}
 use Rattle.circuit_model.specs.FlatNodes.{measure_of, IsPlaced, IsFlatNode, AreFlatNodes}
-use Rattle.full_names.specs.NameLists.{IsFullNameList}
+use Rattle.name_classes.specs.FullNames.NameLists.{IsFullNameList}
 use Rattle.name_classes.specs.Classes.{AreLabels}
 use Rattle.flatten.specs.steps.Labels.{label_of, group_of, AreNamed}
 use Rattle.flatten.proofs.GroupLaws.{in_group, from_group, group_in_order, one_node, one_label}

@@ -13,8 +13,8 @@ use Rattle.ext_model.specs.NameOrder.{name_cmp}
 use Rattle.ext_model.proofs.NameOrders.{name_cmp_total}
 use Rattle.circuit_model.specs.Elements.{Element}
 use Rattle.circuit_model.specs.FullNames.{AreInNameOrder}
-use Rattle.full_names.specs.NameLists.{IsFullNameList}
-use Rattle.full_names.proofs.ListOrders.{same_in_order, pairwise_names}
+use Rattle.name_classes.specs.FullNames.NameLists.{IsFullNameList}
+use Rattle.name_classes.proofs.FullNames.ListOrders.{same_in_order, pairwise_names}
 use Rattle.flatten.specs.steps.Labels.{label_of}
 
 -- a name is itself

@@ -1,5 +1,5 @@
 -- what crates above name of those below
-pub use Rattle.flat_limits.proofs as FlatLimits
+pub use Rattle.plain_records.proofs.FlatLimits as FlatLimits
 pub use Rattle.name_classes.proofs as NameClasses
 mod PlaceLaws
 mod LabelLaws

@@ -18,9 +18,9 @@ use Rattle.circuit_model.specs.Elements.{Element}
 use Rattle.circuit_model.specs.FlatNodes.{IsPlaced}
 use Rattle.element_tree.specs.declared.tree.TreeElement.{TreeElement}
 use Rattle.element_tree.specs.declared.tree.ElementTree.{ElementTree}
-use Rattle.full_names.specs.declared.names.FullNames.{FullNames}
-use Rattle.full_names.specs.declared.names.Origin.{Origin}
-use Rattle.full_names.specs.Names.{AreNames, ComesFrom, GivesText, elements_in}
+use Rattle.name_classes.specs.FullNames.declared.names.FullNames.{FullNames}
+use Rattle.name_classes.specs.FullNames.declared.names.Origin.{Origin}
+use Rattle.name_classes.specs.FullNames.Names.{AreNames, ComesFrom, GivesText, elements_in}
 use Rattle.flatten.proofs.FlatLimits.TreeLaws.{no_flat}
 use Rattle.flatten.specs.steps.Spots.{element_at}
 use Rattle.flatten.proofs.LabelLaws.{one_list}

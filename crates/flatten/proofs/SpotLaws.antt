@@ -17,14 +17,14 @@ use Rattle.ext_model.specs.declared.records.TermRec.{TermRec}
 use Rattle.ext_model.specs.declared.records.CellExt.{CellExt}
 use Rattle.ext_model.specs.Lawful.{IsLawful, IsLawfulFet, IsLawfulTerm}
 use Rattle.ext_model.specs.RecordNames.{names_of, node_names}
-use Rattle.full_names.specs.declared.names.FullNames.{FullNames}
-use Rattle.full_names.specs.declared.names.Spot.{Spot}
-use Rattle.full_names.specs.Names.{AreNames, IsElement, IsSpotOf, HasSpot, GivesName, elements_in}
+use Rattle.name_classes.specs.FullNames.declared.names.FullNames.{FullNames}
+use Rattle.name_classes.specs.FullNames.declared.names.Spot.{Spot}
+use Rattle.name_classes.specs.FullNames.Names.{AreNames, IsElement, IsSpotOf, HasSpot, GivesName, elements_in}
 use Rattle.element_tree.specs.declared.tree.TreeElement.{TreeElement}
 use Rattle.element_tree.specs.declared.tree.ElementTree.{ElementTree}
 use Rattle.element_tree.specs.Trees.{StandsFor, AreAt}
-use Rattle.full_names.specs.NameLists.{IsFullNameList}
-use Rattle.flat_limits.proofs.TreeLaws.{no_flat}
+use Rattle.name_classes.specs.FullNames.NameLists.{IsFullNameList}
+use Rattle.plain_records.proofs.FlatLimits.TreeLaws.{no_flat}
 use Rattle.circuit_model.specs.FullNames.{name_in}
 use Rattle.flatten.specs.steps.Spots.{IsCellOf, HasNames, HasFetNames, HasSpotAt, AreSpotsIn, AreCellSpots, element_at, cell_at, no_element}
 use Rattle.flatten.specs.declared.spots.CellSpots.{CellSpots}

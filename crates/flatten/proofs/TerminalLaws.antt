@@ -28,11 +28,11 @@ use Rattle.flatten.proofs.NodeLaws.{node_found, before_node, one_number}
 use Rattle.flatten.proofs.PlaceLaws.{place_of, AreAlong-at}
 use Rattle.flatten.proofs.SpotLaws.{spot_named}
 use Rattle.flatten.specs.steps.Spots.{AreSpotsOf, AreLabelsOf, AreNamedOf, element_at, cell_at}
-use Rattle.full_names.specs.declared.names.FullNames.{FullNames}
-use Rattle.full_names.specs.declared.names.Spot.{Spot}
-use Rattle.full_names.specs.declared.names.Spot.TheVariants.{Local}
-use Rattle.full_names.specs.NameLists.{IsFullNameList}
-use Rattle.full_names.specs.Names.{AreNames, IsSpotOf, elements_in}
+use Rattle.name_classes.specs.FullNames.declared.names.FullNames.{FullNames}
+use Rattle.name_classes.specs.FullNames.declared.names.Spot.{Spot}
+use Rattle.name_classes.specs.FullNames.declared.names.Spot.TheVariants.{Local}
+use Rattle.name_classes.specs.FullNames.NameLists.{IsFullNameList}
+use Rattle.name_classes.specs.FullNames.Names.{AreNames, IsSpotOf, elements_in}
 use Rattle.flatten.specs.declared.sides.Side.{Side}
 use Rattle.flatten.specs.steps.Sides.{side_of, length_at, AreAscending, AreJoined, name_of_node, named_side, AreFlatTerminals}
 

@@ -21,8 +21,8 @@ use Rattle.circuit_model.specs.FullNames.{name_in}
 use Rattle.circuit_model.specs.FlatNodes.{has_name, share_of, sum_of}
 use Rattle.circuit_model.specs.Refusals.{node_count, merge_count}
 use Rattle.circuit_model.specs.declared.limits.TheConstants.{MOST_NODES, MOST_MERGES}
-use Rattle.full_names.specs.declared.names.FullNames.{FullNames}
-use Rattle.full_names.specs.Names.{AreNames, elements_in}
+use Rattle.name_classes.specs.FullNames.declared.names.FullNames.{FullNames}
+use Rattle.name_classes.specs.FullNames.Names.{AreNames, elements_in}
 use Rattle.flatten.proofs.FlatLimits.TreeLaws.{no_flat}
 use Rattle.flatten.specs.steps.Labels.{label_of}
 use Rattle.flatten.specs.steps.Spots.{element_at, no_element}

@@ -12,9 +12,9 @@ use crate::flat::{elements_at, flatten_plain};
 use crate::sinks::{AllFets, FetSink, GivenCircuit};
 use circuit_model::FlatFault;
 use ext_model::{ArrayExt, CellExt, Circuit};
-use flat_limits::{check_nodes, root_number};
-use full_names::full_names;
+use name_classes::full_names::full_names;
 use names_lists::{List, Name};
+use plain_records::flat_limits::{check_nodes, root_number};
 use plain_records::{check_rows, expanded, may_have_too_many, reached_records, thin_records};
 use std::alloc::Global;
 

@@ -5,7 +5,7 @@ ghost use Rattle.circuit_model.specs.Elements.{Element};
 ghost use Rattle.circuit_model.specs.Circuits.{IsCircuitOf};
 ghost use Rattle.circuit_model.specs.FlatNodes.{AreFlatNodes};
 ghost use Rattle.circuit_model.specs.Refusals.{node_count, merge_count};
-ghost use Rattle.full_names.specs.Names.{AreNames, elements_in};
+ghost use Rattle.name_classes.specs.FullNames.Names.{AreNames, elements_in};
 ghost use Rattle.name_classes.specs.Classes.{AreClasses};
 ghost use Rattle.flatten.specs.steps.Spots.{AreCellSpots, AreNamedOf};
 ghost use Rattle.flatten.specs.Sinks.{AllFit, IsGiven};
@@ -19,8 +19,8 @@ use crate::sums::node_sums;
 use circuit_model::{MOST_MERGES, MOST_NODES};
 use element_tree::ElementTree;
 use ext_model::{CellExt, NodeRec};
-use full_names::FullNames;
 use name_classes::NameClasses;
+use name_classes::full_names::FullNames;
 use names_lists::List;
 use std::alloc::{AllocError, Global};
 

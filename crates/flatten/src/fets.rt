@@ -2,7 +2,7 @@
 ghost use Rattle.std.specs.Prelude.{◌≡◌, ◌<◌, IfOk, OnOk, All, length, map};
 ghost use Rattle.ext_model.specs.Lawful.{IsLawfulFet};
 ghost use Rattle.circuit_model.specs.FlatFets.{IsFlatFet, side_name, fets_of};
-ghost use Rattle.full_names.specs.Names.{AreNames, elements_in};
+ghost use Rattle.name_classes.specs.FullNames.Names.{AreNames, elements_in};
 ghost use Rattle.flatten.specs.steps.Spots.{AreFetSpots, AreFetSpotsOf, AreCellSpots, AreLabelsOf, AreNamedOf, cell_at, element_at};
 ghost use Rattle.flatten.specs.Sinks.{AllFit, GivesFets};
 
@@ -12,8 +12,8 @@ use crate::sinks::FetSink;
 use crate::spots::{CellSpots, FetSpots};
 use element_tree::ElementTree;
 use ext_model::{CellExt, FetRec, NodeRec, TermRec};
-use full_names::FullNames;
 use geo_core::Square;
+use name_classes::full_names::FullNames;
 use names_lists::List;
 use std::alloc::{AllocError, Global};
 

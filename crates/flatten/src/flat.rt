@@ -3,7 +3,7 @@ ghost use Rattle.std.specs.Prelude.{◌≡◌, ◌⊎◌, ◌<◌, length, IsSom
 ghost use Rattle.circuit_model.specs.Elements.{AreRecords, ext_of};
 ghost use Rattle.circuit_model.specs.Refusals.{IsFlatOf, IsFlatFaultOf};
 ghost use Rattle.element_tree.specs.Trees.{IsTreeOf};
-ghost use Rattle.full_names.specs.Names.{AreNames};
+ghost use Rattle.name_classes.specs.FullNames.Names.{AreNames};
 ghost use Rattle.flatten.specs.Sinks.{AllFit, IsGiven};
 ghost use Rattle.flatten.specs.steps.Stages.{HasNoUseFault, IsUseFaultOf, HasNoCountFault, IsCountFaultOf, HasNoLateFault, IsLateFaultOf, IsMeantAt};
 
@@ -12,10 +12,10 @@ use crate::sinks::{FetSink, GivenCircuit};
 use circuit_model::FlatFault;
 use element_tree::{ElementTree, element_tree, record_graph};
 use ext_model::CellExt;
-use flat_limits::{check_classes, check_merges, check_nodes, root_number};
-use full_names::{FullNames, full_names};
+use name_classes::full_names::{FullNames, full_names};
 use name_classes::name_classes;
 use names_lists::Name;
+use plain_records::flat_limits::{check_classes, check_merges, check_nodes, root_number};
 use std::alloc::Global;
 
 /// The elements of the tree at a record, where it has no fault up to their number.

@@ -1,9 +1,9 @@
 //! Labels of names.
 ghost use Rattle.std.specs.Prelude.{◌<◌, length};
-ghost use Rattle.full_names.specs.Names.{AreNames, elements_in};
+ghost use Rattle.name_classes.specs.FullNames.Names.{AreNames, elements_in};
 ghost use Rattle.flatten.specs.steps.Spots.{HasSpotAt, HaveLabels, GivesNode, IsLabel};
 
-use full_names::{FullNames, Spot};
+use name_classes::full_names::{FullNames, Spot};
 
 /// The number of the node of a name of an element's record. It takes no memory.
 pub fn node_of(names: &FullNames<'_>, labels: &[usize], element: usize, spot: Spot) -> usize

@@ -1,14 +1,14 @@
 //! Nodes out of full names in order.
 ghost use Rattle.std.specs.Prelude.{◌≡◌, ◌<◌, ◌∷◌, [], IfOk, OnOk};
 ghost use Rattle.ext_model.specs.RecordNames.{names_of};
-ghost use Rattle.full_names.specs.Names.{AreNames};
+ghost use Rattle.name_classes.specs.FullNames.Names.{AreNames};
 ghost use Rattle.flatten.specs.steps.Spots.{AreLabelsOf, AreNamedOf};
 ghost use Rattle.flatten.specs.steps.Named.{HasText, IsPlacedAt, HasAlias, ArePlaced};
 
 use element_tree::ElementTree;
 use ext_model::{CellExt, NodeRec};
-use full_names::FullNames;
 use geo_core::Square;
+use name_classes::full_names::FullNames;
 use names_lists::{List, Name};
 use std::alloc::{AllocError, Global};
 use std::mem;

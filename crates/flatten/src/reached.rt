@@ -1,10 +1,10 @@
 //! Which records elements have.
 ghost use Rattle.std.specs.Prelude.{◌≡◌, IfOk, length};
-ghost use Rattle.full_names.specs.Names.{AreNames};
+ghost use Rattle.name_classes.specs.FullNames.Names.{AreNames};
 ghost use Rattle.flatten.specs.steps.Spots.{AreReached};
 
 use element_tree::ElementTree;
-use full_names::FullNames;
+use name_classes::full_names::FullNames;
 use std::alloc::{AllocError, Global};
 
 /// At each record whether an element has it. Want of memory alone refuses.

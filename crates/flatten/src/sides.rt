@@ -1,14 +1,14 @@
 //! Terminals between nodes of the flat circuit.
 ghost use Rattle.std.specs.Prelude.{◌≡◌, ◌<◌, IfOk, OnOk, All, IsPermutation, length, map, sum_by};
 ghost use Rattle.std.specs.Int.RustNames.{unsigned_abs};
-ghost use Rattle.full_names.specs.Names.{AreNames, elements_in};
+ghost use Rattle.name_classes.specs.FullNames.Names.{AreNames, elements_in};
 ghost use Rattle.flatten.specs.steps.Spots.{HaveLabels, AreSpotsOf, cell_at};
 ghost use Rattle.flatten.specs.steps.Spots.{AreLabelsOf, AreNamedOf, element_at};
 ghost use Rattle.flatten.specs.steps.Sides.{AreSides, AreByNode, AreShort, FitsLast, with_side, AreJoined, named_side, AreFlatTerminals};
 
 use crate::labels::node_of;
 use ext_model::{LENGTHS_EDGE, NodeRec, TermRec};
-use full_names::{FullNames, Spot};
+use name_classes::full_names::{FullNames, Spot};
 use std::alloc::{AllocError, Global};
 
 /// A node of the flat circuit beside a transistor, and the length of its edges there.

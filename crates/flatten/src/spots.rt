@@ -1,12 +1,12 @@
 //! The spots of the names that records have of their nodes and beside their transistors.
 ghost use Rattle.std.specs.Prelude.{◌≡◌, true, IfOk, All, map};
-ghost use Rattle.full_names.specs.Names.{AreNames, IsSpotOf};
+ghost use Rattle.name_classes.specs.FullNames.Names.{AreNames, IsSpotOf};
 ghost use Rattle.flatten.specs.steps.Spots.{HasName, HasNames, HasFetNames, AreSpotsOf, AreFetSpots, AreFetSpotsOf, AreSpotsIn, IsCellOf, AreCellSpots};
 
 use crate::reached::reached_cells;
 use element_tree::ElementTree;
 use ext_model::{CellExt, FetRec, NodeRec, TermRec};
-use full_names::{FullNames, Spot};
+use name_classes::full_names::{FullNames, Spot};
 use names_lists::{List, Name};
 use std::alloc::{AllocError, Global};
 

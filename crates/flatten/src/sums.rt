@@ -3,7 +3,7 @@ ghost use Rattle.std.specs.Prelude.{◌≡◌, ◌<◌, ◌≤◌, ◌^◌, [], 
 ghost use Rattle.finite_sets.specs.Lists.{In};
 ghost use Rattle.circuit_model.specs.Elements.{Element};
 ghost use Rattle.circuit_model.specs.Refusals.{node_count, merge_count};
-ghost use Rattle.full_names.specs.Names.{AreNames, elements_in};
+ghost use Rattle.name_classes.specs.FullNames.Names.{AreNames, elements_in};
 ghost use Rattle.name_classes.specs.Classes.{AreClasses, HasEnds};
 ghost use Rattle.flatten.specs.steps.Spots.{HaveLabels, AreSpotsOf, AreCellSpots, cell_at, element_at};
 ghost use Rattle.flatten.specs.steps.Sums.{HaveSums, HaveRoomForNodes, HaveRoomForMerges, AddNodes, AddMerges, AreNodeSums};
@@ -14,7 +14,7 @@ use crate::spots::CellSpots;
 use circuit_model::{MOST_MERGES, MOST_NODES};
 use element_tree::ElementTree;
 use ext_model::{CellExt, MergeRec, NodeRec};
-use full_names::{FullNames, Spot};
+use name_classes::full_names::{FullNames, Spot};
 use name_classes::{MergeEnd, NameClasses};
 use std::alloc::{AllocError, Global};
 

@@ -4,12 +4,12 @@ use Rattle.std.proofs.Common.{subst, arith}
 use Rattle.std.proofs.lemmas.Bool.{and_from, and_parts}
 use Rattle.std.proofs.lemmas.Int.{ints}
 use Rattle.std.proofs.lemmas.Option.{slice_get_within}
-use Rattle.finite_sets.specs.Lists.{In, Distinct, Lists}
-use Rattle.finite_sets.specs.Total.{sum_on, Total, one_if}
-use Rattle.finite_sets.specs.Range.{pairs_of}
-use Rattle.finite_sets.proofs.Ranges.{Lists-pairs_of}
-use Rattle.finite_sets.proofs.Sums.{sum_on-same, sum_on-add, sum_on-nothing}
-use Rattle.finite_sets.proofs.Totals.{Total-iff, Total-at}
+use Rattle.geo_core.specs.FiniteSets.Lists.{In, Distinct, Lists}
+use Rattle.geo_core.specs.FiniteSets.Total.{sum_on, Total, one_if}
+use Rattle.geo_core.specs.FiniteSets.Range.{pairs_of}
+use Rattle.geo_core.proofs.FiniteSets.Ranges.{Lists-pairs_of}
+use Rattle.geo_core.proofs.FiniteSets.Sums.{sum_on-same, sum_on-add, sum_on-nothing}
+use Rattle.geo_core.proofs.FiniteSets.Totals.{Total-iff, Total-at}
 use Rattle.rect_contacts.specs.declared.contacts.Contact.{Contact}
 use Rattle.layout_model.specs.Places.{Place}
 use Rattle.layout_model.specs.Layouts.{Layout}

@@ -12,9 +12,9 @@ use Rattle.geo_core.specs.declared.squares.Rect.{Rect}
 use Rattle.geo_core.specs.Areas.{IsNear, corner_of}
 use Rattle.geo_core.specs.Covering.{Covers, IsProper, is_covered}
 use Rattle.geo_core.proofs.CoveringLaws.{Covers-is_covered, is_covered-Covers}
-use Rattle.finite_sets.specs.Lists.{In}
-use Rattle.finite_sets.proofs.Members.{In-get_or, In-index, In-map_source}
-use Rattle.finite_sets.proofs.Searches.{All-from_In}
+use Rattle.geo_core.specs.FiniteSets.Lists.{In}
+use Rattle.geo_core.proofs.FiniteSets.Members.{In-get_or, In-index, In-map_source}
+use Rattle.geo_core.proofs.FiniteSets.Searches.{All-from_In}
 use Rattle.tech_model.specs.declared.raw.RawTech.{RawTech}
 use Rattle.tech_model.specs.declared.raw.TypeId.{TypeId}
 use Rattle.tech_model.specs.WellFormed.{IsWellFormed}

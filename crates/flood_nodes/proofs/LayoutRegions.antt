@@ -6,9 +6,9 @@ use Rattle.std.proofs.lemmas.Option.{slice_get_within, get_or_from_slice_get, sa
 use Rattle.geo_core.specs.declared.squares.Square.{Square}
 use Rattle.geo_core.specs.Covering.{Covers, IsProper}
 use Rattle.rect_contacts.proofs.Shared.{shared_length-comm}
-use Rattle.finite_sets.specs.Chain.{EitherWay}
-use Rattle.finite_sets.specs.Chain.Chain.{stay, go}
-use Rattle.finite_sets.proofs.Chains.{Chain-one, Chain-append, Chain-map, Chain-same}
+use Rattle.geo_core.specs.FiniteSets.Chain.{EitherWay}
+use Rattle.geo_core.specs.FiniteSets.Chain.Chain.{stay, go}
+use Rattle.geo_core.proofs.FiniteSets.Chains.{Chain-one, Chain-append, Chain-map, Chain-same}
 use Rattle.partition.specs.Divides.{IsJoined, Divides}
 use Rattle.layout_model.specs.Places.{Place, AreNeighbours, AreStacked}
 use Rattle.layout_model.specs.Layouts.{Layout, IsMaterial}

@@ -10,12 +10,12 @@ use Rattle.geo_core.specs.declared.squares.Rect.{Rect}
 use Rattle.geo_core.specs.declared.squares.Square.{Square}
 use Rattle.geo_core.specs.Areas.{AreDisjoint, IsNear}
 use Rattle.geo_core.specs.Covering.{Covers, IsProper}
-use Rattle.finite_sets.specs.Chain.{EitherWay}
-use Rattle.finite_sets.specs.Lists.{In, Lists}
-use Rattle.finite_sets.proofs.Distincts.{Distinct-places}
-use Rattle.finite_sets.proofs.Listings.{Lists-iff, Lists-append, Lists-one, Lists-filter}
-use Rattle.finite_sets.proofs.Members.{In-append_left, In-append_right, In-append_cases, In-get_or, In-index, In-map, In-map_source, In-filter}
-use Rattle.finite_sets.proofs.Members.{In-filter_source, In-filter_passes}
+use Rattle.geo_core.specs.FiniteSets.Chain.{EitherWay}
+use Rattle.geo_core.specs.FiniteSets.Lists.{In, Lists}
+use Rattle.geo_core.proofs.FiniteSets.Distincts.{Distinct-places}
+use Rattle.geo_core.proofs.FiniteSets.Listings.{Lists-iff, Lists-append, Lists-one, Lists-filter}
+use Rattle.geo_core.proofs.FiniteSets.Members.{In-append_left, In-append_right, In-append_cases, In-get_or, In-index, In-map, In-map_source, In-filter}
+use Rattle.geo_core.proofs.FiniteSets.Members.{In-filter_source, In-filter_passes}
 use Rattle.tech_model.specs.declared.raw.RawTech.{RawTech}
 use Rattle.tech_model.specs.Types.{is_type, plane_of, connects}
 use Rattle.tech_model.specs.WellFormed.{IsWellFormed}

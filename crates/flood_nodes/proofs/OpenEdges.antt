@@ -5,11 +5,11 @@ use Rattle.std.proofs.lemmas.Int.{ints}
 use Rattle.std.proofs.lemmas.Option.{slice_get_within, slice_get-get_or, get_or_from_slice_get}
 use Rattle.geo_core.specs.declared.squares.Square.{Square}
 use Rattle.geo_core.specs.Neighbours.{AreEdgeNeighbours, edge_neighbours}
-use Rattle.finite_sets.specs.Lists.{In, Lists}
-use Rattle.finite_sets.specs.Total.{sum_on, Total, one_if}
-use Rattle.finite_sets.proofs.Listings.{Lists-iff, Lists-map}
-use Rattle.finite_sets.proofs.Sums.{sum_on-same, sum_on-sub, sum_on-scale, sum_on-map}
-use Rattle.finite_sets.proofs.Totals.{Total-iff, Total-at, Total-from_list, Total-filter, Total-map, Total-parts, Total-unique, Total-unfilter}
+use Rattle.geo_core.specs.FiniteSets.Lists.{In, Lists}
+use Rattle.geo_core.specs.FiniteSets.Total.{sum_on, Total, one_if}
+use Rattle.geo_core.proofs.FiniteSets.Listings.{Lists-iff, Lists-map}
+use Rattle.geo_core.proofs.FiniteSets.Sums.{sum_on-same, sum_on-sub, sum_on-scale, sum_on-map}
+use Rattle.geo_core.proofs.FiniteSets.Totals.{Total-iff, Total-at, Total-from_list, Total-filter, Total-map, Total-parts, Total-unique, Total-unfilter}
 use Rattle.rect_contacts.specs.declared.contacts.Contact.{Contact}
 use Rattle.rect_contacts.specs.Squares.{squares_of, area_of, perimeter_of}
 use Rattle.rect_contacts.proofs.Leading.{sum_on-squares_of}

@@ -8,11 +8,11 @@ use Rattle.std.proofs.lemmas.List.{get_or-map, get_or_default, length-map, ext_g
 use Rattle.std.proofs.lemmas.Option.{slice_get_within, slice_get-get_or, get_or_from_slice_get}
 use Rattle.geo_core.specs.Areas.{IsNear}
 use Rattle.geo_core.specs.Covering.{Covers, IsProper}
-use Rattle.finite_sets.specs.Lists.{In, Lists}
-use Rattle.finite_sets.proofs.Distincts.{Distinct-places, Distinct-from_places}
-use Rattle.finite_sets.proofs.Listings.{Lists-iff}
-use Rattle.finite_sets.proofs.Members.{In-index, In-get_or}
-use Rattle.finite_sets.proofs.Searches.{list_any-source, list_any-passes}
+use Rattle.geo_core.specs.FiniteSets.Lists.{In, Lists}
+use Rattle.geo_core.proofs.FiniteSets.Distincts.{Distinct-places, Distinct-from_places}
+use Rattle.geo_core.proofs.FiniteSets.Listings.{Lists-iff}
+use Rattle.geo_core.proofs.FiniteSets.Members.{In-index, In-get_or}
+use Rattle.geo_core.proofs.FiniteSets.Searches.{list_any-source, list_any-passes}
 use Rattle.partition.specs.Divides.{Divides, IsPair}
 use Rattle.partition.specs.Marks.{IsNumbered}
 use Rattle.rect_contacts.specs.declared.contacts.Contact.{Contact}

@@ -7,9 +7,9 @@ use Rattle.geo_core.specs.Covering.{IsProper}
 use Rattle.rect_contacts.specs.Contacts.{shared_length}
 use Rattle.rect_contacts.proofs.Shared.{shared_length-same, shared_length-not_negative, shared_length-comm}
 use Rattle.layout_model.specs.declared.region_tiles.RegionTile.{RegionTile}
-use Rattle.finite_sets.specs.Lists.{Lists}
-use Rattle.finite_sets.specs.Total.{sum_on}
-use Rattle.finite_sets.proofs.Listings.{Lists-iff}
+use Rattle.geo_core.specs.FiniteSets.Lists.{Lists}
+use Rattle.geo_core.specs.FiniteSets.Total.{sum_on}
+use Rattle.geo_core.proofs.FiniteSets.Listings.{Lists-iff}
 use Rattle.rect_contacts.specs.declared.contacts.Contact.{Contact}
 use Rattle.rect_contacts.proofs.BothWays.{IsShare, Lists-below, shares_both_ways}
 use Rattle.flood_nodes.specs.TileShares.{tile_at, no_tile, indices_of, shared_by, IsTileContact}

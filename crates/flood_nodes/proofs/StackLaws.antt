@@ -5,9 +5,9 @@ use Rattle.std.specs.Prelude.{nat_lt, is_some, find}
 use Rattle.std.specs.List.{list_any}
 use Rattle.std.proofs.lemmas.Bool.{cases_Bool, false≢true, and_parts}
 use Rattle.std.proofs.lemmas.Bool.Decides.{nat_tests}
-use Rattle.finite_sets.specs.Lists.{In}
-use Rattle.finite_sets.proofs.Members.{In-index}
-use Rattle.finite_sets.proofs.Searches.{find-none}
+use Rattle.geo_core.specs.FiniteSets.Lists.{In}
+use Rattle.geo_core.proofs.FiniteSets.Members.{In-index}
+use Rattle.geo_core.proofs.FiniteSets.Searches.{find-none}
 use Rattle.tech_model.specs.declared.raw.TypeId.{TypeId}
 use Rattle.tech_model.specs.declared.raw.RawTech.{RawTech}
 use Rattle.tech_model.specs.Types.{is_type, plane_of, layer_of, images_of, image_on, is_on, is_of, is_pair, connects}

@@ -12,11 +12,11 @@ use Rattle.geo_core.specs.Neighbours.{AreEdgeNeighbours, edge_neighbours, right_
 use Rattle.geo_core.proofs.CoveringLaws.{Covers-is_covered, is_covered-Covers}
 use Rattle.geo_core.proofs.NeighbourLaws.{AreEdgeNeighbours-right_of, AreEdgeNeighbours-above}
 use Rattle.geo_core.proofs.SquareLaws.{square_is}
-use Rattle.finite_sets.specs.Lists.{In, Distinct, Lists}
-use Rattle.finite_sets.specs.Total.{sum_on, Total, one_if}
-use Rattle.finite_sets.proofs.Listings.{Lists-iff, Lists-map}
-use Rattle.finite_sets.proofs.Sums.{sum_on-map}
-use Rattle.finite_sets.proofs.Totals.{Total-iff, Total-at, Total-none, Total-from_list, Total-filter, Total-map, Total-parts}
+use Rattle.geo_core.specs.FiniteSets.Lists.{In, Distinct, Lists}
+use Rattle.geo_core.specs.FiniteSets.Total.{sum_on, Total, one_if}
+use Rattle.geo_core.proofs.FiniteSets.Listings.{Lists-iff, Lists-map}
+use Rattle.geo_core.proofs.FiniteSets.Sums.{sum_on-map}
+use Rattle.geo_core.proofs.FiniteSets.Totals.{Total-iff, Total-at, Total-none, Total-from_list, Total-filter, Total-map, Total-parts}
 use Rattle.rect_contacts.specs.Contacts.{shared_length}
 use Rattle.rect_contacts.specs.Squares.{squares_of, edges_between}
 use Rattle.rect_contacts.proofs.Leading.{Lists-squares_of, edges_between-disjoint, edges_between-same}

@@ -7,11 +7,11 @@ use Rattle.geo_core.specs.Covering.{Covers}
 use Rattle.geo_core.specs.Neighbours.{AreEdgeNeighbours, right_of, above}
 use Rattle.geo_core.proofs.NeighbourLaws.{AreEdgeNeighbours-sym, AreEdgeNeighbours-right_of, AreEdgeNeighbours-above}
 use Rattle.geo_core.proofs.SquareLaws.{square_is}
-use Rattle.finite_sets.specs.Chain.{Chain}
-use Rattle.finite_sets.specs.Chain.Chain.{go}
-use Rattle.finite_sets.specs.Range.{extent}
-use Rattle.finite_sets.proofs.Chains.{Chain-append, Chain-back, Chain-same}
-use Rattle.finite_sets.proofs.Ranges.{extent_up}
+use Rattle.geo_core.specs.FiniteSets.Chain.{Chain}
+use Rattle.geo_core.specs.FiniteSets.Chain.Chain.{go}
+use Rattle.geo_core.specs.FiniteSets.Range.{extent}
+use Rattle.geo_core.proofs.FiniteSets.Chains.{Chain-append, Chain-back, Chain-same}
+use Rattle.geo_core.proofs.FiniteSets.Ranges.{extent_up}
 
 -- a step from a square of the rectangle to a neighbour in it
 pub record StepsIn (area : Rect) (a b : Square) : Type 0 where

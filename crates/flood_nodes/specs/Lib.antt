@@ -1,3 +1,5 @@
+-- what crates above name of those below
+pub use Rattle.rect_contacts.specs as RectContacts
 pub mod Renumbered
 pub mod SoundTiles
 pub mod Stacking

@@ -2,8 +2,8 @@
 use Rattle.std.specs.Prelude.{◌≡◌, ◌≢◌, ◌<◌, ◌==◌, ◌&&◌, ℕ, ℤ, pos, ◌+ℤ◌, ◌-ℤ◌, ◌*ℤ◌, ◌<ℤ◌, Bool, true, false, not, IsTrue, if◌then◌else◌, List, length}
 use Rattle.std.specs.Prelude.{slice_index_or, All, AllPairs}
 use Rattle.std.specs.List.{range_with_len, list_any}
-use Rattle.finite_sets.specs.Lists.{Lists}
-use Rattle.finite_sets.specs.Total.{sum_on, one_if}
+use Rattle.geo_core.specs.FiniteSets.Lists.{Lists}
+use Rattle.geo_core.specs.FiniteSets.Total.{sum_on, one_if}
 use Rattle.geo_core.specs.declared.squares.Rect.{Rect}
 use Rattle.rect_contacts.specs.declared.contacts.Contact.{Contact}
 use Rattle.rect_contacts.specs.Contacts.{shared_length}

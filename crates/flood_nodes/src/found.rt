@@ -1,5 +1,5 @@
 //! Regions that are found, with the edges that their tiles share.
-ghost use Rattle.finite_sets.specs.Lists.{Lists};
+ghost use Rattle.geo_core.specs.FiniteSets.Lists.{Lists};
 ghost use Rattle.std.proofs.Props.{props};
 ghost use Rattle.std.specs.Prelude.{All};
 ghost use Rattle.flood_nodes.specs.SoundTiles.{IsSoundTile};

@@ -19,3 +19,4 @@ mod sharing;
 
 pub use flooding::{regions, regions_of_tiles};
 pub use found::Regions;
+pub use rect_contacts;

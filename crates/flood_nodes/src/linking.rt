@@ -1,6 +1,6 @@
 //! Which tiles are linked: those that share an edge on one plane, or a square on two, and whose types connect.
 ghost use Rattle.std.specs.Prelude.{◌≡◌, ◌<◌, ◌++◌, map, filter, length, IfOk, OnOk, All, IsTrue};
-ghost use Rattle.finite_sets.specs.Lists.{Lists};
+ghost use Rattle.geo_core.specs.FiniteSets.Lists.{Lists};
 ghost use Rattle.tech_model.specs.Types.{connects, is_type, layer_of};
 ghost use Rattle.tech_model.specs.WellFormed.{IsWellFormed};
 ghost use Rattle.partition.specs.Divides.{IsPair};

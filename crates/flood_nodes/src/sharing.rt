@@ -1,6 +1,6 @@
 //! The edges that tiles share: each plane is swept once.
 ghost use Rattle.std.specs.Prelude.{◌≡◌, ◌+◌, ◌<◌, ◌≤◌, ◌^◌, ◌++◌, map, length, take, drop, IfOk, OnOk, All, AllPairs};
-ghost use Rattle.finite_sets.specs.Lists.{Lists};
+ghost use Rattle.geo_core.specs.FiniteSets.Lists.{Lists};
 ghost use Rattle.geo_core.specs.Areas.{AreDisjoint, IsNear};
 ghost use Rattle.geo_core.specs.Covering.{IsProper};
 ghost use Rattle.flood_nodes.specs.steps.Runs.{shifted, areas_of, AddsContacts};

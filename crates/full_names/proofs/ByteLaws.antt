@@ -2,7 +2,7 @@
 use Rattle.std.proofs.Common.{◌≡◌, ℕ, ◌+◌, ◌<◌, ◌≤◌, List, Some, length, take, sym, ◌∙◌, ap, subst, arith}
 use Rattle.std.specs.Prelude.{slice_get}
 use Rattle.std.proofs.lemmas.List.Sums.{sum_by_more, sum_by_more_le}
-use Rattle.finite_sets.proofs.Places.{slice_get-below}
+use Rattle.ext_model.proofs.FiniteSets.Places.{slice_get-below}
 use Rattle.element_tree.specs.declared.tree.TreeElement.{TreeElement}
 use Rattle.full_names.specs.declared.own_names.OwnName.{OwnName}
 use Rattle.full_names.specs.declared.own_names.RecordNames.{RecordNames}

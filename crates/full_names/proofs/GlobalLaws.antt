@@ -16,10 +16,10 @@ use Rattle.std.proofs.lemmas.List.Sorted.{IsPermutation-sym}
 use Rattle.std.proofs.lemmas.Option.{slice_get_within, get_or_from_slice_get, same_Some}
 use Rattle.std.specs.Str.{bytes_eq}
 use Rattle.std.proofs.lemmas.Slice.Eq.{bytes_eq-Decides}
-use Rattle.finite_sets.specs.Lists.{In}
-use Rattle.finite_sets.proofs.Members.{In-push_cases, In-append_left, In-push, In-permutation}
-use Rattle.finite_sets.proofs.Orders.{IsSorted-pairs}
-use Rattle.finite_sets.proofs.Places.{In-slice_get, slice_get-In}
+use Rattle.ext_model.specs.FiniteSets.Lists.{In}
+use Rattle.ext_model.proofs.FiniteSets.Members.{In-push_cases, In-append_left, In-push, In-permutation}
+use Rattle.ext_model.proofs.FiniteSets.Orders.{IsSorted-pairs}
+use Rattle.ext_model.proofs.FiniteSets.Places.{In-slice_get, slice_get-In}
 use Rattle.element_tree.specs.declared.tree.TreeElement.{TreeElement}
 use Rattle.full_names.specs.declared.own_names.OwnName.{OwnName}
 use Rattle.full_names.specs.declared.own_names.RecordNames.{RecordNames}

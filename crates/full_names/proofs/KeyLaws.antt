@@ -5,9 +5,9 @@ use Rattle.std.specs.Prelude.{IsPermutation, IsSorted}
 use Rattle.std.proofs.lemmas.Bool.{cases_lt}
 use Rattle.std.proofs.lemmas.List.{get_or_append_left, get_or_push}
 use Rattle.std.proofs.lemmas.List.Sorted.{IsPermutation-sym, length_permutation}
-use Rattle.finite_sets.specs.Lists.{In}
-use Rattle.finite_sets.proofs.Members.{In-push_cases, In-append_left, In-push, In-permutation}
-use Rattle.finite_sets.proofs.Pairs.{AllPairs-permutation}
+use Rattle.ext_model.specs.FiniteSets.Lists.{In}
+use Rattle.ext_model.proofs.FiniteSets.Members.{In-push_cases, In-append_left, In-push, In-permutation}
+use Rattle.ext_model.proofs.FiniteSets.Pairs.{AllPairs-permutation}
 use Rattle.element_tree.specs.declared.tree.TreeElement.{TreeElement}
 use Rattle.full_names.specs.declared.own_names.RecordNames.{RecordNames}
 use Rattle.full_names.specs.declared.keys.NameKey.{NameKey}

@@ -9,9 +9,9 @@ use Rattle.std.specs.Ordering.{nat_cmp, bool_cmp, ordering_then}
 use Rattle.std.specs.Cmp.Lexicographic.{slice_cmp}
 use Rattle.std.proofs.lemmas.Bool.{not-true}
 use Rattle.std.proofs.lemmas.List.{length-map}
-use Rattle.finite_sets.specs.Lists.{In}
-use Rattle.finite_sets.proofs.Members.{In-get_or}
-use Rattle.finite_sets.proofs.Orders.{nat_cmp-add}
+use Rattle.ext_model.specs.FiniteSets.Lists.{In}
+use Rattle.ext_model.proofs.FiniteSets.Members.{In-get_or}
+use Rattle.ext_model.proofs.FiniteSets.Orders.{nat_cmp-add}
 use Rattle.ext_model.specs.declared.names.TheConstants.{GENERATED_MARK}
 use Rattle.ext_model.specs.declared.names.NameKind.TheVariants.{Global, Label, Generated}
 use Rattle.ext_model.specs.declared.records.UseRec.{UseRec}

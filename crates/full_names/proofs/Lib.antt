@@ -1,3 +1,9 @@
+-- what crates above name of those below
+pub use Rattle.ext_model.proofs.TextScan as TextScan
+pub use Rattle.ext_model.proofs.FiniteSets as FiniteSets
+pub use Rattle.ext_model.proofs.GeoCore as GeoCore
+pub use Rattle.ext_model.proofs as ExtModel
+pub use Rattle.element_tree.proofs as ElementTree
 mod Lookups
 mod OwnNameLaws
 mod SearchLaws

@@ -6,9 +6,9 @@ use Rattle.std.specs.declared.cmp.Ordering.{Ordering}
 use Rattle.std.specs.declared.cmp.Ordering.TheVariants.{Less, Equal, Greater}
 use Rattle.std.specs.Ordering.{is_lt, ordering_reverse}
 use Rattle.std.proofs.lemmas.Cmp.{tied_itself}
-use Rattle.finite_sets.specs.Lists.{In, Distinct}
-use Rattle.finite_sets.proofs.Pairs.{Pairwise}
-use Rattle.finite_sets.proofs.InOrder.{same_by_order, Pairwise-from_order, order-from_Pairwise, Distinct-by_order}
+use Rattle.ext_model.specs.FiniteSets.Lists.{In, Distinct}
+use Rattle.ext_model.proofs.FiniteSets.Pairs.{Pairwise}
+use Rattle.ext_model.proofs.FiniteSets.InOrder.{same_by_order, Pairwise-from_order, order-from_Pairwise, Distinct-by_order}
 use Rattle.ext_model.specs.NameOrder.{name_cmp}
 use Rattle.ext_model.proofs.NameOrders.{name_cmp_total}
 use Rattle.circuit_model.specs.FullNames.{AreInNameOrder}

@@ -3,8 +3,8 @@ use Rattle.std.proofs.Common.{◌≡◌, ℕ, ◌<◌, List, Some, length, get_o
 use Rattle.std.specs.Prelude.{slice_get, vec_len}
 use Rattle.std.proofs.lemmas.List.{get_or_read, length-map}
 use Rattle.std.proofs.lemmas.Option.{slice_get_within, slice_get_read, get_or_from_slice_get}
-use Rattle.finite_sets.proofs.Members.{In-get_or}
-use Rattle.finite_sets.specs.Lists.{In}
+use Rattle.ext_model.proofs.FiniteSets.Members.{In-get_or}
+use Rattle.ext_model.specs.FiniteSets.Lists.{In}
 use Rattle.circuit_model.specs.Elements.{Element}
 use Rattle.element_tree.specs.declared.tree.TreeElement.{TreeElement}
 use Rattle.full_names.specs.declared.names.FullNames.{FullNames}

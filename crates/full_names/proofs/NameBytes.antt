@@ -9,16 +9,16 @@ use Rattle.std.proofs.lemmas.List.Sums.{sum_by-cons, sum_by-append}
 use Rattle.std.proofs.lemmas.List.Sorted.{sum_by-IsPermutation}
 use Rattle.std.proofs.lemmas.Option.{slice_get-get_or, get_or_from_slice_get}
 use Rattle.std.proofs.lemmas.Slice.Eq.{bytes_eq-Decides}
-use Rattle.finite_sets.specs.Lists.{In, Distinct}
-use Rattle.finite_sets.specs.Total.{sum_on}
-use Rattle.finite_sets.proofs.Distincts.{Distinct-append, Distinct-filter, Distinct-map}
-use Rattle.finite_sets.proofs.Members.{In-append_cases, In-append_left, In-append_right, In-map}
-use Rattle.finite_sets.proofs.Members.{In-map_source, In-filter, In-filter_source, In-filter_passes}
-use Rattle.finite_sets.proofs.Pairs.{Pairwise, Pairwise-from_AllPairs}
-use Rattle.finite_sets.proofs.Searches.{In-from_list_any, absent-from_list_any}
-use Rattle.finite_sets.proofs.Sums.{sum_on-same_things, sum_by-map, sum_by-same, sum_by-flat_map, sum_by-pointwise}
-use Rattle.finite_sets.proofs.Images.{In-flat_map_source, In-flat_map, Distinct-flat_map}
-use Rattle.finite_sets.proofs.Places.{In-slice_get, slice_get-In}
+use Rattle.ext_model.specs.FiniteSets.Lists.{In, Distinct}
+use Rattle.ext_model.specs.FiniteSets.Total.{sum_on}
+use Rattle.ext_model.proofs.FiniteSets.Distincts.{Distinct-append, Distinct-filter, Distinct-map}
+use Rattle.ext_model.proofs.FiniteSets.Members.{In-append_cases, In-append_left, In-append_right, In-map}
+use Rattle.ext_model.proofs.FiniteSets.Members.{In-map_source, In-filter, In-filter_source, In-filter_passes}
+use Rattle.ext_model.proofs.FiniteSets.Pairs.{Pairwise, Pairwise-from_AllPairs}
+use Rattle.ext_model.proofs.FiniteSets.Searches.{In-from_list_any, absent-from_list_any}
+use Rattle.ext_model.proofs.FiniteSets.Sums.{sum_on-same_things, sum_by-map, sum_by-same, sum_by-flat_map, sum_by-pointwise}
+use Rattle.ext_model.proofs.FiniteSets.Images.{In-flat_map_source, In-flat_map, Distinct-flat_map}
+use Rattle.ext_model.proofs.FiniteSets.Places.{In-slice_get, slice_get-In}
 use Rattle.ext_model.specs.declared.records.CellExt.{CellExt}
 use Rattle.ext_model.specs.NameParts.{path_length, IsLastName}
 use Rattle.ext_model.specs.Paths.{path_text}

@@ -10,7 +10,7 @@ use Rattle.std.proofs.lemmas.Bool.{cases_Bool}
 use Rattle.std.proofs.lemmas.Bool.Decides.{nat_tests}
 use Rattle.std.proofs.lemmas.Cmp.{tied_itself}
 use Rattle.std.proofs.lemmas.List.{same_from_push}
-use Rattle.finite_sets.specs.Lists.{In}
+use Rattle.ext_model.specs.FiniteSets.Lists.{In}
 use Rattle.ext_model.specs.declared.names.TheConstants.{SLASH, GENERATED_MARK}
 use Rattle.ext_model.specs.declared.names.NameKind.TheVariants.{Global, Label, Generated}
 use Rattle.ext_model.specs.declared.records.CellExt.{CellExt}

@@ -6,10 +6,10 @@ use Rattle.std.proofs.lemmas.Bool.Decides.{nat_tests}
 use Rattle.std.proofs.lemmas.List.{get_or_default, get_or-map, length-map}
 use Rattle.std.proofs.lemmas.List.Sums.{get_or-le-sum_by}
 use Rattle.std.proofs.lemmas.Option.{slice_get_within}
-use Rattle.finite_sets.specs.Lists.{In}
-use Rattle.finite_sets.proofs.Members.{In-map_source}
-use Rattle.finite_sets.proofs.Searches.{All-from_In}
-use Rattle.finite_sets.proofs.Places.{slice_get-below}
+use Rattle.ext_model.specs.FiniteSets.Lists.{In}
+use Rattle.ext_model.proofs.FiniteSets.Members.{In-map_source}
+use Rattle.ext_model.proofs.FiniteSets.Searches.{All-from_In}
+use Rattle.ext_model.proofs.FiniteSets.Places.{slice_get-below}
 use Rattle.ext_model.specs.declared.records.CellExt.{CellExt}
 use Rattle.circuit_model.specs.declared.faults.FlatFault.TheVariants.{TooMany}
 use Rattle.circuit_model.specs.declared.limits.CircuitLimit.TheVariants.{Names}

@@ -8,12 +8,12 @@ use Rattle.std.specs.FinMap.{nat_cmp-IsAntisymmetric}
 use Rattle.std.specs.Ordering.{nat_cmp, bool_cmp, ordering_then}
 use Rattle.std.proofs.lemmas.Bool.{cases_Bool}
 use Rattle.std.proofs.lemmas.Cmp.{nat_cmp_total, on_total, then_total}
-use Rattle.finite_sets.specs.Lists.{In}
-use Rattle.finite_sets.proofs.Members.{In-append_cases, In-append_left, In-append_right, In-map, In-map_source, In-index}
-use Rattle.finite_sets.proofs.Orders.{IsSorted-pairs}
-use Rattle.finite_sets.proofs.Pairs.{Pairwise, Pairwise-append, Pairwise-map, Pairwise-from_AllPairs, Pairwise-within}
-use Rattle.finite_sets.proofs.Places.{In-slice_get, slice_get-In}
-use Rattle.finite_sets.proofs.Images.{In-flat_map}
+use Rattle.ext_model.specs.FiniteSets.Lists.{In}
+use Rattle.ext_model.proofs.FiniteSets.Members.{In-append_cases, In-append_left, In-append_right, In-map, In-map_source, In-index}
+use Rattle.ext_model.proofs.FiniteSets.Orders.{IsSorted-pairs}
+use Rattle.ext_model.proofs.FiniteSets.Pairs.{Pairwise, Pairwise-append, Pairwise-map, Pairwise-from_AllPairs, Pairwise-within}
+use Rattle.ext_model.proofs.FiniteSets.Places.{In-slice_get, slice_get-In}
+use Rattle.ext_model.proofs.FiniteSets.Images.{In-flat_map}
 use Rattle.ext_model.specs.declared.records.CellExt.{CellExt}
 use Rattle.ext_model.specs.NameOrder.{name_cmp}
 use Rattle.ext_model.specs.Paths.{path_text}

@@ -4,7 +4,7 @@ use Rattle.std.proofs.Common.{inl, inr, sym, ◌∙◌, ap, subst, arith, get_or
 use Rattle.std.specs.Prelude.{slice_index}
 use Rattle.std.proofs.Math.ListN.{set, length-set}
 use Rattle.std.proofs.lemmas.Bool.{cases_eq, cases_lt}
-use Rattle.finite_sets.proofs.Members.{In-index}
+use Rattle.ext_model.proofs.FiniteSets.Members.{In-index}
 use Rattle.full_names.specs.Orders.{StandsWhere, AreStandings}
 
 -- The numbers at the first so many places stand where the list says.

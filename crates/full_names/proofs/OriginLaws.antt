@@ -9,12 +9,12 @@ use Rattle.std.proofs.lemmas.List.{length-map, get_or-map}
 use Rattle.std.proofs.lemmas.Option.{slice_get-map, slice_get_within, get_or_from_slice_get, same_Some}
 use Rattle.std.proofs.lemmas.Slice.Eq.{bytes_eq-Decides}
 use Rattle.std.specs.Str.{bytes_eq}
-use Rattle.finite_sets.specs.Lists.{In, Distinct}
-use Rattle.finite_sets.proofs.Distincts.{Distinct-append_right, Distinct-append_apart}
-use Rattle.finite_sets.proofs.Members.{In-map, In-map_source}
-use Rattle.finite_sets.proofs.Places.{In-slice_get, slice_get-append_left, slice_get-append_right}
-use Rattle.finite_sets.proofs.Images.{In-flat_map}
-use Rattle.finite_sets.proofs.Searches.{In-from_list_any, list_any-of_In, find-at}
+use Rattle.ext_model.specs.FiniteSets.Lists.{In, Distinct}
+use Rattle.ext_model.proofs.FiniteSets.Distincts.{Distinct-append_right, Distinct-append_apart}
+use Rattle.ext_model.proofs.FiniteSets.Members.{In-map, In-map_source}
+use Rattle.ext_model.proofs.FiniteSets.Places.{In-slice_get, slice_get-append_left, slice_get-append_right}
+use Rattle.ext_model.proofs.FiniteSets.Images.{In-flat_map}
+use Rattle.ext_model.proofs.FiniteSets.Searches.{In-from_list_any, list_any-of_In, find-at}
 use Rattle.ext_model.specs.declared.records.NodeRec.{NodeRec}
 use Rattle.ext_model.specs.Paths.{path_text}
 use Rattle.ext_model.specs.RecordNames.{names_of, node_names}

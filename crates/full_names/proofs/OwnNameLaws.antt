@@ -13,9 +13,9 @@ use Rattle.std.proofs.lemmas.List.Concat.{flat_map-append}
 use Rattle.std.proofs.lemmas.List.Elements.{filter-append}
 use Rattle.std.proofs.lemmas.List.Sorted.{IsPermutation-map, IsPermutation-sym}
 use Rattle.std.proofs.lemmas.Option.{slice_get_read, slice_get_within, same_Some}
-use Rattle.finite_sets.specs.Lists.{In}
-use Rattle.finite_sets.proofs.Members.{In-push_cases, In-permutation, In-append_left, In-append_right}
-use Rattle.finite_sets.proofs.Places.{slice_get-append_left, slice_get-push_new}
+use Rattle.ext_model.specs.FiniteSets.Lists.{In}
+use Rattle.ext_model.proofs.FiniteSets.Members.{In-push_cases, In-permutation, In-append_left, In-append_right}
+use Rattle.ext_model.proofs.FiniteSets.Places.{slice_get-append_left, slice_get-push_new}
 use Rattle.ext_model.specs.declared.records.NodeRec.{NodeRec}
 use Rattle.ext_model.specs.declared.records.CellExt.{CellExt}
 use Rattle.ext_model.specs.RecordNames.{names_of, node_names}

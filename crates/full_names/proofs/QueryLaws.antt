@@ -5,8 +5,8 @@ use Rattle.std.specs.Prelude.{slice_get, slice_index, vec_len}
 use Rattle.std.specs.Option.{option_map}
 use Rattle.std.proofs.lemmas.List.{length-map}
 use Rattle.std.proofs.lemmas.Option.{slice_get-map, slice_get-get_or, slice_get_within, get_or_from_slice_get, same_Some}
-use Rattle.finite_sets.specs.Lists.{In}
-use Rattle.finite_sets.proofs.Places.{In-slice_get, slice_get-In, slice_get-append_left, slice_get-append_right}
+use Rattle.ext_model.specs.FiniteSets.Lists.{In}
+use Rattle.ext_model.proofs.FiniteSets.Places.{In-slice_get, slice_get-In, slice_get-append_left, slice_get-append_right}
 use Rattle.ext_model.specs.declared.records.CellExt.{CellExt}
 use Rattle.ext_model.specs.Paths.{path_text}
 use Rattle.ext_model.specs.RecordNames.{node_names}

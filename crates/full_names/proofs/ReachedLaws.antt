@@ -5,8 +5,8 @@ use Rattle.std.proofs.Common.{get_or-set_same, get_or-set_other}
 use Rattle.std.proofs.Math.ListN.{set, replicate}
 use Rattle.std.proofs.lemmas.Bool.{false≢true, cases_eq, cases_lt}
 use Rattle.std.proofs.lemmas.List.{get_or-replicate, get_or_past, length-replicate}
-use Rattle.finite_sets.specs.Lists.{In}
-use Rattle.finite_sets.proofs.Members.{In-push_cases, In-append_left, In-push}
+use Rattle.ext_model.specs.FiniteSets.Lists.{In}
+use Rattle.ext_model.proofs.FiniteSets.Members.{In-push_cases, In-append_left, In-push}
 use Rattle.element_tree.specs.declared.tree.TreeElement.{TreeElement}
 use Rattle.full_names.specs.OwnNames.{is_reached}
 use Rattle.full_names.specs.Reached.{flat_at, AreReachedBelow}

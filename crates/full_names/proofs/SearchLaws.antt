@@ -13,9 +13,9 @@ use Rattle.std.proofs.lemmas.Bool.{cases_lt}
 use Rattle.std.proofs.lemmas.Cmp.{tied_itself}
 use Rattle.std.proofs.lemmas.List.Sorted.{searchable_from_sorted}
 use Rattle.std.proofs.lemmas.Option.{slice_get-map, get_or_from_slice_get}
-use Rattle.finite_sets.specs.Lists.{In}
-use Rattle.finite_sets.proofs.Members.{In-map_source, In-index}
-use Rattle.finite_sets.proofs.Places.{slice_get-below}
+use Rattle.ext_model.specs.FiniteSets.Lists.{In}
+use Rattle.ext_model.proofs.FiniteSets.Members.{In-map_source, In-index}
+use Rattle.ext_model.proofs.FiniteSets.Places.{slice_get-below}
 use Rattle.full_names.proofs.Lookups.{sorted_unmap}
 
 -- Of things that are in the order of their texts, an order that tells texts apart.

@@ -10,11 +10,11 @@ use Rattle.std.proofs.lemmas.Bool.{cases_lt}
 use Rattle.std.proofs.lemmas.Bool.Decides.{nat_tests}
 use Rattle.std.proofs.lemmas.Cmp.{nat_list_cmp_total, tied_itself}
 use Rattle.std.proofs.lemmas.List.Sorted.{IsPermutation-sym}
-use Rattle.finite_sets.specs.Lists.{In, Distinct}
-use Rattle.finite_sets.proofs.Distincts.{Distinct-filter, Distinct-places}
-use Rattle.finite_sets.proofs.Members.{In-permutation, In-filter, In-filter_source, In-filter_passes}
-use Rattle.finite_sets.proofs.Orders.{IsSorted-pairs}
-use Rattle.finite_sets.proofs.Pairs.{AllPairs-permutation}
+use Rattle.ext_model.specs.FiniteSets.Lists.{In, Distinct}
+use Rattle.ext_model.proofs.FiniteSets.Distincts.{Distinct-filter, Distinct-places}
+use Rattle.ext_model.proofs.FiniteSets.Members.{In-permutation, In-filter, In-filter_source, In-filter_passes}
+use Rattle.ext_model.proofs.FiniteSets.Orders.{IsSorted-pairs}
+use Rattle.ext_model.proofs.FiniteSets.Pairs.{AllPairs-permutation}
 use Rattle.ext_model.specs.declared.records.CellExt.{CellExt}
 use Rattle.ext_model.specs.RecordNames.{node_names}
 use Rattle.full_names.specs.declared.own_names.OwnName.{OwnName}

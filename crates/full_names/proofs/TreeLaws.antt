@@ -4,7 +4,7 @@ use Rattle.std.proofs.Common.{length, map, inl, inr, sym, ◌∙◌, ap, subst, 
 use Rattle.std.specs.Prelude.{slice_get}
 use Rattle.std.proofs.lemmas.List.{map-append, nil_from_length}
 use Rattle.std.proofs.lemmas.Option.{slice_get-get_or, slice_get_within, same_Some}
-use Rattle.finite_sets.proofs.Places.{slice_get-below}
+use Rattle.ext_model.proofs.FiniteSets.Places.{slice_get-below}
 use Rattle.ext_model.specs.declared.records.UseRec.{UseRec}
 use Rattle.ext_model.specs.declared.records.CellExt.{CellExt}
 use Rattle.circuit_model.specs.Elements.{Element, ids_of}

@@ -1,6 +1,6 @@
 -- The global names of elements, and where each comes from.
 use Rattle.std.specs.Prelude.{◌≡◌, ◌≤◌, ℕ, true, Some, List, slice_get}
-use Rattle.finite_sets.specs.Lists.{In}
+use Rattle.ext_model.specs.FiniteSets.Lists.{In}
 use Rattle.ext_model.specs.declared.records.NodeRec.{NodeRec}
 use Rattle.ext_model.specs.RecordNames.{names_of, node_names}
 use Rattle.circuit_model.specs.Elements.{Element}

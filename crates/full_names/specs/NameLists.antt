@@ -1,6 +1,6 @@
 -- All full names of a tree of records, in order.
 use Rattle.std.specs.Prelude.{◌≡◌, ◌↔◌, ◌≤◌, ℕ, Option, Some, None, List, slice_get}
-use Rattle.finite_sets.specs.Lists.{In}
+use Rattle.ext_model.specs.FiniteSets.Lists.{In}
 use Rattle.ext_model.specs.declared.records.CellExt.{CellExt}
 use Rattle.circuit_model.specs.declared.faults.FlatFault.{FlatFault}
 use Rattle.circuit_model.specs.declared.limits.CircuitLimit.TheVariants.{Names}

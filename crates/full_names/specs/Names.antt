@@ -1,6 +1,6 @@
 -- The full names of a tree of records, by numbers.
 use Rattle.std.specs.Prelude.{◌≡◌, ◌<◌, ℕ, Bool, true, false, Some, None, List, [], ◌++◌, length, map, find, slice_get}
-use Rattle.finite_sets.specs.Lists.{In}
+use Rattle.ext_model.specs.FiniteSets.Lists.{In}
 use Rattle.ext_model.specs.declared.records.NodeRec.{NodeRec}
 use Rattle.ext_model.specs.declared.records.CellExt.{CellExt}
 use Rattle.ext_model.specs.NodeNames.{is_global}

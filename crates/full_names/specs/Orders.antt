@@ -1,6 +1,6 @@
 -- Numbers in an order, and where each stands.
 use Rattle.std.specs.Prelude.{◌≡◌, ◌<◌, ℕ, List, length, slice_index}
-use Rattle.finite_sets.specs.Lists.{In}
+use Rattle.ext_model.specs.FiniteSets.Lists.{In}
 
 -- The number stands in the list where the other list says.
 pub record StandsWhere (slots standings : List ℕ) (slot : ℕ) : Type 0 where

@@ -4,7 +4,7 @@ use Rattle.std.specs.Prelude.{Some, None, List, [], map, filter, length, slice_g
 use Rattle.std.specs.Prelude.{IsPermutation, IsSorted}
 use Rattle.std.specs.Ordering.{nat_cmp}
 use Rattle.std.specs.Cmp.Lexicographic.{slice_cmp}
-use Rattle.finite_sets.specs.Lists.{In}
+use Rattle.ext_model.specs.FiniteSets.Lists.{In}
 use Rattle.ext_model.specs.declared.names.TheConstants.{GLOBAL_MARK}
 use Rattle.ext_model.specs.declared.records.NodeRec.{NodeRec}
 use Rattle.ext_model.specs.declared.records.CellExt.{CellExt}

@@ -1,6 +1,6 @@
 -- Which records a tree reaches.
 use Rattle.std.specs.Prelude.{◌≡◌, ◌<◌, ◌≤◌, ℕ, Bool, true, pos, List, All, length, slice_index_or}
-use Rattle.finite_sets.specs.Lists.{In}
+use Rattle.ext_model.specs.FiniteSets.Lists.{In}
 use Rattle.ext_model.specs.GeoCore.declared.orients.Orient.TheVariants.{R0}
 use Rattle.element_tree.specs.declared.tree.TreeElement.{TreeElement}
 use Rattle.full_names.specs.OwnNames.{is_reached}

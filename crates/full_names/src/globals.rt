@@ -1,7 +1,7 @@
 //! The global names of the nodes of a tree, each once.
 
 ghost use Rattle.std.specs.Prelude.{◌≡◌, ◌⊎◌, ◌↔◌, ◌<◌, length, All, Some, IsTrue, slice_get, IfOk, OnOk, IfSome, IfNone, IsSorted};
-ghost use Rattle.finite_sets.specs.Lists.{In};
+ghost use Rattle.ext_model.specs.FiniteSets.Lists.{In};
 ghost use Rattle.circuit_model.specs.FullNames.{AreInNameOrder};
 ghost use Rattle.full_names.specs.declared.own_names.OwnName.{OwnName};
 ghost use Rattle.full_names.specs.declared.globals.GlobalName.{GlobalName};

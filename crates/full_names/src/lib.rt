@@ -32,4 +32,5 @@ mod paths;
 mod places;
 mod reached;
 
+pub use element_tree;
 pub use names::{FullNames, Origin, Spot, full_names};

@@ -1,7 +1,7 @@
 //! The names of a record's nodes, in the order of their bytes.
 
 ghost use Rattle.std.specs.Prelude.{◌≡◌, ◌⊎◌, ◌∷◌, ◌++◌, [], Some, true, filter, length, slice_get, IfOk, OnOk, IfSome, IfNone};
-ghost use Rattle.finite_sets.specs.Lists.{In};
+ghost use Rattle.ext_model.specs.FiniteSets.Lists.{In};
 ghost use Rattle.ext_model.specs.RecordNames.{names_of};
 ghost use Rattle.full_names.specs.declared.own_names.OwnName.{OwnName};
 ghost use Rattle.full_names.specs.OwnNames.{is_marked, is_wanted, texts_of, AreInByteOrder, AreOwnNames, AreRecordNames, AreAllNames};

@@ -1,6 +1,6 @@
 -- What a group adds to its members is counted where parts meet: the law of area, perimeter and capacitance.
 use Rattle.std.proofs.Common.{Bool, List, inl, inr, sym, subst}
-use Rattle.geo_core.specs.declared.squares.Square.{Square}
+use Rattle.tech_model.specs.GeoCore.declared.squares.Square.{Square}
 use Rattle.tech_model.specs.declared.raw.RawTech.{RawTech}
 use Rattle.group_meetings.proofs.NameClasses.ClassLaws.{distinct_in_order}
 use Rattle.group_meetings.specs.Offences.Offences.{SetLayout}

@@ -2,7 +2,7 @@
 use Rattle.std.proofs.Common.{inl, inr, subst}
 use Rattle.finite_sets.proofs.Chains.{Chain-append}
 use Rattle.tech_model.specs.declared.raw.RawTech.{RawTech}
-use Rattle.layout_model.specs.Places.{Place}
+use Rattle.tree_names.specs.LayoutModel.Places.{Place}
 use Rattle.meeting_laws.specs.TreeRecords.NamedTrees.NamedTree.{named_tree}
 use Rattle.meeting_laws.specs.PartLayouts.{Passes}
 use Rattle.tree_names.proofs.GroupNodes.{group_back}

@@ -11,13 +11,13 @@ use Rattle.finite_sets.specs.Total.{sum_on, Total}
 use Rattle.finite_sets.proofs.Ranges.{Lists-pairs_of}
 use Rattle.finite_sets.proofs.Sums.{sum_on-same, sum_on-swap}
 use Rattle.finite_sets.proofs.Totals.{Total-at, Total-from_list, Total-iff, Total-none, Total-same, Total-sub, Total-support, Total-union, Total-unique}
-use Rattle.geo_core.specs.declared.squares.Square.{Square}
+use Rattle.tech_model.specs.GeoCore.declared.squares.Square.{Square}
 use Rattle.tech_model.specs.declared.raw.RawTech.{RawTech}
 use Rattle.tech_model.specs.Rules.{KeepsRules}
 use Rattle.tech_model.specs.WellFormed.{IsWellFormed}
-use Rattle.layout_model.specs.Places.{Place}
-use Rattle.layout_model.proofs.Families.{InFamily}
-use Rattle.rect_contacts.proofs.BothWays.{Lists-below, sum_on-nested}
+use Rattle.tree_names.specs.LayoutModel.Places.{Place}
+use Rattle.tree_names.proofs.LayoutModel.Families.{InFamily}
+use Rattle.tree_names.proofs.RectContacts.BothWays.{Lists-below, sum_on-nested}
 use Rattle.group_meetings.specs.Offences.Offences.{SetLayout}
 use Rattle.group_meetings.specs.HierarchyModel.Restrictions.{PartStands}
 use Rattle.group_meetings.specs.TreeRecords.NamedTrees.{NamedTree}

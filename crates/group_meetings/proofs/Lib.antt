@@ -1,4 +1,7 @@
 -- what crates above name of those below
+pub use Rattle.tree_names.proofs.LayoutModel as LayoutModel
+pub use Rattle.tree_names.proofs.CellNodes as CellNodes
+pub use Rattle.tree_names.proofs.FullNames as FullNames
 pub use Rattle.tree_names.proofs.FloodNodes as FloodNodes
 pub use Rattle.meeting_laws.proofs.HierarchyModel as HierarchyModel
 pub use Rattle.tree_names.proofs.Measures as Measures

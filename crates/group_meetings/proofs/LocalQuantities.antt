@@ -8,11 +8,11 @@ use Rattle.finite_sets.specs.Total.{sum_on}
 use Rattle.finite_sets.proofs.Listings.{Lists-iff, Lists-image}
 use Rattle.finite_sets.proofs.Sums.{sum_on-map, sum_on-same, sum_on-nothing}
 use Rattle.finite_sets.proofs.Totals.{Total-of_list, Total-from_list}
-use Rattle.geo_core.specs.declared.transforms.Transform.{Transform}
-use Rattle.layout_model.specs.Layouts.{Layout}
-use Rattle.layout_model.specs.Places.{Place, AreNeighbours, neighbours}
-use Rattle.layout_model.specs.Technologies.{Class}
-use Rattle.layout_model.specs.CellTrees.{place_back}
+use Rattle.tech_model.specs.GeoCore.declared.transforms.Transform.{Transform}
+use Rattle.tree_names.specs.LayoutModel.Layouts.{Layout}
+use Rattle.tree_names.specs.LayoutModel.Places.{Place, AreNeighbours, neighbours}
+use Rattle.tree_names.specs.LayoutModel.Technologies.{Class}
+use Rattle.tree_names.specs.LayoutModel.CellTrees.{place_back}
 use Rattle.group_meetings.proofs.FloodNodes.OpenEdges.{Lists-neighbours}
 use Rattle.group_meetings.specs.TreeRecords.NamedTrees.{place_forth}
 use Rattle.group_meetings.proofs.TreeRecords.MoveLaws.{back_from_above, above_from_back, neighbours_above, neighbours_back}

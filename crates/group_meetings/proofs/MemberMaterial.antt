@@ -5,10 +5,10 @@ use Rattle.finite_sets.proofs.Chains.{Chain-carries}
 use Rattle.tech_model.specs.declared.raw.RawTech.{RawTech}
 use Rattle.tech_model.specs.Rules.{KeepsRules}
 use Rattle.tech_model.specs.WellFormed.{IsWellFormed}
-use Rattle.layout_model.specs.Layouts.{IsMaterial}
-use Rattle.layout_model.specs.Places.{Place}
-use Rattle.layout_model.specs.CellTrees.{place_back}
-use Rattle.layout_model.specs.FlatSets.{sets_in, IsTyped, AreTyped}
+use Rattle.tree_names.specs.LayoutModel.Layouts.{IsMaterial}
+use Rattle.tree_names.specs.LayoutModel.Places.{Place}
+use Rattle.tree_names.specs.LayoutModel.CellTrees.{place_back}
+use Rattle.tree_names.specs.LayoutModel.FlatSets.{sets_in, IsTyped, AreTyped}
 use Rattle.meeting_laws.specs.Offences.Offences.{SetLayout}
 use Rattle.meeting_laws.specs.HierarchyModel.CleanCells.{IsClean, AreClean}
 use Rattle.meeting_laws.specs.HierarchyModel.Restrictions.{PartStands}

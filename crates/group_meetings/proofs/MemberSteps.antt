@@ -8,11 +8,11 @@ use Rattle.tech_model.specs.declared.raw.RawTech.{RawTech}
 use Rattle.tech_model.specs.Rules.{KeepsRules}
 use Rattle.tech_model.specs.Types.{connects}
 use Rattle.tech_model.specs.WellFormed.{IsWellFormed}
-use Rattle.layout_model.specs.Layouts.{Layout}
-use Rattle.layout_model.specs.Links.{AreLinked}
-use Rattle.layout_model.specs.Places.{Place, IsNoLater}
-use Rattle.layout_model.specs.CellTrees.{place_back}
-use Rattle.layout_model.specs.FlatSets.{sets_in, IsTyped}
+use Rattle.tree_names.specs.LayoutModel.Layouts.{Layout}
+use Rattle.tree_names.specs.LayoutModel.Links.{AreLinked}
+use Rattle.tree_names.specs.LayoutModel.Places.{Place, IsNoLater}
+use Rattle.tree_names.specs.LayoutModel.CellTrees.{place_back}
+use Rattle.tree_names.specs.LayoutModel.FlatSets.{sets_in, IsTyped}
 use Rattle.tree_names.specs.Names.NamedNodes.{AreOneNamedNode}
 use Rattle.meeting_laws.specs.Offences.Offences.{SetLayout}
 use Rattle.meeting_laws.proofs.HierarchyModel.PartSearch.{one_part}
@@ -21,7 +21,7 @@ use Rattle.tree_names.proofs.CellNodes.NodePlaces.{AreOneNamedNode-sym, material
 use Rattle.meeting_laws.specs.TreeRecords.NamedTrees.{NamedTree, NamedElements, layouts_of}
 use Rattle.meeting_laws.specs.TreeRecords.NamedTrees.NamedTree.{named_tree}
 use Rattle.meeting_laws.specs.TreeRecords.NamedTrees.NamedElements.{no_more, element_then}
-use Rattle.ext_model.specs.Paths.{path_text}
+use Rattle.tree_names.specs.ExtModel.Paths.{path_text}
 use Rattle.meeting_laws.proofs.TreeRecords.MoveLaws.{neighbours_back, stacked_back}
 use Rattle.meeting_laws.specs.PartLayouts.{part_layout}
 use Rattle.meeting_laws.proofs.PartLinks.{link_of_same}

@@ -3,16 +3,16 @@ use Rattle.std.proofs.Common.{◌≡◌, ℕ, zero, suc, ℤ, List, [], ◌∷�
 use Rattle.finite_sets.specs.Lists.{Distinct}
 use Rattle.finite_sets.specs.Total.{Total}
 use Rattle.finite_sets.proofs.Totals.{Total-iff, Total-same, Total-map, Total-image}
-use Rattle.geo_core.specs.declared.transforms.Transform.{Transform}
+use Rattle.tech_model.specs.GeoCore.declared.transforms.Transform.{Transform}
 use Rattle.tech_model.specs.declared.raw.RawTech.{RawTech}
 use Rattle.tech_model.specs.Rules.{KeepsRules}
 use Rattle.tech_model.specs.WellFormed.{IsWellFormed}
-use Rattle.ext_model.specs.NodeNames.{slashes_in}
-use Rattle.ext_model.specs.Paths.{path_text}
-use Rattle.layout_model.specs.Layouts.{Layout}
-use Rattle.layout_model.specs.Places.{Place}
-use Rattle.layout_model.specs.CellTrees.{place_back}
-use Rattle.layout_model.specs.FlatSets.{sets_in}
+use Rattle.tree_names.specs.ExtModel.NodeNames.{slashes_in}
+use Rattle.tree_names.specs.ExtModel.Paths.{path_text}
+use Rattle.tree_names.specs.LayoutModel.Layouts.{Layout}
+use Rattle.tree_names.specs.LayoutModel.Places.{Place}
+use Rattle.tree_names.specs.LayoutModel.CellTrees.{place_back}
+use Rattle.tree_names.specs.LayoutModel.FlatSets.{sets_in}
 use Rattle.group_meetings.specs.Offences.Offences.{SetLayout}
 use Rattle.group_meetings.specs.TreeRecords.FetRecords.{IsOfNode}
 use Rattle.group_meetings.specs.TreeRecords.NamedTrees.{NamedTree, NamedElements, place_forth}

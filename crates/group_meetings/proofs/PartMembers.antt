@@ -1,15 +1,15 @@
 -- Members stand where they have places: their part has material there.
 use Rattle.std.proofs.Common.{◌≡◌, ◌⊎◌, ℕ, zero, suc, List, inl, inr, refl, sym, ap, subst, ◌∙◌}
 use Rattle.finite_sets.proofs.Chains.{Chain-carries}
-use Rattle.geo_core.specs.declared.transforms.Transform.{Transform}
+use Rattle.tech_model.specs.GeoCore.declared.transforms.Transform.{Transform}
 use Rattle.tech_model.specs.declared.raw.RawTech.{RawTech}
 use Rattle.tech_model.specs.Rules.{KeepsRules}
 use Rattle.tech_model.specs.WellFormed.{IsWellFormed}
-use Rattle.layout_model.specs.LayerTypes.{or_space, HasTypesOf}
-use Rattle.layout_model.specs.Layouts.{Layout, IsMaterial}
-use Rattle.layout_model.specs.Places.{Place}
-use Rattle.layout_model.specs.CellTrees.{place_back}
-use Rattle.layout_model.specs.FlatSets.{sets_in, flat_sets, element_parts}
+use Rattle.tree_names.specs.LayoutModel.LayerTypes.{or_space, HasTypesOf}
+use Rattle.tree_names.specs.LayoutModel.Layouts.{Layout, IsMaterial}
+use Rattle.tree_names.specs.LayoutModel.Places.{Place}
+use Rattle.tree_names.specs.LayoutModel.CellTrees.{place_back}
+use Rattle.tree_names.specs.LayoutModel.FlatSets.{sets_in, flat_sets, element_parts}
 use Rattle.tree_names.specs.Names.Attachments.{label_at}
 use Rattle.tree_names.specs.Names.NamedNodes.{AreOneNamedNode}
 use Rattle.tree_names.proofs.Names.AttachLaws.{suits_material}

@@ -4,8 +4,8 @@ use Rattle.std.specs.Ordering.{int_eq}
 use Rattle.std.proofs.lemmas.Int.{ints}
 use Rattle.std.proofs.lemmas.Bool.{cases_eq, cases_Bool}
 use Rattle.finite_sets.specs.Lists.{In, Distinct}
-use Rattle.geo_core.proofs.SquareLaws.{square_is}
-use Rattle.layout_model.specs.Places.{Place}
+use Rattle.tech_model.proofs.GeoCore.SquareLaws.{square_is}
+use Rattle.tree_names.specs.LayoutModel.Places.{Place}
 use Rattle.group_meetings.proofs.FloodNodes.TileEdges.{place_on}
 
 -- Two things are one, or they differ.

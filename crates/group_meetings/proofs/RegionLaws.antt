@@ -1,12 +1,12 @@
 -- Links of the restricted flat layout of a cell are links of its flat layout, and join places of one group.
 use Rattle.std.proofs.Common.{◌≡◌, List, inl, inr, sym}
 use Rattle.finite_sets.proofs.Chains.{Chain-weaker}
-use Rattle.geo_core.specs.declared.squares.Square.{Square}
+use Rattle.tech_model.specs.GeoCore.declared.squares.Square.{Square}
 use Rattle.tech_model.specs.declared.raw.RawTech.{RawTech}
 use Rattle.tech_model.specs.Types.{connects}
-use Rattle.layout_model.specs.Layouts.{IsMaterial}
-use Rattle.layout_model.specs.Links.{AreLinked, AreOneNode}
-use Rattle.layout_model.specs.Places.{Place}
+use Rattle.tree_names.specs.LayoutModel.Layouts.{IsMaterial}
+use Rattle.tree_names.specs.LayoutModel.Links.{AreLinked, AreOneNode}
+use Rattle.tree_names.specs.LayoutModel.Places.{Place}
 use Rattle.meeting_laws.specs.Offences.Offences.{SetLayout}
 use Rattle.meeting_laws.specs.HierarchyModel.Restrictions.{IsRestriction}
 use Rattle.meeting_laws.specs.TreeRecords.NamedTrees.{NamedTree}

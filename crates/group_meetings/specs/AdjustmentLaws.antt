@@ -2,13 +2,13 @@
 use Rattle.std.specs.Prelude.{◌≡◌, ◌⊎◌, ◌↔◌, ℕ, ℤ, Bool, false, List, All}
 use Rattle.finite_sets.specs.Lists.{In}
 use Rattle.finite_sets.specs.Total.{Total}
-use Rattle.geo_core.specs.declared.squares.Square.{Square}
+use Rattle.tech_model.specs.GeoCore.declared.squares.Square.{Square}
 use Rattle.tech_model.specs.declared.raw.RawTech.{RawTech}
 use Rattle.tech_model.specs.Rules.{KeepsRules}
 use Rattle.tech_model.specs.WellFormed.{IsWellFormed}
-use Rattle.circuit_model.specs.FullNames.{AreInNameOrder}
-use Rattle.layout_model.specs.Places.{Place}
-use Rattle.layout_model.specs.Technologies.{Class}
+use Rattle.tree_names.specs.CircuitModel.FullNames.{AreInNameOrder}
+use Rattle.tree_names.specs.LayoutModel.Places.{Place}
+use Rattle.tree_names.specs.LayoutModel.Technologies.{Class}
 use Rattle.group_meetings.specs.Offences.Offences.{SetLayout}
 use Rattle.group_meetings.specs.HierarchyModel.Restrictions.{IsRestriction}
 use Rattle.group_meetings.specs.TreeRecords.NamedTrees.{NamedTree}

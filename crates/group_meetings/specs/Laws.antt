@@ -1,19 +1,19 @@
 -- Laws of the groups of a clean cell and of the squares at which its parts meet, as statements.
 use Rattle.std.specs.Prelude.{◌≡◌, ◌≢◌, ◌⊎◌, ℕ, Bool, List}
 use Rattle.finite_sets.specs.Chain.{Chain}
-use Rattle.geo_core.specs.declared.squares.Square.{Square}
+use Rattle.tech_model.specs.GeoCore.declared.squares.Square.{Square}
 use Rattle.tech_model.specs.declared.raw.RawTech.{RawTech}
 use Rattle.tech_model.specs.Rules.{KeepsRules}
 use Rattle.tech_model.specs.Types.{connects}
 use Rattle.tech_model.specs.WellFormed.{IsWellFormed}
-use Rattle.layout_model.specs.Links.{AreLinked, AreOneNode}
-use Rattle.layout_model.specs.Places.{Place}
-use Rattle.layout_model.specs.FlatSets.{IsTyped}
+use Rattle.tree_names.specs.LayoutModel.Links.{AreLinked, AreOneNode}
+use Rattle.tree_names.specs.LayoutModel.Places.{Place}
+use Rattle.tree_names.specs.LayoutModel.FlatSets.{IsTyped}
 use Rattle.meeting_laws.specs.Offences.Offences.{SetLayout}
 use Rattle.meeting_laws.specs.HierarchyModel.CleanCells.{IsClean}
 use Rattle.meeting_laws.specs.HierarchyModel.Restrictions.{IsRestriction}
-use Rattle.ext_model.specs.declared.records.CellExt.{CellExt}
-use Rattle.ext_model.specs.declared.records.NodeRec.{NodeRec}
+use Rattle.tree_names.specs.ExtModel.declared.records.CellExt.{CellExt}
+use Rattle.tree_names.specs.ExtModel.declared.records.NodeRec.{NodeRec}
 use Rattle.tree_names.specs.CellNodes.NodeRecords.{AreNodeRecords}
 use Rattle.meeting_laws.specs.TreeRecords.NamedTrees.{NamedTree, named_elements_in, layouts_of, own_body}
 use Rattle.meeting_laws.specs.TreeRecords.TreeRecords.{HaveTreeRecords}

@@ -1,4 +1,8 @@
 -- what crates above name of those below
+pub use Rattle.tree_names.specs.CellPaint as CellPaint
+pub use Rattle.tree_names.specs.Names as Names
+pub use Rattle.tree_names.specs.CircuitModel as CircuitModel
+pub use Rattle.tree_names.specs.LayoutModel as LayoutModel
 pub use Rattle.tree_names.specs.CellNodes as CellNodes
 pub use Rattle.meeting_laws.specs.HierarchyModel as HierarchyModel
 pub use Rattle.meeting_laws.specs as MeetingLaws

@@ -2,12 +2,12 @@
 use Rattle.std.specs.Prelude.{◌≡◌, ℕ, zero, suc, List, [], ◌∷◌}
 use Rattle.tech_model.specs.declared.raw.RawTech.{RawTech}
 use Rattle.tech_model.specs.Types.{connects}
-use Rattle.layout_model.specs.Layouts.{IsMaterial}
-use Rattle.layout_model.specs.Links.{AreOneNode}
-use Rattle.layout_model.specs.Places.{Place}
-use Rattle.layout_model.specs.CellTrees.{place_back}
-use Rattle.layout_model.specs.FlatSets.{parts_in}
-use Rattle.ext_model.specs.Paths.{path_text}
+use Rattle.tree_names.specs.LayoutModel.Layouts.{IsMaterial}
+use Rattle.tree_names.specs.LayoutModel.Links.{AreOneNode}
+use Rattle.tree_names.specs.LayoutModel.Places.{Place}
+use Rattle.tree_names.specs.LayoutModel.CellTrees.{place_back}
+use Rattle.tree_names.specs.LayoutModel.FlatSets.{parts_in}
+use Rattle.tree_names.specs.ExtModel.Paths.{path_text}
 use Rattle.meeting_laws.specs.Offences.Offences.{SetLayout}
 use Rattle.meeting_laws.specs.HierarchyModel.Restrictions.{PartStands}
 use Rattle.tree_names.specs.TreeRecords.FetRecords.{IsOfNode}

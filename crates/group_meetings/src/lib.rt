@@ -24,6 +24,7 @@ ghost use Rattle.group_meetings.specs.Laws.{DifferentMembersMeetInRegions, Membe
 ghost use Rattle.group_meetings.specs.Laws.{MembersOfLargerGroupsAreWithin, RecordedPartsHaveMembers, RegionsAreInGroups};
 
 use tech_model::Tech;
+pub use tree_names::cell_nodes;
 
 /// Two different members that share a place, or have places that the flat layout links, meet in one region of the restricted flat layout. It
 /// does nothing.

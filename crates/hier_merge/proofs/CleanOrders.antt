@@ -9,13 +9,13 @@ use Rattle.finite_sets.proofs.Members.{In-get_or, In-index}
 use Rattle.geo_core.specs.declared.transforms.Transform.{Transform}
 use Rattle.tech_model.specs.declared.raw.RawTech.{RawTech}
 use Rattle.ext_model.specs.declared.tables.CellKey.{CellKey}
-use Rattle.use_orders.specs.Uses.{AreBehindChildren, IsAtOrBelow, UsesCell}
-use Rattle.layout_model.specs.CellTrees.{CellTree, Elements}
-use Rattle.layout_model.specs.CellTrees.CellTree.{cell_tree}
-use Rattle.hierarchy_model.specs.CleanCells.{AreClean, IsClean, IsCleanBelow}
+use Rattle.cell_library.specs.UseOrders.Uses.{AreBehindChildren, IsAtOrBelow, UsesCell}
+use Rattle.cell_library.specs.LayoutModel.CellTrees.{CellTree, Elements}
+use Rattle.cell_library.specs.LayoutModel.CellTrees.CellTree.{cell_tree}
+use Rattle.meeting_laws.specs.HierarchyModel.CleanCells.{AreClean, IsClean, IsCleanBelow}
 use Rattle.hier_merge.specs.UncleanCells.{IsCleanCell, IsFirstUnclean}
-use Rattle.cell_tree.specs.declared.use_tables.UseBody.{UseBody}
-use Rattle.cell_tree.specs.Uses.{displacements}
+use Rattle.cell_library.specs.CellTree.declared.use_tables.UseBody.{UseBody}
+use Rattle.cell_library.specs.CellTree.Uses.{displacements}
 use Rattle.cell_library.specs.Additions.{children_in}
 use Rattle.cell_library.specs.LayoutTrees.{elements_at, elements_from, own_cell, tree_at}
 use Rattle.cell_library.specs.Libraries.{IsLawfulLibrary, LibraryParts, seen}

@@ -20,20 +20,20 @@ use Rattle.tech_model.specs.Types.{is_type, joined, parts_of, plane_of}
 use Rattle.tech_model.specs.WellFormed.{IsWellFormed}
 use Rattle.tech_model.proofs.JoinedLaws.{joined-found}
 use Rattle.tech_model.proofs.SetLaws.{set_not_empty}
-use Rattle.layout_model.specs.LayerTypes.{HasTypesOf}
-use Rattle.layout_model.specs.Places.{Place}
-use Rattle.layout_model.specs.CellTrees.{CellTree, Elements, Standing, standings, standings_from, under}
-use Rattle.layout_model.specs.CellTrees.CellTree.{cell_tree}
-use Rattle.layout_model.specs.CellTrees.Elements.{no_elements, element_and}
-use Rattle.layout_model.specs.FlatSets.{AreTyped, IsTyped}
-use Rattle.offences.specs.declared.set_tiles.SetTile.{SetTile}
-use Rattle.offences.specs.declared.stacks.TypedStack.{TypedStack}
-use Rattle.offences.specs.SetTiles.{tile_part}
-use Rattle.offences.specs.TypedStacks.{AreTypedStacks, IsTypedStack, kind_in, on_plane}
-use Rattle.offences.proofs.KindLaws.{kind_in-listed, kind_is_listed}
-use Rattle.offences.proofs.TileLaws.{part_bit, part_kept}
-use Rattle.offences.proofs.UnionLaws.{no_part, same_sets}
-use Rattle.hierarchy_model.proofs.KindLaws.{material_set}
+use Rattle.cell_library.specs.LayoutModel.LayerTypes.{HasTypesOf}
+use Rattle.cell_library.specs.LayoutModel.Places.{Place}
+use Rattle.cell_library.specs.LayoutModel.CellTrees.{CellTree, Elements, Standing, standings, standings_from, under}
+use Rattle.cell_library.specs.LayoutModel.CellTrees.CellTree.{cell_tree}
+use Rattle.cell_library.specs.LayoutModel.CellTrees.Elements.{no_elements, element_and}
+use Rattle.cell_library.specs.LayoutModel.FlatSets.{AreTyped, IsTyped}
+use Rattle.meeting_laws.specs.Offences.declared.set_tiles.SetTile.{SetTile}
+use Rattle.meeting_laws.specs.Offences.declared.stacks.TypedStack.{TypedStack}
+use Rattle.meeting_laws.specs.Offences.SetTiles.{tile_part}
+use Rattle.meeting_laws.specs.Offences.TypedStacks.{AreTypedStacks, IsTypedStack, kind_in, on_plane}
+use Rattle.meeting_laws.proofs.Offences.KindLaws.{kind_in-listed, kind_is_listed}
+use Rattle.meeting_laws.proofs.Offences.TileLaws.{part_bit, part_kept}
+use Rattle.meeting_laws.proofs.Offences.UnionLaws.{no_part, same_sets}
+use Rattle.meeting_laws.proofs.HierarchyModel.KindLaws.{material_set}
 use Rattle.cell_library.specs.declared.part_tiles.PartTile.{PartTile}
 use Rattle.cell_library.specs.PartTiles.{set_of_tiles}
 use Rattle.hier_merge.specs.MeetingPieces.{CoversPiece, HasCoveringTiles, IsPartTile}

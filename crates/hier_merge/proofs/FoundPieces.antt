@@ -9,14 +9,14 @@ use Rattle.geo_core.specs.declared.squares.Rect.{Rect}
 use Rattle.tech_model.specs.declared.raw.RawTech.{RawTech}
 use Rattle.tech_model.specs.Rules.{KeepsRules}
 use Rattle.tech_model.specs.WellFormed.{IsWellFormed}
-use Rattle.layout_model.specs.Places.{Place}
-use Rattle.layout_model.specs.CellTrees.{CellTree}
-use Rattle.layout_model.specs.FlatSets.{IsTyped, parts_in}
-use Rattle.offences.specs.declared.plane_stacks.PlaneStack.{PlaneStack}
-use Rattle.offences.specs.Offences.{HaveTypes, OffendsOn, SetLayout}
-use Rattle.offences.specs.SetTiles.{tile_parts}
-use Rattle.hierarchy_model.specs.CleanCells.{IsCleanBelow}
-use Rattle.hierarchy_model.proofs.MeetingLaws.{meetings_decide}
+use Rattle.cell_library.specs.LayoutModel.Places.{Place}
+use Rattle.cell_library.specs.LayoutModel.CellTrees.{CellTree}
+use Rattle.cell_library.specs.LayoutModel.FlatSets.{IsTyped, parts_in}
+use Rattle.meeting_laws.specs.Offences.declared.plane_stacks.PlaneStack.{PlaneStack}
+use Rattle.meeting_laws.specs.Offences.Offences.{HaveTypes, OffendsOn, SetLayout}
+use Rattle.meeting_laws.specs.Offences.SetTiles.{tile_parts}
+use Rattle.meeting_laws.specs.HierarchyModel.CleanCells.{IsCleanBelow}
+use Rattle.meeting_laws.proofs.HierarchyModel.MeetingLaws.{meetings_decide}
 use Rattle.meeting_laws.specs.PartLayouts.{Passes}
 use Rattle.cell_library.specs.declared.part_tiles.PartTile.{PartTile}
 use Rattle.hier_merge.specs.MeetingPieces.{AreMeetingPieces, CoversSomePiece, HasCoveringTiles, IsPartTile}

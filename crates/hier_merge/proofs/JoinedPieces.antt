@@ -18,15 +18,15 @@ use Rattle.geo_core.specs.Covering.{Covers, is_covered}
 use Rattle.geo_core.proofs.CoveringLaws.{Covers-is_covered, is_covered-Covers}
 use Rattle.tech_model.specs.declared.raw.RawTech.{RawTech}
 use Rattle.tech_model.specs.Types.{joined}
-use Rattle.offences.specs.declared.set_tiles.SetTile.{SetTile}
-use Rattle.offences.specs.declared.stacks.TypedStack.{TypedStack}
-use Rattle.offences.specs.Offences.{HaveTypes, SetLayout}
-use Rattle.offences.specs.SetTiles.{tile_part, tile_parts}
-use Rattle.offences.specs.TypedStacks.{AreTypedStacks, HasMembers, IsTypedStack, StandForTiles, on_plane, typed_stack_areas}
-use Rattle.offences.proofs.MemberLaws.{of_moved}
-use Rattle.offences.proofs.StackLaws.{In-tile_at}
-use Rattle.offences.proofs.TileLaws.{HasTile, at_part, length-parts, part_at, part_bit, part_kept}
-use Rattle.offences.proofs.UnionLaws.{no_part, same_sets}
+use Rattle.meeting_laws.specs.Offences.declared.set_tiles.SetTile.{SetTile}
+use Rattle.meeting_laws.specs.Offences.declared.stacks.TypedStack.{TypedStack}
+use Rattle.meeting_laws.specs.Offences.Offences.{HaveTypes, SetLayout}
+use Rattle.meeting_laws.specs.Offences.SetTiles.{tile_part, tile_parts}
+use Rattle.meeting_laws.specs.Offences.TypedStacks.{AreTypedStacks, HasMembers, IsTypedStack, StandForTiles, on_plane, typed_stack_areas}
+use Rattle.meeting_laws.proofs.Offences.MemberLaws.{of_moved}
+use Rattle.meeting_laws.proofs.Offences.StackLaws.{In-tile_at}
+use Rattle.meeting_laws.proofs.Offences.TileLaws.{HasTile, at_part, length-parts, part_at, part_bit, part_kept}
+use Rattle.meeting_laws.proofs.Offences.UnionLaws.{no_part, same_sets}
 use Rattle.hier_merge.specs.steps.Seams.{AreTilePieces, IsOnTile, renumbered}
 use Rattle.hier_merge.proofs.PartTypes.{space_is_defined}
 use Rattle.hier_merge.proofs.PlanePieceLaws.{union_made}

@@ -1,3 +1,6 @@
+-- what crates above name of those below
+pub use Rattle.cell_library.proofs.CellTree as CellTree
+pub use Rattle.cell_library.proofs as CellLibrary
 pub mod CleanOrders
 mod CoveringTileLaws
 mod FoundPieces

@@ -12,14 +12,14 @@ use Rattle.geo_core.specs.Strips.{IsStrips, IsInUnion}
 use Rattle.geo_core.proofs.StripSets.{strip_within}
 use Rattle.geo_core.proofs.NeighbourLaws.{AreEdgeNeighbours-sym}
 use Rattle.tech_model.specs.declared.raw.RawTech.{RawTech}
-use Rattle.layout_model.specs.Places.{Place}
-use Rattle.layout_model.specs.CellTrees.{CellTree}
-use Rattle.layout_model.specs.FlatSets.{parts_in}
+use Rattle.cell_library.specs.LayoutModel.Places.{Place}
+use Rattle.cell_library.specs.LayoutModel.CellTrees.{CellTree}
+use Rattle.cell_library.specs.LayoutModel.FlatSets.{parts_in}
 use Rattle.interact.specs.NearBoxes.{IsShared}
 use Rattle.geo_core.specs.Areas.{widened}
 use Rattle.geo_core.proofs.CoveringLaws.{covers_widened}
-use Rattle.offences.specs.Offences.{SetLayout}
-use Rattle.hierarchy_model.specs.Restrictions.{HoldsMeetings, IsRestriction, PartStands}
+use Rattle.meeting_laws.specs.Offences.Offences.{SetLayout}
+use Rattle.meeting_laws.specs.HierarchyModel.Restrictions.{HoldsMeetings, IsRestriction, PartStands}
 use Rattle.cell_library.specs.declared.part_tiles.PartTile.{PartTile}
 use Rattle.cell_library.specs.ElementBoxes.{HoldParts}
 use Rattle.cell_library.specs.PartTiles.{set_of_tiles}

@@ -10,16 +10,16 @@ use Rattle.tech_model.specs.declared.raw.RawTech.{RawTech}
 use Rattle.tech_model.specs.Types.{joined}
 use Rattle.tech_model.specs.Rules.{KeepsRules}
 use Rattle.tech_model.specs.WellFormed.{IsWellFormed}
-use Rattle.layout_model.specs.Places.{Place}
-use Rattle.layout_model.specs.CellTrees.{CellTree}
-use Rattle.layout_model.specs.CellTrees.CellTree.{cell_tree}
-use Rattle.layout_model.specs.FlatSets.{parts_in, IsTyped}
+use Rattle.cell_library.specs.LayoutModel.Places.{Place}
+use Rattle.cell_library.specs.LayoutModel.CellTrees.{CellTree}
+use Rattle.cell_library.specs.LayoutModel.CellTrees.CellTree.{cell_tree}
+use Rattle.cell_library.specs.LayoutModel.FlatSets.{parts_in, IsTyped}
 use Rattle.interact.specs.NearBoxes.{IsShared}
-use Rattle.offences.specs.Offences.{HaveTypes, Offends, OffendsOn, SetLayout, joined_at}
-use Rattle.offences.specs.SetTiles.{tile_part}
-use Rattle.hierarchy_model.specs.CleanCells.{IsClean, IsCleanBelow}
-use Rattle.hierarchy_model.specs.Restrictions.{IsRestriction}
-use Rattle.hierarchy_model.proofs.MeetingLaws.{meetings_decide, none_offends, offences_on_plane, AreAlikeAt}
+use Rattle.meeting_laws.specs.Offences.Offences.{HaveTypes, Offends, OffendsOn, SetLayout, joined_at}
+use Rattle.meeting_laws.specs.Offences.SetTiles.{tile_part}
+use Rattle.meeting_laws.specs.HierarchyModel.CleanCells.{IsClean, IsCleanBelow}
+use Rattle.meeting_laws.specs.HierarchyModel.Restrictions.{IsRestriction}
+use Rattle.meeting_laws.proofs.HierarchyModel.MeetingLaws.{meetings_decide, none_offends, offences_on_plane, AreAlikeAt}
 use Rattle.cell_library.specs.declared.part_tiles.PartTile.{PartTile}
 use Rattle.cell_library.specs.PartTiles.{set_of_tiles}
 use Rattle.hier_merge.specs.steps.MeetingTiles.{AreMeetingTiles}

@@ -8,13 +8,13 @@ use Rattle.finite_sets.proofs.Pairs.{AllPairs-from_Pairwise, Pairwise, Pairwise-
 use Rattle.geo_core.specs.declared.squares.Rect.{Rect}
 use Rattle.geo_core.specs.Areas.{AreDisjoint}
 use Rattle.tech_model.specs.declared.raw.RawTech.{RawTech}
-use Rattle.layout_model.specs.Places.{Place}
-use Rattle.offences.specs.declared.plane_stacks.PlaneStack.{PlaneStack}
-use Rattle.offences.specs.declared.stacks.TypedStack.{TypedStack}
-use Rattle.offences.specs.Offences.{HaveTypes, OffendsOn, SetLayout}
-use Rattle.offences.specs.PlaneStacks.{ArePlaneStacks}
-use Rattle.offences.specs.SetTiles.{tile_parts}
-use Rattle.offences.specs.TypedStacks.{AreTypedStacks, typed_stack_areas}
+use Rattle.cell_library.specs.LayoutModel.Places.{Place}
+use Rattle.meeting_laws.specs.Offences.declared.plane_stacks.PlaneStack.{PlaneStack}
+use Rattle.meeting_laws.specs.Offences.declared.stacks.TypedStack.{TypedStack}
+use Rattle.meeting_laws.specs.Offences.Offences.{HaveTypes, OffendsOn, SetLayout}
+use Rattle.meeting_laws.specs.Offences.PlaneStacks.{ArePlaneStacks}
+use Rattle.meeting_laws.specs.Offences.SetTiles.{tile_parts}
+use Rattle.meeting_laws.specs.Offences.TypedStacks.{AreTypedStacks, typed_stack_areas}
 use Rattle.cell_library.specs.declared.part_tiles.PartTile.{PartTile}
 use Rattle.hier_merge.specs.steps.PlanePieces.{ArePiecesFrom, HasPlanePieces, plane_stack}
 use Rattle.hier_merge.specs.StripLists.{AreStripsFrom}

@@ -14,9 +14,9 @@ use Rattle.geo_core.specs.Images.{rect_image}
 use Rattle.geo_core.specs.Strips.{IsStrips}
 use Rattle.geo_core.proofs.StripSets.{strip_is_proper}
 use Rattle.tech_model.specs.declared.raw.RawTech.{RawTech}
-use Rattle.layout_model.specs.CellTrees.{CellTree}
-use Rattle.layout_model.specs.FlatSets.{parts_in}
-use Rattle.cell_tree.specs.Hulls.{IsLawfulBox}
+use Rattle.cell_library.specs.LayoutModel.CellTrees.{CellTree}
+use Rattle.cell_library.specs.LayoutModel.FlatSets.{parts_in}
+use Rattle.cell_library.specs.CellTree.Hulls.{IsLawfulBox}
 use Rattle.cell_library.specs.declared.part_tiles.PartTile.{PartTile}
 use Rattle.cell_library.specs.PartTiles.{IsPartTileIn}
 use Rattle.hier_merge.specs.steps.Visits.{AreOfParts, AreVisits}

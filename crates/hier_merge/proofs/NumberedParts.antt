@@ -4,7 +4,7 @@ use Rattle.std.specs.Prelude.{Some, slice_get}
 use Rattle.std.specs.List.{range_with_len}
 use Rattle.std.proofs.lemmas.Option.{slice_get_within, slice_get-get_or, get_or_from_slice_get}
 use Rattle.std.proofs.lemmas.List.FromFn.{length-map-range_with_len, get_or-map-range_with_len}
-use Rattle.offences.specs.Offences.{SetLayout}
+use Rattle.meeting_laws.specs.Offences.Offences.{SetLayout}
 
 -- the parts of the first so many positions
 abbrev pub numbered : (ℕ → SetLayout) → ℕ → List SetLayout

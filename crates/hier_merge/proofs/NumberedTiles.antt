@@ -18,10 +18,10 @@ use Rattle.finite_sets.proofs.Searches.{All-from_In, All-In}
 use Rattle.geo_core.specs.Areas.{IsNear}
 use Rattle.geo_core.specs.Covering.{Covers}
 use Rattle.tech_model.specs.declared.raw.RawTech.{RawTech}
-use Rattle.offences.specs.declared.set_tiles.SetTile.{SetTile}
-use Rattle.offences.specs.declared.stacks.TypedStack.{TypedStack}
-use Rattle.offences.specs.PartSets.{AreInPartOrder, no_tile, tile_at}
-use Rattle.offences.specs.TypedStacks.{HasMembers}
+use Rattle.meeting_laws.specs.Offences.declared.set_tiles.SetTile.{SetTile}
+use Rattle.meeting_laws.specs.Offences.declared.stacks.TypedStack.{TypedStack}
+use Rattle.meeting_laws.specs.Offences.PartSets.{AreInPartOrder, no_tile, tile_at}
+use Rattle.meeting_laws.specs.Offences.TypedStacks.{HasMembers}
 use Rattle.cell_library.specs.declared.part_tiles.PartTile.{PartTile}
 use Rattle.hier_merge.specs.declared.plane_tiles.NumberedTile.{NumberedTile}
 use Rattle.hier_merge.specs.steps.PlanePieces.{HasTiles}

@@ -8,14 +8,14 @@ use Rattle.geo_core.specs.Areas.{LiesWithin}
 use Rattle.tech_model.specs.declared.raw.RawTech.{RawTech}
 use Rattle.tech_model.specs.declared.raw.TypeRec.{TypeRec}
 use Rattle.tech_model.specs.Types.{parts_of}
-use Rattle.layout_model.specs.Places.{Place}
-use Rattle.layout_model.specs.Layouts.{Layout}
-use Rattle.layout_model.specs.CellTrees.{CellTree}
-use Rattle.layout_model.specs.CellTrees.CellTree.{cell_tree}
-use Rattle.layout_model.specs.FlatSets.{element_parts, elements_in, parts_in, sets_in}
+use Rattle.cell_library.specs.LayoutModel.Places.{Place}
+use Rattle.cell_library.specs.LayoutModel.Layouts.{Layout}
+use Rattle.cell_library.specs.LayoutModel.CellTrees.{CellTree}
+use Rattle.cell_library.specs.LayoutModel.CellTrees.CellTree.{cell_tree}
+use Rattle.cell_library.specs.LayoutModel.FlatSets.{element_parts, elements_in, parts_in, sets_in}
 use Rattle.cell_library.specs.CellPaint.Painting.{paint_range}
 use Rattle.cell_library.specs.CellPaint.Paints.{IsPaintBox, IsSoundPaint}
-use Rattle.cell_tree.specs.Hulls.{IsLawfulBox}
+use Rattle.cell_library.specs.CellTree.Hulls.{IsLawfulBox}
 use Rattle.cell_library.specs.ElementBoxes.{HoldParts}
 use Rattle.cell_library.specs.LayoutTrees.{elements_from, own_cell, tree_at}
 use Rattle.cell_library.specs.Views.{LibraryView, view_at}

@@ -8,20 +8,20 @@ use Rattle.tech_model.specs.declared.raw.RawTech.{RawTech}
 use Rattle.tech_model.specs.Types.{joined, parts_of}
 use Rattle.tech_model.specs.Rules.{KeepsRules}
 use Rattle.tech_model.specs.WellFormed.{IsWellFormed}
-use Rattle.layout_model.specs.Layouts.{Layout}
-use Rattle.layout_model.specs.LayerTypes.{HasTypesOf}
-use Rattle.layout_model.specs.Places.{Place}
-use Rattle.layout_model.specs.CellTrees.{CellTree, Elements, place_back}
-use Rattle.layout_model.specs.CellTrees.CellTree.{cell_tree}
-use Rattle.layout_model.specs.CellTrees.Elements.{no_elements, element_and}
-use Rattle.layout_model.specs.FlatSets.{element_parts, flat_sets, parts_in, sets_below, sets_in, AreTyped, IsTyped}
-use Rattle.offences.specs.Offences.{HaveTypes, SetLayout, joined_at}
-use Rattle.offences.proofs.SpoiledLaws.{some_is_not_none}
-use Rattle.hierarchy_model.specs.CleanCells.{AreClean, IsCleanBelow}
-use Rattle.hierarchy_model.specs.Restrictions.{IsRestriction}
-use Rattle.hierarchy_model.proofs.CleanLaws.{has_flat_type}
-use Rattle.hierarchy_model.proofs.KindLaws.{type_in_layout}
-use Rattle.hierarchy_model.proofs.PartSearch.{type_of_empty, NoneStands}
+use Rattle.cell_library.specs.LayoutModel.Layouts.{Layout}
+use Rattle.cell_library.specs.LayoutModel.LayerTypes.{HasTypesOf}
+use Rattle.cell_library.specs.LayoutModel.Places.{Place}
+use Rattle.cell_library.specs.LayoutModel.CellTrees.{CellTree, Elements, place_back}
+use Rattle.cell_library.specs.LayoutModel.CellTrees.CellTree.{cell_tree}
+use Rattle.cell_library.specs.LayoutModel.CellTrees.Elements.{no_elements, element_and}
+use Rattle.cell_library.specs.LayoutModel.FlatSets.{element_parts, flat_sets, parts_in, sets_below, sets_in, AreTyped, IsTyped}
+use Rattle.meeting_laws.specs.Offences.Offences.{HaveTypes, SetLayout, joined_at}
+use Rattle.meeting_laws.proofs.Offences.SpoiledLaws.{some_is_not_none}
+use Rattle.meeting_laws.specs.HierarchyModel.CleanCells.{AreClean, IsCleanBelow}
+use Rattle.meeting_laws.specs.HierarchyModel.Restrictions.{IsRestriction}
+use Rattle.meeting_laws.proofs.HierarchyModel.CleanLaws.{has_flat_type}
+use Rattle.meeting_laws.proofs.HierarchyModel.KindLaws.{type_in_layout}
+use Rattle.meeting_laws.proofs.HierarchyModel.PartSearch.{type_of_empty, NoneStands}
 
 -- ---- types
 

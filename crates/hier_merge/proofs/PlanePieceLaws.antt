@@ -9,12 +9,12 @@ use Rattle.geo_core.specs.declared.squares.Rect.{Rect}
 use Rattle.geo_core.specs.declared.squares.Square.{Square}
 use Rattle.tech_model.specs.declared.raw.RawTech.{RawTech}
 use Rattle.tech_model.specs.Types.{joined}
-use Rattle.layout_model.specs.Places.{Place}
-use Rattle.offences.specs.declared.plane_stacks.PlaneStack.{PlaneStack}
-use Rattle.offences.specs.declared.stacks.TypedStack.{TypedStack}
-use Rattle.offences.specs.Offences.{SetLayout, flat_type, union_of}
-use Rattle.offences.specs.SetTiles.{tile_part, tile_parts}
-use Rattle.offences.specs.TypedStacks.{AreTypedStacks, IsTypedStack, on_plane}
+use Rattle.cell_library.specs.LayoutModel.Places.{Place}
+use Rattle.meeting_laws.specs.Offences.declared.plane_stacks.PlaneStack.{PlaneStack}
+use Rattle.meeting_laws.specs.Offences.declared.stacks.TypedStack.{TypedStack}
+use Rattle.meeting_laws.specs.Offences.Offences.{SetLayout, flat_type, union_of}
+use Rattle.meeting_laws.specs.Offences.SetTiles.{tile_part, tile_parts}
+use Rattle.meeting_laws.specs.Offences.TypedStacks.{AreTypedStacks, IsTypedStack, on_plane}
 use Rattle.cell_library.specs.declared.part_tiles.PartTile.{PartTile}
 use Rattle.cell_library.specs.PartTiles.{set_of_tiles}
 use Rattle.hier_merge.specs.steps.PlanePieces.{AddsPlane, ArePiecesFrom, HasPlanePieces, plane_stack}

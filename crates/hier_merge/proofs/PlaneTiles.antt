@@ -9,10 +9,10 @@ use Rattle.geo_core.specs.Covering.{is_covered}
 use Rattle.geo_core.specs.Areas.{IsNear}
 use Rattle.tech_model.specs.declared.raw.RawTech.{RawTech}
 use Rattle.tech_model.specs.Types.{parts_of}
-use Rattle.layout_model.specs.Places.{Place}
-use Rattle.layout_model.proofs.SetUnions.{none_union}
-use Rattle.offences.specs.declared.set_tiles.SetTile.{SetTile}
-use Rattle.offences.specs.SetTiles.{tile_part, AreTilesOfParts, set_of_set_tile}
+use Rattle.cell_library.specs.LayoutModel.Places.{Place}
+use Rattle.cell_library.proofs.LayoutModel.SetUnions.{none_union}
+use Rattle.meeting_laws.specs.Offences.declared.set_tiles.SetTile.{SetTile}
+use Rattle.meeting_laws.specs.Offences.SetTiles.{tile_part, AreTilesOfParts, set_of_set_tile}
 use Rattle.cell_library.specs.declared.part_tiles.PartTile.{PartTile}
 use Rattle.cell_library.specs.PartTiles.{set_from, set_of_tiles}
 use Rattle.hier_merge.specs.steps.Visits.{AreOfParts, set_tile, tiles_on}

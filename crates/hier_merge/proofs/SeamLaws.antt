@@ -17,12 +17,12 @@ use Rattle.geo_core.specs.Covering.{Covers}
 use Rattle.geo_core.specs.Images.{rect_image}
 use Rattle.geo_core.proofs.CoveringLaws.{covers_second}
 use Rattle.tech_model.specs.declared.raw.RawTech.{RawTech}
-use Rattle.layout_model.specs.CellTrees.{CellTree}
-use Rattle.offences.specs.declared.set_tiles.SetTile.{SetTile}
+use Rattle.cell_library.specs.LayoutModel.CellTrees.{CellTree}
+use Rattle.meeting_laws.specs.Offences.declared.set_tiles.SetTile.{SetTile}
 use Rattle.cell_library.specs.declared.part_tiles.PartTile.{PartTile}
 use Rattle.cell_library.specs.PartTiles.{IsPartTileIn}
-use Rattle.offences.specs.declared.stacks.TypedStack.{TypedStack}
-use Rattle.offences.specs.TypedStacks.{AreTypedStacks, StandForTiles}
+use Rattle.meeting_laws.specs.Offences.declared.stacks.TypedStack.{TypedStack}
+use Rattle.meeting_laws.specs.Offences.TypedStacks.{AreTypedStacks, StandForTiles}
 use Rattle.hier_merge.specs.steps.PlanePieces.{HasTiles, HaveTypedParts, parts_of_plane}
 use Rattle.hier_merge.specs.steps.Seams.{AddsPieces, AreTilePieces, AreSeams, IsSeam}
 use Rattle.hier_merge.specs.steps.Visits.{AreVisits, IsVisit, set_tile, tiles_on}

@@ -15,9 +15,9 @@ use Rattle.geo_core.specs.Strips.{IsInUnion}
 use Rattle.geo_core.proofs.CoveringLaws.{Covers-is_covered, covers_second, is_covered-Covers}
 use Rattle.tech_model.specs.declared.raw.RawTech.{RawTech}
 use Rattle.tech_model.specs.Types.{parts_of}
-use Rattle.layout_model.specs.Places.{Place}
-use Rattle.layout_model.specs.CellTrees.{CellTree}
-use Rattle.layout_model.proofs.SetUnions.{none_union, union_assoc, union_none, union_same}
+use Rattle.cell_library.specs.LayoutModel.Places.{Place}
+use Rattle.cell_library.specs.LayoutModel.CellTrees.{CellTree}
+use Rattle.cell_library.proofs.LayoutModel.SetUnions.{none_union, union_assoc, union_none, union_same}
 use Rattle.cell_library.specs.declared.part_tiles.PartTile.{PartTile}
 use Rattle.cell_library.specs.PartTiles.{IsPartTileIn, set_from, set_of_part, set_of_tiles}
 use Rattle.hier_merge.specs.Interactions.{IsWorkOver}

@@ -6,12 +6,12 @@ use Rattle.std.proofs.lemmas.List.{length-append}
 use Rattle.geo_core.specs.declared.squares.Square.{Square}
 use Rattle.geo_core.specs.declared.squares.Rect.{Rect}
 use Rattle.geo_core.specs.Strips.{IsStrips}
-use Rattle.geo_strips.proofs.StripListLaws.{one_list}
+use Rattle.interact.proofs.GeoStrips.StripListLaws.{one_list}
 use Rattle.geo_core.proofs.StripSets.{strips_same}
 use Rattle.geo_core.proofs.CoveringLaws.{within_antisym}
 use Rattle.tech_model.specs.declared.raw.RawTech.{RawTech}
-use Rattle.layout_model.specs.Layouts.{Layout}
-use Rattle.layout_model.specs.CellTrees.{CellTree}
+use Rattle.cell_library.specs.LayoutModel.Layouts.{Layout}
+use Rattle.cell_library.specs.LayoutModel.CellTrees.{CellTree}
 use Rattle.interact.specs.NearBoxes.{IsShared}
 use Rattle.cell_library.specs.declared.part_tiles.PartTile.{PartTile}
 use Rattle.cell_library.specs.LayoutTrees.{tree_at}

@@ -5,10 +5,10 @@ use Rattle.finite_sets.specs.Lists.{Lists}
 use Rattle.geo_core.specs.declared.squares.Square.{Square}
 use Rattle.geo_core.specs.declared.squares.Rect.{Rect}
 use Rattle.geo_core.specs.Strips.{IsStrips}
-use Rattle.layout_model.specs.Places.{Place}
-use Rattle.layout_model.specs.Layouts.{Layout}
+use Rattle.cell_library.specs.LayoutModel.Places.{Place}
+use Rattle.cell_library.specs.LayoutModel.Layouts.{Layout}
 use Rattle.cell_library.specs.CellPaint.Paints.{IsPaintBox}
-use Rattle.layout_model.specs.CellTrees.{CellTree}
+use Rattle.cell_library.specs.LayoutModel.CellTrees.{CellTree}
 use Rattle.interact.specs.NearBoxes.{IsShared}
 use Rattle.cell_library.specs.declared.part_tiles.PartTile.{PartTile}
 use Rattle.cell_library.specs.ElementBoxes.{AreElementBoxes}

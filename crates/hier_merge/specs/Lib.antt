@@ -1,5 +1,8 @@
 -- what crates above name of those below
-pub use Rattle.offences.specs as Offences
+pub use Rattle.meeting_laws.specs.Names as Names
+pub use Rattle.cell_library.specs.CellTree as CellTree
+pub use Rattle.cell_library.specs as CellLibrary
+pub use Rattle.meeting_laws.specs.Offences as Offences
 pub mod Interactions
 pub mod StripLists
 pub mod UncleanCells

@@ -5,13 +5,13 @@ use Rattle.geo_core.specs.declared.squares.Rect.{Rect}
 use Rattle.geo_core.specs.declared.squares.Square.{Square}
 use Rattle.geo_core.specs.Covering.{Covers}
 use Rattle.tech_model.specs.declared.raw.RawTech.{RawTech}
-use Rattle.layout_model.specs.CellTrees.{CellTree}
-use Rattle.layout_model.specs.FlatSets.{parts_in}
-use Rattle.offences.specs.declared.plane_stacks.PlaneStack.{PlaneStack}
-use Rattle.offences.specs.declared.stacks.PartKind.{PartKind}
-use Rattle.offences.specs.Offences.{SetLayout}
-use Rattle.offences.specs.PlaneStacks.{ArePlaneStacks}
-use Rattle.hierarchy_model.specs.Restrictions.{IsRestriction}
+use Rattle.cell_library.specs.LayoutModel.CellTrees.{CellTree}
+use Rattle.cell_library.specs.LayoutModel.FlatSets.{parts_in}
+use Rattle.meeting_laws.specs.Offences.declared.plane_stacks.PlaneStack.{PlaneStack}
+use Rattle.meeting_laws.specs.Offences.declared.stacks.PartKind.{PartKind}
+use Rattle.meeting_laws.specs.Offences.Offences.{SetLayout}
+use Rattle.meeting_laws.specs.Offences.PlaneStacks.{ArePlaneStacks}
+use Rattle.meeting_laws.specs.HierarchyModel.Restrictions.{IsRestriction}
 use Rattle.meeting_laws.specs.PartLayouts.{HoldsAllMeetings, Passes}
 use Rattle.cell_library.specs.declared.part_tiles.PartTile.{PartTile}
 use Rattle.cell_library.specs.PartTiles.{IsPartTileIn}

@@ -1,10 +1,10 @@
 -- Cells of a library that are not clean, and the squares that offend.
 use Rattle.std.specs.Prelude.{◌≡◌, ℕ, List, ◌∷◌, ◌++◌, length, All}
 use Rattle.geo_core.specs.declared.squares.Rect.{Rect}
-use Rattle.use_orders.specs.LibraryOrder.{IsLibraryOrder}
-use Rattle.layout_model.specs.FlatSets.{parts_in}
-use Rattle.offences.specs.Offences.{OffendsOn}
-use Rattle.hierarchy_model.specs.CleanCells.{IsClean}
+use Rattle.cell_library.specs.UseOrders.LibraryOrder.{IsLibraryOrder}
+use Rattle.cell_library.specs.LayoutModel.FlatSets.{parts_in}
+use Rattle.meeting_laws.specs.Offences.Offences.{OffendsOn}
+use Rattle.meeting_laws.specs.HierarchyModel.CleanCells.{IsClean}
 use Rattle.cell_library.specs.Additions.{children_in}
 use Rattle.cell_library.specs.LayoutTrees.{tree_at}
 use Rattle.cell_library.specs.Views.{LibraryView}

@@ -2,8 +2,8 @@
 ghost use Rattle.std.specs.Prelude.{◌≡◌, ◌≤◌, ◌+◌, ◌++◌, ◌<◌, ◌⊎◌, ◌∷◌, [], ℕ, All, AllPairs, IfOk, OnOk, length};
 ghost use Rattle.std.specs.Option.{option_to_list};
 ghost use Rattle.geo_core.specs.Areas.{AreDisjoint, IsNear};
-ghost use Rattle.layout_model.specs.FlatSets.{parts_in};
-ghost use Rattle.cell_tree.specs.Hulls.{IsLawfulBox};
+ghost use Rattle.cell_library.specs.LayoutModel.FlatSets.{parts_in};
+ghost use Rattle.cell_library.specs.CellTree.Hulls.{IsLawfulBox};
 ghost use Rattle.cell_library.specs.Libraries.{seen};
 ghost use Rattle.cell_library.specs.LayoutTrees.{tree_at};
 ghost use Rattle.cell_library.specs.ElementBoxes.{HoldParts};

@@ -24,5 +24,6 @@ mod offending_squares;
 mod plane_pieces;
 mod plane_tiles;
 
+pub use cell_library;
 pub use meetings::{Meeting, meeting_of};
 pub use offending_squares::offending_of;

@@ -1,6 +1,6 @@
 //! The pieces at which the parts of a cell meet.
 ghost use Rattle.std.specs.Prelude.{◌≡◌, ◌↔◌, ◌≤◌, ◌+◌, ◌++◌, ◌<◌, ◌^◌, ℕ, [], map, IfOk, OnOk, length};
-ghost use Rattle.hierarchy_model.specs.CleanCells.{IsCleanBelow};
+ghost use Rattle.meeting_laws.specs.HierarchyModel.CleanCells.{IsCleanBelow};
 ghost use Rattle.cell_library.specs.Libraries.{seen};
 ghost use Rattle.cell_library.specs.LayoutTrees.{tree_at};
 ghost use Rattle.hier_merge.specs.Interactions.{IsWork};
@@ -14,7 +14,7 @@ use crate::plane_pieces::{PlanePieces, add_strips, plane_pieces};
 use cell_library::{Opened, PartTile, Reader};
 use ext_model::CellKey;
 use geo_core::Rect;
-use offences::{PlaneStack, TypedStack};
+use meeting_laws::offences::{PlaneStack, TypedStack};
 use std::alloc::{AllocError, Global};
 use std::sync::ledger::Ledger;
 use tech_model::Tech;

@@ -1,9 +1,9 @@
 //! The squares at which the parts of a cell spoil each other.
 ghost use Rattle.std.specs.Prelude.{◌≡◌, ◌≤◌, ◌+◌, ◌<◌, ◌^◌, ◌↔◌, ℕ, [], IfOk, length};
-ghost use Rattle.layout_model.specs.FlatSets.{parts_in};
-ghost use Rattle.offences.specs.Offences.{OffendsOn};
-ghost use Rattle.hierarchy_model.specs.CleanCells.{IsClean, IsCleanBelow};
-ghost use Rattle.hierarchy_model.specs.Laws.{KeepsWhatItHas};
+ghost use Rattle.cell_library.specs.LayoutModel.FlatSets.{parts_in};
+ghost use Rattle.meeting_laws.specs.Offences.Offences.{OffendsOn};
+ghost use Rattle.meeting_laws.specs.HierarchyModel.CleanCells.{IsClean, IsCleanBelow};
+ghost use Rattle.meeting_laws.specs.HierarchyModel.Laws.{KeepsWhatItHas};
 ghost use Rattle.cell_library.specs.Libraries.{seen};
 ghost use Rattle.cell_library.specs.LayoutTrees.{tree_at};
 ghost use Rattle.hier_merge.specs.Interactions.{IsWork};
@@ -16,7 +16,7 @@ use crate::plane_pieces::{add_strips, plane_pieces};
 use cell_library::{Opened, PartTile, Reader};
 use ext_model::CellKey;
 use geo_core::Rect;
-use hierarchy_model::clean_cells_keep_what_they_have;
+use meeting_laws::hierarchy_model::clean_cells_keep_what_they_have;
 use std::alloc::{AllocError, Global};
 use std::sync::ledger::Ledger;
 use tech_model::Tech;

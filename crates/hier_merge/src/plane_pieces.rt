@@ -7,8 +7,8 @@ ghost use Rattle.hier_merge.specs.steps.Seams.{AddsPieces, AreSeams, renumbered}
 use crate::plane_tiles::{numbered_on, numbers_of, set_tiles};
 use cell_library::PartTile;
 use geo_core::Rect;
+use meeting_laws::offences::{TypedStack, offending_stacks, typed_stacks};
 use names_lists::List;
-use offences::{TypedStack, offending_stacks, typed_stacks};
 use std::alloc::{AllocError, Global};
 use tech_model::Tech;
 

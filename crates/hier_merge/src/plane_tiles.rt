@@ -4,7 +4,7 @@ ghost use Rattle.hier_merge.specs.steps.Seams.{numbered_on};
 ghost use Rattle.hier_merge.specs.steps.Visits.{set_tile};
 
 use cell_library::PartTile;
-use offences::SetTile;
+use meeting_laws::offences::SetTile;
 use std::alloc::{AllocError, Global};
 use tech_model::Tech;
 

@@ -4,8 +4,8 @@ use Rattle.std.proofs.Common.{refl, sym, ap, subst}
 use Rattle.std.proofs.Common.{◌∙◌, arith, eq-eqb, ne_eqb, eqb-true, true≢false}
 use Rattle.std.specs.Prelude.{Some, None, IsTrue}
 use Rattle.std.proofs.lemmas.Bool.{cases_eq, cases_Bool}
-use Rattle.finite_sets.specs.Lists.{In}
-use Rattle.finite_sets.proofs.Members.{In-append_cases}
+use Rattle.tech_model.specs.FiniteSets.Lists.{In}
+use Rattle.tech_model.proofs.FiniteSets.Members.{In-append_cases}
 use Rattle.tech_model.specs.declared.raw.RawTech.{RawTech}
 use Rattle.tech_model.specs.Types.{joined, is_within}
 use Rattle.tech_model.specs.Rules.{KeepsRules}

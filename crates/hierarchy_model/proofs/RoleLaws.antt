@@ -2,8 +2,8 @@
 use Rattle.std.proofs.Common.{◌≡◌, ◌≢◌, ◌⊎◌, ℕ, suc, List, ◌∷◌, ◌++◌, map, inl, inr, refl, ap, ◌∙◌}
 use Rattle.std.specs.Prelude.{Some, IsTrue}
 use Rattle.std.proofs.lemmas.List.{map-append}
-use Rattle.finite_sets.specs.Lists.{In}
-use Rattle.finite_sets.proofs.Members.{In-append_cases}
+use Rattle.tech_model.specs.FiniteSets.Lists.{In}
+use Rattle.tech_model.proofs.FiniteSets.Members.{In-append_cases}
 use Rattle.tech_model.specs.GeoCore.declared.transforms.Transform.{Transform}
 use Rattle.tech_model.specs.GeoCore.Images.{inverted}
 use Rattle.tech_model.proofs.GeoCore.ImageLaws.{neighbours-image}

@@ -1,6 +1,6 @@
 -- Laws of clean cells, as statements.
 use Rattle.std.specs.Prelude.{◌≡◌, ◌≢◌, ◌⊎◌, ◌==◌, ◌+◌, ℕ, IsTrue, if◌then◌else◌, List, [], ◌∷◌, ◌++◌, Some, None}
-use Rattle.finite_sets.specs.Lists.{In}
+use Rattle.tech_model.specs.FiniteSets.Lists.{In}
 use Rattle.tech_model.specs.declared.raw.RawTech.{RawTech}
 use Rattle.tech_model.specs.Types.{is_within}
 use Rattle.tech_model.specs.Rules.{KeepsRules}

@@ -1,4 +1,5 @@
 -- what crates above name of those below
+pub use Rattle.tech_model.specs as TechModel
 pub use Rattle.offences.specs.LayoutModel as LayoutModel
 pub use Rattle.offences.specs as Offences
 pub mod CleanCells

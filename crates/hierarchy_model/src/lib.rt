@@ -11,6 +11,7 @@
 
 ghost use Rattle.hierarchy_model.specs.Laws.{CleanCellsKeepWhatTheyHave};
 
+pub use offences;
 use tech_model::Tech;
 
 /// Clean cells keep what they have: their flat type is defined everywhere, each own type is within it, each flat channel is the own

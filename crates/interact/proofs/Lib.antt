@@ -1,3 +1,5 @@
+-- what crates above name of those below
+pub use Rattle.geo_strips.proofs as GeoStrips
 mod CountLaws
 mod CoveringCounts
 mod EdgeLaws

@@ -13,10 +13,10 @@ use Rattle.geo_core.specs.declared.transforms.Transform.{Transform}
 use Rattle.geo_core.specs.Elements.{elements_of}
 use Rattle.geo_core.specs.Images.{six_of}
 use Rattle.geo_core.proofs.ImageLaws.{transform_of}
-use Rattle.cell_tree.specs.declared.use_tables.UseBody.{UseBody}
-use Rattle.cell_tree.specs.Uses.{IsLawfulUse, IsShift}
-use Rattle.cell_library.specs.LayoutTrees.{element_transform}
-use Rattle.cell_library.proofs.GridSteps.{IsNearStep, element_is_near}
+use Rattle.library_trees.specs.CellTree.declared.use_tables.UseBody.{UseBody}
+use Rattle.library_trees.specs.CellTree.Uses.{IsLawfulUse, IsShift}
+use Rattle.library_trees.specs.CellLibrary.LayoutTrees.{element_transform}
+use Rattle.library_trees.proofs.CellLibrary.GridSteps.{IsNearStep, element_is_near}
 use Rattle.ext_model.specs.declared.limits.TheConstants.{ELEMENT_EDGE}
 use Rattle.ext_model.specs.Lawful.{IsPlacement}
 use Rattle.library_trees.specs.ElementNames.{UseElement, array_element, use_elements}

@@ -9,7 +9,7 @@ use Rattle.finite_sets.proofs.Distincts.{Distinct-map, length-distinct}
 use Rattle.finite_sets.proofs.Members.{In-map_source}
 use Rattle.finite_sets.proofs.Ranges.{extent_up, Lists-integer_range, Lists-pairs_of, length-integer_range, length-pairs_of}
 use Rattle.geo_core.specs.declared.limits.TheConstants.{PAINT_EDGE}
-use Rattle.layout_model.specs.Places.{Place}
+use Rattle.group_meetings.specs.LayoutModel.Places.{Place}
 use Rattle.lawful_trees.proofs.NearPlaces.{IsPaintPlace}
 use Rattle.lawful_trees.proofs.SmallWeights.{IsLittle}
 

@@ -11,9 +11,9 @@ use Rattle.tech_model.specs.Rules.{KeepsRules}
 use Rattle.tech_model.specs.WellFormed.{IsClass, IsWellFormed}
 use Rattle.ext_model.specs.declared.records.MergeRec.{MergeRec}
 use Rattle.ext_model.specs.Lawful.{AreMeasures, IsMeasure}
-use Rattle.layout_model.specs.Layouts.{IsMaterial}
-use Rattle.layout_model.specs.Places.{Place}
-use Rattle.layout_model.specs.Technologies.{Class, class_of, rules_of}
+use Rattle.group_meetings.specs.LayoutModel.Layouts.{IsMaterial}
+use Rattle.group_meetings.specs.LayoutModel.Places.{Place}
+use Rattle.group_meetings.specs.LayoutModel.Technologies.{Class, class_of, rules_of}
 use Rattle.library_trees.proofs.Measures.MeasureLaws.{space_out}
 use Rattle.library_trees.proofs.NameClasses.ClassLaws.{distinct_in_order}
 use Rattle.library_trees.specs.TreeRecords.FlatLayouts.{flat_layout}

@@ -14,13 +14,13 @@ use Rattle.ext_model.specs.NodeNames.{is_word}
 use Rattle.ext_model.specs.Lawful.{AreMeasures, IsLawful, IsLawfulMerge, IsLawfulUse}
 use Rattle.ext_model.specs.LawfulArrays.{IsArrayUse, IsLawfulArrayExt}
 use Rattle.ext_model.specs.Plain.{plain}
-use Rattle.layout_model.specs.LayerTypes.{HasTypesOf}
-use Rattle.layout_model.specs.Technologies.{class_of, rules_of}
-use Rattle.layout_model.specs.CellTrees.{CellTree}
-use Rattle.layout_model.specs.FlatSets.{IsTyped, parts_in}
-use Rattle.cell_library.specs.LayoutTrees.{tree_at}
-use Rattle.cell_library.specs.Libraries.{LibraryParts, IsLawfulLibrary, seen}
-use Rattle.cell_library.proofs.ElementCounts.{few_elements, part_count}
+use Rattle.group_meetings.specs.LayoutModel.LayerTypes.{HasTypesOf}
+use Rattle.group_meetings.specs.LayoutModel.Technologies.{class_of, rules_of}
+use Rattle.group_meetings.specs.LayoutModel.CellTrees.{CellTree}
+use Rattle.group_meetings.specs.LayoutModel.FlatSets.{IsTyped, parts_in}
+use Rattle.library_trees.specs.CellLibrary.LayoutTrees.{tree_at}
+use Rattle.library_trees.specs.CellLibrary.Libraries.{LibraryParts, IsLawfulLibrary, seen}
+use Rattle.library_trees.proofs.CellLibrary.ElementCounts.{few_elements, part_count}
 use Rattle.library_trees.specs.HierarchyModel.CleanCells.{IsClean}
 use Rattle.library_trees.proofs.OwnRecordLaws.NameForms.{plain_word}
 use Rattle.library_trees.specs.TreeRecords.NamedTrees.{NamedTree, layouts_of, named_elements_in, own_body}

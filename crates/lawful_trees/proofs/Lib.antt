@@ -1,3 +1,5 @@
+-- what crates above name of those below
+pub use Rattle.library_trees.proofs as LibraryTrees
 mod ElementForms
 mod ElementPlaces
 mod LibraryElements

@@ -8,17 +8,17 @@ use Rattle.finite_sets.proofs.Places.{slice_get-In}
 use Rattle.geo_core.specs.declared.transforms.Transform.{Transform}
 use Rattle.geo_core.specs.Images.{six_of}
 use Rattle.text_scan.specs.PlainNames.{is_plain_name}
-use Rattle.cell_library.specs.CellBodies.Words.{is_use_id}
-use Rattle.cell_tree.specs.declared.limits.TheConstants.{MOST_DEPTH}
-use Rattle.cell_tree.specs.declared.use_tables.UseBody.{UseBody}
-use Rattle.cell_tree.specs.Trees.{cell_at, empty_cell}
-use Rattle.cell_library.specs.Contents.{no_held}
-use Rattle.cell_library.specs.LayoutTrees.{element_transform}
-use Rattle.cell_library.specs.Libraries.{LibraryParts, IsLawfulLibrary, seen, uses_in}
-use Rattle.cell_library.specs.Views.{CellView, LibraryView, view_at}
-use Rattle.cell_library.proofs.ElementCounts.{use_is_lawful}
-use Rattle.cell_library.proofs.LayoutTreeLaws.{uses_seen}
-use Rattle.cell_library.proofs.ViewLaws.{cell_viewed}
+use Rattle.library_trees.specs.CellLibrary.CellBodies.Words.{is_use_id}
+use Rattle.library_trees.specs.CellTree.declared.limits.TheConstants.{MOST_DEPTH}
+use Rattle.library_trees.specs.CellTree.declared.use_tables.UseBody.{UseBody}
+use Rattle.library_trees.specs.CellTree.Trees.{cell_at, empty_cell}
+use Rattle.library_trees.specs.CellLibrary.Contents.{no_held}
+use Rattle.library_trees.specs.CellLibrary.LayoutTrees.{element_transform}
+use Rattle.library_trees.specs.CellLibrary.Libraries.{LibraryParts, IsLawfulLibrary, seen, uses_in}
+use Rattle.library_trees.specs.CellLibrary.Views.{CellView, LibraryView, view_at}
+use Rattle.library_trees.proofs.CellLibrary.ElementCounts.{use_is_lawful}
+use Rattle.library_trees.proofs.CellLibrary.LayoutTreeLaws.{uses_seen}
+use Rattle.library_trees.proofs.CellLibrary.ViewLaws.{cell_viewed}
 use Rattle.ext_model.specs.declared.records.UseRec.{UseRec}
 use Rattle.ext_model.specs.Lawful.{IsLawfulUse}
 use Rattle.ext_model.specs.NodeNames.{is_node_name}

@@ -11,10 +11,10 @@ use Rattle.ext_model.specs.declared.limits.TheConstants.{SHIFT_EDGE}
 use Rattle.ext_model.specs.declared.arrays.ArrayUse.{ArrayUse}
 use Rattle.ext_model.specs.ElementNames.{is_use_id}
 use Rattle.ext_model.specs.LawfulArrays.{HasIdForm, IsArrayUse}
-use Rattle.cell_tree.specs.Uses.{IsLawfulGrid, IsShift}
-use Rattle.cell_library.specs.Libraries.{LibraryParts, IsLawfulLibrary, seen}
-use Rattle.cell_library.specs.Views.{view_at}
-use Rattle.cell_library.proofs.ElementCounts.{use_is_lawful}
+use Rattle.library_trees.specs.CellTree.Uses.{IsLawfulGrid, IsShift}
+use Rattle.library_trees.specs.CellLibrary.Libraries.{LibraryParts, IsLawfulLibrary, seen}
+use Rattle.library_trees.specs.CellLibrary.Views.{view_at}
+use Rattle.library_trees.proofs.CellLibrary.ElementCounts.{use_is_lawful}
 use Rattle.library_trees.specs.CellRecords.{library_use, library_uses}
 use Rattle.lawful_trees.proofs.LibraryElements.{use_ids}
 

@@ -9,9 +9,9 @@ use Rattle.tech_model.specs.declared.raw.RawTech.{RawTech}
 use Rattle.tech_model.specs.Rules.{KeepsRules}
 use Rattle.tech_model.specs.WellFormed.{IsWellFormed}
 use Rattle.ext_model.specs.Lawful.{IsMeasure}
-use Rattle.layout_model.specs.Layouts.{IsMaterial}
-use Rattle.layout_model.specs.Places.{Place}
-use Rattle.layout_model.proofs.Families.{InFamily}
+use Rattle.group_meetings.specs.LayoutModel.Layouts.{IsMaterial}
+use Rattle.group_meetings.specs.LayoutModel.Places.{Place}
+use Rattle.group_meetings.proofs.LayoutModel.Families.{InFamily}
 use Rattle.library_trees.specs.TreeRecords.FlatLayouts.{flat_layout}
 use Rattle.library_trees.specs.TreeRecords.MemberGroups.{IsGroupName}
 use Rattle.library_trees.specs.TreeRecords.NamedTrees.{NamedTree}

@@ -7,21 +7,21 @@ use Rattle.geo_core.specs.Covering.{Covers}
 use Rattle.tech_model.specs.declared.limits.TheConstants.{MOST_PLANES}
 use Rattle.tech_model.specs.declared.raw.RawTech.{RawTech}
 use Rattle.tech_model.specs.WellFormed.{IsWellFormed}
-use Rattle.layout_model.specs.Layouts.{IsMaterial}
-use Rattle.layout_model.specs.Places.{Place}
-use Rattle.layout_model.specs.CellTrees.{CellTree, Elements, place_back}
-use Rattle.layout_model.specs.CellTrees.CellTree.{cell_tree}
-use Rattle.layout_model.specs.CellTrees.Elements.{no_elements, element_and}
-use Rattle.layout_model.specs.FlatSets.{flat_sets, IsTyped, AreTyped}
-use Rattle.cell_paint.specs.Painting.{paint_range}
-use Rattle.cell_tree.specs.declared.limits.TheConstants.{MOST_DEPTH}
-use Rattle.cell_tree.specs.declared.sizes.Dimension.TheVariants.{Hull}
-use Rattle.cell_tree.specs.Hulls.{SpansInRange}
-use Rattle.cell_tree.specs.Sizes.{IsHullInRange}
-use Rattle.cell_library.specs.LayoutTrees.{tree_at}
-use Rattle.cell_library.specs.Libraries.{LibraryParts, IsLawfulLibrary, seen}
-use Rattle.cell_library.specs.steps.MaterialBelow.{HasMaterial, HasMaterialBelow}
-use Rattle.cell_library.proofs.HullsHoldMaterial.{hull_holds_material, material_of_sets}
+use Rattle.group_meetings.specs.LayoutModel.Layouts.{IsMaterial}
+use Rattle.group_meetings.specs.LayoutModel.Places.{Place}
+use Rattle.group_meetings.specs.LayoutModel.CellTrees.{CellTree, Elements, place_back}
+use Rattle.group_meetings.specs.LayoutModel.CellTrees.CellTree.{cell_tree}
+use Rattle.group_meetings.specs.LayoutModel.CellTrees.Elements.{no_elements, element_and}
+use Rattle.group_meetings.specs.LayoutModel.FlatSets.{flat_sets, IsTyped, AreTyped}
+use Rattle.group_meetings.specs.CellPaint.Painting.{paint_range}
+use Rattle.library_trees.specs.CellTree.declared.limits.TheConstants.{MOST_DEPTH}
+use Rattle.library_trees.specs.CellTree.declared.sizes.Dimension.TheVariants.{Hull}
+use Rattle.library_trees.specs.CellTree.Hulls.{SpansInRange}
+use Rattle.library_trees.specs.CellTree.Sizes.{IsHullInRange}
+use Rattle.library_trees.specs.CellLibrary.LayoutTrees.{tree_at}
+use Rattle.library_trees.specs.CellLibrary.Libraries.{LibraryParts, IsLawfulLibrary, seen}
+use Rattle.library_trees.specs.CellLibrary.steps.MaterialBelow.{HasMaterial, HasMaterialBelow}
+use Rattle.library_trees.proofs.CellLibrary.HullsHoldMaterial.{hull_holds_material, material_of_sets}
 use Rattle.library_trees.specs.TreeRecords.NamedTrees.{NamedTree, layouts_of, own_body}
 use Rattle.library_trees.specs.TreeRecords.NamedTrees.NamedTree.{named_tree}
 use Rattle.library_trees.specs.TreeRecords.FlatLayouts.{flat_layout}

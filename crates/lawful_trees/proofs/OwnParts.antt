@@ -21,12 +21,12 @@ use Rattle.ext_model.specs.declared.records.CellExt.{CellExt}
 use Rattle.ext_model.specs.NodeNames.{is_word, is_node_name}
 use Rattle.ext_model.specs.Lawful.{IsLawfulNode, IsLawfulFet}
 use Rattle.ext_model.specs.RecordNames.{names_of, node_names}
-use Rattle.layout_model.specs.LayerTypes.{HasTypesOf}
-use Rattle.layout_model.specs.Layouts.{Layout, IsMaterial}
-use Rattle.layout_model.specs.Places.{Place}
-use Rattle.layout_model.specs.Technologies.{class_of}
-use Rattle.layout_model.specs.Transistors.{Transistor}
-use Rattle.cell_paint.specs.Painting.{paint_range}
+use Rattle.group_meetings.specs.LayoutModel.LayerTypes.{HasTypesOf}
+use Rattle.group_meetings.specs.LayoutModel.Layouts.{Layout, IsMaterial}
+use Rattle.group_meetings.specs.LayoutModel.Places.{Place}
+use Rattle.group_meetings.specs.LayoutModel.Technologies.{class_of}
+use Rattle.group_meetings.specs.LayoutModel.Transistors.{Transistor}
+use Rattle.group_meetings.specs.CellPaint.Painting.{paint_range}
 use Rattle.library_trees.specs.Measures.Bounds.{IsSmallMeasure}
 use Rattle.library_trees.proofs.Measures.BoundLaws.{measures_are_small}
 use Rattle.library_trees.specs.Names.NamedNodes.{AreOneNamedNode}

@@ -14,9 +14,9 @@ use Rattle.tech_model.specs.declared.raw.ClassRec.{ClassRec}
 use Rattle.tech_model.specs.declared.raw.RawTech.{RawTech}
 use Rattle.tech_model.specs.declared.raw.TypeId.{TypeId}
 use Rattle.tech_model.specs.WellFormed.{IsClass, IsWellFormed}
-use Rattle.layout_model.specs.Layouts.{Layout}
-use Rattle.layout_model.specs.Places.{Place, neighbours}
-use Rattle.layout_model.specs.Technologies.{Class, class_of, rules_of}
+use Rattle.group_meetings.specs.LayoutModel.Layouts.{Layout}
+use Rattle.group_meetings.specs.LayoutModel.Places.{Place, neighbours}
+use Rattle.group_meetings.specs.LayoutModel.Technologies.{Class, class_of, rules_of}
 use Rattle.library_trees.specs.TreeRecords.PlaceWeights.{PlaceWeight, area_weight, perimeter_weight, capacitance_weight}
 
 -- A number from 0 to five million.

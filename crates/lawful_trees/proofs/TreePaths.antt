@@ -10,9 +10,9 @@ use Rattle.ext_model.specs.NodeNames.{is_node_name}
 use Rattle.ext_model.specs.Paths.{path_text}
 use Rattle.ext_model.specs.RecordNames.{element_names, node_names}
 use Rattle.ext_model.specs.Lawful.{IsPathIn}
-use Rattle.layout_model.specs.Places.{Place}
-use Rattle.layout_model.specs.CellTrees.{place_back}
-use Rattle.layout_model.specs.FlatSets.{IsTyped, AreTyped}
+use Rattle.group_meetings.specs.LayoutModel.Places.{Place}
+use Rattle.group_meetings.specs.LayoutModel.CellTrees.{place_back}
+use Rattle.group_meetings.specs.LayoutModel.FlatSets.{IsTyped, AreTyped}
 use Rattle.library_trees.proofs.CellNodes.NodePlaces.{material_along}
 use Rattle.library_trees.specs.TreeRecords.FetRecords.{IsOfNode}
 use Rattle.library_trees.proofs.OwnRecordLaws.NameForms.{name_form}

@@ -3,8 +3,8 @@ use Rattle.std.specs.Prelude.{ℕ}
 use Rattle.ext_model.specs.declared.arrays.ArrayExt.{ArrayExt}
 use Rattle.ext_model.specs.LawfulArrays.{IsLawfulArrayExt}
 use Rattle.library_trees.specs.HierarchyModel.CleanCells.{IsClean}
-use Rattle.cell_library.specs.LayoutTrees.{tree_at}
-use Rattle.cell_library.specs.Libraries.{LibraryParts, seen}
+use Rattle.library_trees.specs.CellLibrary.LayoutTrees.{tree_at}
+use Rattle.library_trees.specs.CellLibrary.Libraries.{LibraryParts, seen}
 use Rattle.library_trees.specs.CellRecords.{IsRecordOf}
 
 -- where the cell is clean, its record is lawful

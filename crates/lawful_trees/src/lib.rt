@@ -25,8 +25,9 @@
 ghost use Rattle.std.specs.Prelude.{◌<◌, length};
 ghost use Rattle.lawful_trees.specs.Laws.{RecordIsLawful};
 
-use cell_library::Reader;
 use ext_model::CellKey;
+pub use library_trees;
+use library_trees::cell_library::Reader;
 
 /// The record of the cell is lawful where the cell is clean. It does nothing.
 pub fn record_is_lawful(library: &Reader<'_>, cell: CellKey)

@@ -8,15 +8,15 @@ use Rattle.finite_sets.specs.Lists.{In}
 use Rattle.geo_core.specs.declared.squares.Rect.{Rect}
 use Rattle.tech_model.specs.declared.raw.Label.{Label}
 use Rattle.tech_model.specs.declared.raw.RawTech.{RawTech}
-use Rattle.layout_model.specs.Places.{Place}
-use Rattle.cell_paint.specs.Paints.{layout_of}
-use Rattle.cell_bodies.specs.declared.bodies.CellBody.{CellBody}
-use Rattle.cell_bodies.specs.Bodies.{IsBody}
-use Rattle.cell_bodies.specs.Numbers.{is_label_area}
-use Rattle.cell_tree.specs.declared.sizes.Size.{Size}
-use Rattle.cell_tree.specs.Additions.{MayCome}
-use Rattle.cell_tree.specs.Sizes.{CellState, size_at, size_of}
-use Rattle.cell_tree.specs.Trees.{IsLawfulTree, Tree}
+use Rattle.cell_library.specs.LayoutModel.Places.{Place}
+use Rattle.cell_library.specs.CellPaint.Paints.{layout_of}
+use Rattle.cell_library.specs.CellBodies.declared.bodies.CellBody.{CellBody}
+use Rattle.cell_library.specs.CellBodies.Bodies.{IsBody}
+use Rattle.cell_library.specs.CellBodies.Numbers.{is_label_area}
+use Rattle.cell_library.specs.CellTree.declared.sizes.Size.{Size}
+use Rattle.cell_library.specs.CellTree.Additions.{MayCome}
+use Rattle.cell_library.specs.CellTree.Sizes.{CellState, size_at, size_of}
+use Rattle.cell_library.specs.CellTree.Trees.{IsLawfulTree, Tree}
 use Rattle.cell_library.specs.declared.faults.LibFault.{LibFault}
 use Rattle.cell_library.specs.declared.faults.LibFault.TheVariants as library_fault
 use Rattle.cell_library.specs.declared.limits.LibraryLimit.TheVariants.{Edits}

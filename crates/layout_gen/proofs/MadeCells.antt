@@ -23,16 +23,16 @@ use Rattle.geo_core.specs.Images.{identity}
 use Rattle.geo_core.specs.Orientation.{is_orientation}
 use Rattle.tech_model.specs.declared.raw.Label.{Label}
 use Rattle.tech_model.specs.declared.raw.RawTech.{RawTech}
-use Rattle.layout_model.specs.Layouts.{Layout}
-use Rattle.layout_model.specs.Places.{Place}
-use Rattle.cell_paint.specs.Painting.{with_paint}
-use Rattle.cell_bodies.specs.declared.bodies.CellBody.{CellBody}
-use Rattle.cell_bodies.specs.declared.bodies.CellUse.{CellUse}
-use Rattle.cell_bodies.specs.Bodies.{IsBody, IsLabel, IsUse, ids_of}
-use Rattle.cell_bodies.specs.Numbers.{are_elements, are_few_elements, is_grid, is_index, is_scale_number}
-use Rattle.cell_bodies.specs.Words.{is_use_id}
-use Rattle.cell_tree.specs.declared.limits.TheConstants.{MOST_USES}
-use Rattle.cell_tree.specs.declared.use_tables.UseBody.{UseBody}
+use Rattle.cell_library.specs.LayoutModel.Layouts.{Layout}
+use Rattle.cell_library.specs.LayoutModel.Places.{Place}
+use Rattle.cell_library.specs.CellPaint.Painting.{with_paint}
+use Rattle.cell_library.specs.CellBodies.declared.bodies.CellBody.{CellBody}
+use Rattle.cell_library.specs.CellBodies.declared.bodies.CellUse.{CellUse}
+use Rattle.cell_library.specs.CellBodies.Bodies.{IsBody, IsLabel, IsUse, ids_of}
+use Rattle.cell_library.specs.CellBodies.Numbers.{are_elements, are_few_elements, is_grid, is_index, is_scale_number}
+use Rattle.cell_library.specs.CellBodies.Words.{is_use_id}
+use Rattle.cell_library.specs.CellTree.declared.limits.TheConstants.{MOST_USES}
+use Rattle.cell_library.specs.CellTree.declared.use_tables.UseBody.{UseBody}
 use Rattle.cell_library.specs.declared.limits.TheConstants.{MOST_CELLS}
 use Rattle.cell_library.specs.Additions.{CanBeAdded, kept_cell, kept_use, with_all}
 use Rattle.cell_library.specs.Libraries.{IsLawfulLibrary, IsLawfulScale, LibraryParts, seen, uses_in}

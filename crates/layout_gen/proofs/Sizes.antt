@@ -22,20 +22,20 @@ use Rattle.geo_core.proofs.SquareLaws.{rect_is}
 use Rattle.tech_model.specs.declared.raw.Label.{Label}
 use Rattle.tech_model.specs.declared.raw.RawTech.{RawTech}
 use Rattle.tech_model.specs.Columns.{painted_column}
-use Rattle.layout_model.specs.Layouts.{IsMaterial, Layout}
-use Rattle.layout_model.specs.Places.{Place}
-use Rattle.cell_paint.specs.Painting.{with_paint}
-use Rattle.cell_paint.proofs.PaintLaws.{changed_outside}
-use Rattle.cell_tree.specs.declared.sizes.Dimension.{Dimension}
-use Rattle.cell_tree.specs.declared.sizes.Dimension.TheVariants.{Depth, Elements, Hull}
-use Rattle.cell_tree.specs.declared.sizes.Size.{Size}
-use Rattle.cell_tree.specs.Hulls.{SpansInRange, element_hulls, round_all, spread_area, way_of}
-use Rattle.cell_tree.specs.Sizes.{CellState, IsHullInRange, IsWithin, size_at, size_of}
-use Rattle.cell_tree.specs.declared.limits.TheConstants.{MOST_ELEMENTS_BELOW}
-use Rattle.cell_tree.specs.Uses.{displacements}
-use Rattle.cell_tree.proofs.HullLaws.{round_all-grid}
+use Rattle.cell_library.specs.LayoutModel.Layouts.{IsMaterial, Layout}
+use Rattle.cell_library.specs.LayoutModel.Places.{Place}
+use Rattle.cell_library.specs.CellPaint.Painting.{with_paint}
+use Rattle.cell_library.proofs.CellPaint.PaintLaws.{changed_outside}
+use Rattle.cell_library.specs.CellTree.declared.sizes.Dimension.{Dimension}
+use Rattle.cell_library.specs.CellTree.declared.sizes.Dimension.TheVariants.{Depth, Elements, Hull}
+use Rattle.cell_library.specs.CellTree.declared.sizes.Size.{Size}
+use Rattle.cell_library.specs.CellTree.Hulls.{SpansInRange, element_hulls, round_all, spread_area, way_of}
+use Rattle.cell_library.specs.CellTree.Sizes.{CellState, IsHullInRange, IsWithin, size_at, size_of}
+use Rattle.cell_library.specs.CellTree.declared.limits.TheConstants.{MOST_ELEMENTS_BELOW}
+use Rattle.cell_library.specs.CellTree.Uses.{displacements}
+use Rattle.cell_library.proofs.CellTree.HullLaws.{round_all-grid}
 use Rattle.cell_library.specs.OwnBoxes.{IsOwnBox, OwnBoxIs, box_with}
-use Rattle.cell_bodies.specs.Numbers.{has_sides}
+use Rattle.cell_library.specs.CellBodies.Numbers.{has_sides}
 use Rattle.cell_library.proofs.BoxLaws.{labelled_box}
 use Rattle.cell_library.proofs.BoxSteps.{own_box_wide}
 use Rattle.cell_library.proofs.SizeLaws.{none_within}

@@ -6,13 +6,13 @@ use Rattle.std.proofs.lemmas.Bool.{cases_lt}
 use Rattle.std.proofs.lemmas.List.{get_or-append-add, get_or-append_right, get_or_append_left, length-map}
 use Rattle.std.proofs.lemmas.Option.{get_or_from_slice_get, slice_get_within}
 use Rattle.finite_sets.proofs.Places.{slice_get-append_cases}
-use Rattle.cell_tree.specs.declared.limits.TheConstants.{MOST_USES}
-use Rattle.cell_tree.specs.declared.sizes.Dimension.{Dimension}
-use Rattle.cell_tree.specs.declared.sizes.Size.{Size}
-use Rattle.cell_tree.specs.Additions.{MayCome}
-use Rattle.cell_tree.specs.Sizes.{AreSizes, AreUsesBelow, CellState, IsWithin, no_size, size_at, size_of}
-use Rattle.cell_tree.specs.Trees.{IsLawfulCell, IsLawfulTree, Tree, stamp_at}
-use Rattle.cell_tree.proofs.SizeLaws.{size_of-same}
+use Rattle.cell_library.specs.CellTree.declared.limits.TheConstants.{MOST_USES}
+use Rattle.cell_library.specs.CellTree.declared.sizes.Dimension.{Dimension}
+use Rattle.cell_library.specs.CellTree.declared.sizes.Size.{Size}
+use Rattle.cell_library.specs.CellTree.Additions.{MayCome}
+use Rattle.cell_library.specs.CellTree.Sizes.{AreSizes, AreUsesBelow, CellState, IsWithin, no_size, size_at, size_of}
+use Rattle.cell_library.specs.CellTree.Trees.{IsLawfulCell, IsLawfulTree, Tree, stamp_at}
+use Rattle.cell_library.proofs.CellTree.SizeLaws.{size_of-same}
 
 -- one stamp for all
 one_stamp : {X : Type 0} (xs : List X) (edits key : ℕ) → stamp_at (map (λ _. edits) xs) key ≤ edits

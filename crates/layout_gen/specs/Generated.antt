@@ -6,9 +6,9 @@ use Rattle.geo_core.specs.Images.{identity}
 use Rattle.tech_model.specs.declared.raw.Label.{Label}
 use Rattle.tech_model.specs.declared.raw.RawTech.{RawTech}
 use Rattle.tech_model.specs.Types.{layer_named, layer_number}
-use Rattle.layout_model.specs.Layouts.{Layout}
-use Rattle.cell_paint.specs.Painting.{with_paint}
-use Rattle.cell_bodies.specs.declared.bodies.CellBody.{CellBody}
+use Rattle.cell_library.specs.LayoutModel.Layouts.{Layout}
+use Rattle.cell_library.specs.CellPaint.Painting.{with_paint}
+use Rattle.cell_library.specs.CellBodies.declared.bodies.CellBody.{CellBody}
 use Rattle.cell_library.specs.Additions.{AreNextCells, with_all}
 use Rattle.cell_library.specs.Libraries.{LibraryParts, seen}
 use Rattle.cell_library.specs.Views.{CellView, LibraryView}

@@ -1,18 +1,18 @@
 //! The bodies of the cells that are made.
 ghost use Rattle.std.specs.Prelude.{◌≡◌, ◌<◌, ◌≤◌, [], ◌∷◌, ◌++◌, true, length, unwrap_or, Some, IfOk, OnOk};
 ghost use Rattle.geo_core.specs.Areas.{has_square};
-ghost use Rattle.layout_model.specs.Places.{Place};
-ghost use Rattle.cell_paint.specs.Painting.{is_in_range, with_paint};
-ghost use Rattle.cell_paint.specs.Paints.{layout_of};
+ghost use Rattle.cell_library.specs.LayoutModel.Places.{Place};
+ghost use Rattle.cell_library.specs.CellPaint.Painting.{is_in_range, with_paint};
+ghost use Rattle.cell_library.specs.CellPaint.Paints.{layout_of};
 ghost use Rattle.layout_gen.specs.steps.Bodies.{AreLayers, AreMade, IsMade, array_use};
 ghost use Rattle.layout_gen.specs.Generated.{no_paint, row_grid, stack_grid, tile_labels, tile_layout};
 
 use crate::checks::TileLayers;
 use crate::limits::{MOST_TILES, TILE_SIDE};
 use crate::words::{ROW, STACK, TILE};
-use cell_bodies::{CellBody, CellUse};
 use cell_library::Library;
-use cell_paint::{CellPaint, PaintFault};
+use cell_library::cell_bodies::{CellBody, CellUse};
+use cell_library::cell_paint::{CellPaint, PaintFault};
 use geo_core::{Grid, Rect};
 use names_lists::{List, Name};
 use std::alloc::{AllocError, Global};

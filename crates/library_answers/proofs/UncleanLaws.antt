@@ -7,15 +7,15 @@ use Rattle.finite_sets.proofs.Members.{In-append_cases, In-append_right, In-get_
 use Rattle.geo_core.specs.declared.squares.Rect.{Rect}
 use Rattle.geo_core.specs.declared.squares.Square.{Square}
 use Rattle.use_orders.proofs.Visiting.{library_order-lists}
-use Rattle.layout_model.specs.FlatSets.{parts_in}
+use Rattle.cell_loading.specs.LayoutModel.FlatSets.{parts_in}
 use Rattle.hier_merge.specs.Offences.Offences.{OffendsOn}
 use Rattle.hier_merge.specs.StripLists.{AreStripsByPlane, AreStripsFrom}
 use Rattle.hier_merge.specs.UncleanCells.{AreOffendingOf, IsUncleanBelow}
-use Rattle.cell_library.specs.Additions.{children_in}
-use Rattle.cell_library.specs.LayoutTrees.{tree_at}
-use Rattle.cell_library.specs.Libraries.{IsLawfulLibrary, LibraryParts, seen}
-use Rattle.cell_library.specs.Views.{LibraryView}
-use Rattle.cell_library.proofs.ChildLaws.{below_there}
+use Rattle.hier_merge.specs.CellLibrary.Additions.{children_in}
+use Rattle.hier_merge.specs.CellLibrary.LayoutTrees.{tree_at}
+use Rattle.hier_merge.specs.CellLibrary.Libraries.{IsLawfulLibrary, LibraryParts, seen}
+use Rattle.hier_merge.specs.CellLibrary.Views.{LibraryView}
+use Rattle.hier_merge.proofs.CellLibrary.ChildLaws.{below_there}
 
 -- ---- strips by plane
 

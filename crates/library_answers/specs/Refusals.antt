@@ -12,15 +12,15 @@ use Rattle.tech_model.specs.declared.faults.TechFault.TheVariants.{NoSection, No
 use Rattle.tech_model.specs.declared.faults.TechFault.TheVariants.{FetName, BadForm, TypeExpression, Memory}
 use Rattle.tech_model.specs.declared.faults.TechFault.TheVariants as faults
 use Rattle.tech_file.specs.declared.reading.TechAt.{TechAt}
-use Rattle.cell_library.specs.declared.limits.LibraryLimit.{LibraryLimit}
-use Rattle.cell_library.specs.declared.limits.LibraryLimit.TheVariants as library
-use Rattle.mag_text.specs.declared.faults.MagFault.{MagFault}
-use Rattle.mag_text.specs.declared.faults.MagFault.TheVariants as mag
+use Rattle.hier_merge.specs.CellLibrary.declared.limits.LibraryLimit.{LibraryLimit}
+use Rattle.hier_merge.specs.CellLibrary.declared.limits.LibraryLimit.TheVariants as library
+use Rattle.cell_loading.specs.MagText.declared.faults.MagFault.{MagFault}
+use Rattle.cell_loading.specs.MagText.declared.faults.MagFault.TheVariants as mag
 use Rattle.cell_loading.specs.declared.faults.LoadFault.{LoadFault}
 use Rattle.cell_loading.specs.declared.faults.LoadFault.TheVariants as load
 use Rattle.cell_loading.specs.Loads.{cause_of_load}
-use Rattle.edit_script.specs.declared.faults.EditFault.{EditFault}
-use Rattle.edit_script.specs.declared.faults.EditFault.TheVariants as edit
+use Rattle.undo_log.specs.EditScript.declared.faults.EditFault.{EditFault}
+use Rattle.undo_log.specs.EditScript.declared.faults.EditFault.TheVariants as edit
 use Rattle.undo_log.specs.declared.faults.UndoFault.{UndoFault}
 use Rattle.undo_log.specs.declared.faults.UndoFault.TheVariants as undo
 use Rattle.layout_gen.specs.declared.faults.GenerateFault.{GenerateFault}

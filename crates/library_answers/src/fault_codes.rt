@@ -2,8 +2,8 @@
 ghost use Rattle.std.specs.Prelude.{◌≡◌};
 ghost use Rattle.library_answers.specs.Refusals.{library_limit_word, list_word, mag_code, section_word};
 
-use cell_library::LibraryLimit;
-use mag_text::MagFault;
+use cell_loading::mag_text::MagFault;
+use hier_merge::cell_library::LibraryLimit;
 use tech_model::{LimitedList, Section};
 
 /// The code of a fault of a cell's file.

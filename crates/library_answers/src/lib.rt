@@ -7,8 +7,11 @@ mod offending;
 mod refusals;
 mod replies;
 
+pub use cell_loading::mag_text;
+pub use hier_merge;
 pub use offending::offending_lines;
 pub use refusals::{
     refuse_edit, refuse_generate, refuse_load, refuse_tech, refuse_tech_again, refuse_undo,
 };
 pub use replies::{loaded, ok, tech_reply};
+pub use undo_log;

@@ -1,12 +1,12 @@
 //! The lines that tell which squares of a cell offend.
 ghost use Rattle.std.specs.Prelude.{◌≡◌, ◌<◌, All, map, length, IfOk};
-ghost use Rattle.cell_library.specs.Libraries.{seen};
-ghost use Rattle.cell_library.specs.Views.{view_at};
+ghost use Rattle.hier_merge.specs.CellLibrary.Libraries.{seen};
+ghost use Rattle.hier_merge.specs.CellLibrary.Views.{view_at};
 ghost use Rattle.library_answers.specs.Offending.{offending_line};
 
-use cell_library::Reader;
 use ext_model::CellKey;
 use geo_core::Rect;
+use hier_merge::cell_library::Reader;
 use line_answers::{append_bounds, append_with_name};
 use names_lists::{List, Name};
 use session_model::{LineKind, ReportLine};

@@ -5,9 +5,8 @@ ghost use Rattle.library_answers.specs.Refusals.{edit_refusal, generate_refusal,
 ghost use Rattle.library_answers.specs.Refusals.{undo_refusal};
 
 use crate::fault_codes::{library_limit_word, list_word, mag_code, section_word};
-use cell_library::LibraryLimit;
 use cell_loading::LoadFault;
-use edit_script::EditFault;
+use hier_merge::cell_library::LibraryLimit;
 use layout_gen::GenerateFault;
 use line_answers::{
     Refusal, append_two, append_with_name, at_line, cell_exists, cycle, file_refusal, named,
@@ -19,6 +18,7 @@ use std::alloc::{AllocError, Global};
 use tech_file::TechAt;
 use tech_model::TechFault;
 use undo_log::UndoFault;
+use undo_log::edit_script::EditFault;
 
 // The fault of a technology's file.
 fn tech_refusal(alloc: Global, file: &Name, at: &TechAt) -> Result<Refusal, AllocError>

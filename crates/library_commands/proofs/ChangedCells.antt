@@ -11,8 +11,8 @@ use Rattle.cell_library.specs.Views.{CellView, LibraryView, cell_named, with_cel
 use Rattle.cell_library.proofs.ViewLaws.{changed_at-same}
 use Rattle.script_lines.specs.declared.commands.Command.{Command}
 use Rattle.script_lines.specs.declared.commands.Command.TheVariants as command
-use Rattle.edit_script.specs.Editing.{Editing}
-use Rattle.edit_script.specs.Edits.{applied, grid_of, in_current, label_layer, label_of, with_cell, with_label_layer, with_layer, with_six_as_grid}
+use Rattle.uniqueness.specs.EditScript.Editing.{Editing}
+use Rattle.uniqueness.specs.EditScript.Edits.{applied, grid_of, in_current, label_layer, label_of, with_cell, with_label_layer, with_layer, with_six_as_grid}
 
 -- one cell was changed, or none
 abbrev pub ChangesCell : ℕ → LibraryView → LibraryView → Type 0

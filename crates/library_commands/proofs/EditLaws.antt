@@ -6,15 +6,15 @@ use Rattle.session_model.specs.Effects.{AnswersAlone}
 use Rattle.ext_model.specs.declared.tables.CellKey.{CellKey}
 use Rattle.cell_library.specs.Libraries.{LibraryParts, IsLawfulLibrary, IsSame, seen}
 use Rattle.script_lines.specs.declared.commands.Command.{Command}
-use Rattle.edit_script.specs.declared.faults.EditFault.{EditFault}
-use Rattle.edit_script.specs.Editing.{editing_of}
-use Rattle.edit_script.specs.Edits.{applied}
-use Rattle.edit_script.specs.Refusals.{ApplyIsRefused}
-use Rattle.edit_script.specs.Stamps.{IsStamped}
-use Rattle.undo_log.specs.Inverses.{Inverses, kept_versions}
-use Rattle.undo_log.specs.Versions.{versions_after}
+use Rattle.uniqueness.specs.EditScript.declared.faults.EditFault.{EditFault}
+use Rattle.uniqueness.specs.EditScript.Editing.{editing_of}
+use Rattle.uniqueness.specs.EditScript.Edits.{applied}
+use Rattle.uniqueness.specs.EditScript.Refusals.{ApplyIsRefused}
+use Rattle.uniqueness.specs.EditScript.Stamps.{IsStamped}
+use Rattle.look_commands.specs.UndoLog.Inverses.{Inverses, kept_versions}
+use Rattle.look_commands.specs.UndoLog.Versions.{versions_after}
 use Rattle.workspace.specs.Caches.{Agrees, Records, is_dirty}
-use Rattle.library_answers.specs.Refusals.{edit_refusal}
+use Rattle.workspace.specs.LibraryAnswers.Refusals.{edit_refusal}
 use Rattle.library_commands.specs.CommandEdits.{EditMeans}
 use Rattle.line_answers.specs.Refusals.{refusal_line}
 use Rattle.line_answers.specs.LineEffects.{refused, reply}

@@ -1,3 +1,5 @@
+-- what crates above name of those below
+pub use Rattle.cif_commands.proofs as CifCommands
 -- laws of the sessions that are kept
 pub use Rattle.workspace.proofs.SessionLaws
 mod ChangedCells

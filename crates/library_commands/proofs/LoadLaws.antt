@@ -5,13 +5,13 @@ use Rattle.session_model.specs.declared.answer.Answer.{Answer}
 use Rattle.session_model.specs.Effects.{AnswersFetching, Effect}
 use Rattle.ext_model.specs.declared.tables.CellKey.{CellKey}
 use Rattle.cell_library.specs.Libraries.{LibraryParts, IsSame, seen, edits_of}
-use Rattle.cell_loading.specs.declared.faults.LoadFault.{LoadFault}
-use Rattle.cell_loading.specs.Loads.{IsLoaded, LoadIsRefused}
+use Rattle.uniqueness.specs.CellLoading.declared.faults.LoadFault.{LoadFault}
+use Rattle.uniqueness.specs.CellLoading.Loads.{IsLoaded, LoadIsRefused}
 use Rattle.cell_library.proofs.ViewLaws.{count_seen}
-use Rattle.undo_log.specs.Inverses.{Inverses, no_inverses, kept_versions}
+use Rattle.look_commands.specs.UndoLog.Inverses.{Inverses, no_inverses, kept_versions}
 use Rattle.workspace.specs.Caches.{Records, is_dirty}
-use Rattle.library_answers.specs.Refusals.{load_refusal}
-use Rattle.library_answers.specs.Replies.{loaded_text}
+use Rattle.workspace.specs.LibraryAnswers.Refusals.{load_refusal}
+use Rattle.workspace.specs.LibraryAnswers.Replies.{loaded_text}
 use Rattle.library_commands.specs.CommandLoad.{LoadMeans, with_loaded}
 use Rattle.line_answers.specs.Refusals.{refusal_line}
 use Rattle.line_answers.specs.LineEffects.{refused, reply}

@@ -7,10 +7,10 @@ use Rattle.cell_library.specs.Views.{CellView, LibraryView, view_at, with_cell_c
 use Rattle.cell_library.proofs.ViewLaws.{length-changed_at}
 use Rattle.script_lines.specs.declared.commands.Command.{Command}
 use Rattle.script_lines.specs.declared.commands.Command.TheVariants as command
-use Rattle.edit_script.specs.Editing.{editing_of}
-use Rattle.edit_script.specs.Edits.{applied}
-use Rattle.edit_script.specs.Stamps.{IsCurrentEdit, IsStamped}
-use Rattle.edit_script.proofs.KeptCells.{cells_kept}
+use Rattle.uniqueness.specs.EditScript.Editing.{editing_of}
+use Rattle.uniqueness.specs.EditScript.Edits.{applied}
+use Rattle.uniqueness.specs.EditScript.Stamps.{IsCurrentEdit, IsStamped}
+use Rattle.uniqueness.proofs.EditScript.KeptCells.{cells_kept}
 use Rattle.workspace.specs.Caches.{Agrees, Records, is_dirty}
 use Rattle.workspace.proofs.ArrivalLaws.{agrees_cell, dirty_cell}
 use Rattle.workspace.proofs.EditLaws.{agrees_edit, dirty_edit, dirty_unedited}

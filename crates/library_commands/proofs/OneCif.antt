@@ -5,7 +5,7 @@ use Rattle.session_model.specs.Effects.{Effect}
 use Rattle.cell_library.specs.Libraries.{IsLawfulLibrary, LibraryParts, seen}
 use Rattle.cell_library.specs.Views.{LibraryView, cell_named}
 use Rattle.cell_library.proofs.ViewLaws.{count_seen}
-use Rattle.edit_script.proofs.CellLaws.{named_below}
+use Rattle.uniqueness.proofs.EditScript.CellLaws.{named_below}
 use Rattle.line_answers.specs.LineEffects.{refused}
 use Rattle.line_answers.specs.Refusals.{no_cell}
 use Rattle.cif_commands.specs.CommandCif.{CifMeans}

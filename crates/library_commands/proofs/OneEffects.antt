@@ -11,16 +11,16 @@ use Rattle.cell_library.specs.Additions.{children_in}
 use Rattle.cell_library.specs.Libraries.{IsLawfulLibrary, LibraryParts, seen}
 use Rattle.cell_library.specs.Views.{LibraryView, cell_named}
 use Rattle.script_lines.specs.declared.commands.Command.{Command}
-use Rattle.edit_script.specs.declared.faults.EditFault.{EditFault}
-use Rattle.edit_script.specs.Edits.{applied}
-use Rattle.edit_script.proofs.CellLaws.{named_below}
-use Rattle.undo_log.specs.declared.faults.UndoFault.{UndoFault}
-use Rattle.undo_log.specs.Versions.{Return, versions_after}
-use Rattle.library_answers.specs.Refusals.{edit_refusal, load_refusal, undo_refusal}
-use Rattle.library_answers.specs.Replies.{loaded_text}
+use Rattle.uniqueness.specs.EditScript.declared.faults.EditFault.{EditFault}
+use Rattle.uniqueness.specs.EditScript.Edits.{applied}
+use Rattle.uniqueness.proofs.EditScript.CellLaws.{named_below}
+use Rattle.look_commands.specs.UndoLog.declared.faults.UndoFault.{UndoFault}
+use Rattle.look_commands.specs.UndoLog.Versions.{Return, versions_after}
+use Rattle.workspace.specs.LibraryAnswers.Refusals.{edit_refusal, load_refusal, undo_refusal}
+use Rattle.workspace.specs.LibraryAnswers.Replies.{loaded_text}
 use Rattle.uniqueness.proofs.CommandFaults.{one_refusal}
 use Rattle.uniqueness.specs.UncleanCells.{UncleanCellsBelowAreUnique}
-use Rattle.cell_loading.specs.declared.faults.LoadFault.{LoadFault}
+use Rattle.uniqueness.specs.CellLoading.declared.faults.LoadFault.{LoadFault}
 use Rattle.uniqueness.proofs.OneLoad.{not_both, same_load, same_refusal}
 use Rattle.look_commands.specs.declared.looks.Look.{Look}
 use Rattle.look_commands.specs.Looks.{Tells}

@@ -6,7 +6,7 @@ use Rattle.use_orders.specs.Uses.{IsAtOrBelow}
 use Rattle.cell_library.specs.Additions.{children_in}
 use Rattle.script_lines.specs.declared.commands.Command.{Command}
 use Rattle.script_lines.specs.declared.commands.Command.TheVariants as command
-use Rattle.edit_script.specs.Editing.{Editing}
+use Rattle.uniqueness.specs.EditScript.Editing.{Editing}
 use Rattle.library_commands.specs.CommandEdits.{MarksAbove, MarksAfter, MarksCurrent}
 
 -- Booleans of which neither is true alone are one

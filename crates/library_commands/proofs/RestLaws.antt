@@ -9,7 +9,7 @@ use Rattle.session_model.proofs.FetchLaws.{text_same}
 use Rattle.tech_model.specs.declared.raw.RawTech.{RawTech}
 use Rattle.tech_file.specs.declared.reading.TechAt.{TechAt}
 use Rattle.tech_file.specs.Reading.{technology_of}
-use Rattle.cell_loading.proofs.FileLaws.{loaded_rests, refused_rests}
+use Rattle.uniqueness.proofs.CellLoading.FileLaws.{loaded_rests, refused_rests}
 use Rattle.workspace.specs.States.{State}
 use Rattle.library_commands.specs.CommandLoad.{LoadMeans}
 use Rattle.library_commands.specs.CommandTech.{TechMeans, file_effect, tech_effect, tech_file}

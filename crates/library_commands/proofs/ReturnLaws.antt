@@ -7,13 +7,13 @@ use Rattle.cell_library.specs.Additions.{children_in}
 use Rattle.cell_library.specs.Libraries.{LibraryParts, IsLawfulLibrary, IsSame, edits_of, seen}
 use Rattle.cell_library.specs.Views.{CellView, LibraryView, view_at, with_cell_changed}
 use Rattle.cell_library.proofs.ViewLaws.{count_seen, length-changed_at}
-use Rattle.edit_script.specs.Editing.{IsCurrent}
-use Rattle.undo_log.specs.declared.changes.Inverse.{Inverse}
-use Rattle.undo_log.specs.declared.faults.UndoFault.{UndoFault}
-use Rattle.undo_log.specs.declared.faults.UndoFault.TheVariants as undo
-use Rattle.undo_log.specs.Inverses.{Inverses, IsReturned, Keeps, LeadTo, kept_versions, led_to}
-use Rattle.undo_log.specs.Versions.{Return, Version, Versions, returned}
-use Rattle.undo_log.proofs.LeadLaws.{versions_unique}
+use Rattle.uniqueness.specs.EditScript.Editing.{IsCurrent}
+use Rattle.look_commands.specs.UndoLog.declared.changes.Inverse.{Inverse}
+use Rattle.look_commands.specs.UndoLog.declared.faults.UndoFault.{UndoFault}
+use Rattle.look_commands.specs.UndoLog.declared.faults.UndoFault.TheVariants as undo
+use Rattle.look_commands.specs.UndoLog.Inverses.{Inverses, IsReturned, Keeps, LeadTo, kept_versions, led_to}
+use Rattle.look_commands.specs.UndoLog.Versions.{Return, Version, Versions, returned}
+use Rattle.look_commands.proofs.UndoLog.LeadLaws.{versions_unique}
 use Rattle.workspace.specs.Caches.{Agrees, Records, is_dirty}
 use Rattle.workspace.specs.States.{Workspace}
 use Rattle.workspace.proofs.WorkspaceLaws.{same_current, workspace_of}

@@ -14,11 +14,11 @@ use Rattle.tech_model.specs.declared.raw.RawTech.{RawTech}
 use Rattle.tech_file.specs.declared.reading.TechAt.{TechAt}
 use Rattle.cell_tree.specs.Trees.{empty_tree}
 use Rattle.cell_library.specs.Libraries.{LibraryParts}
-use Rattle.undo_log.specs.Inverses.{Inverses, no_inverses}
+use Rattle.look_commands.specs.UndoLog.Inverses.{Inverses, no_inverses}
 use Rattle.workspace.specs.Caches.{Records, no_records}
 use Rattle.workspace.proofs.RecordLaws.{dirty_none}
-use Rattle.library_answers.specs.Refusals.{tech_refusal}
-use Rattle.library_answers.specs.Replies.{tech_text}
+use Rattle.workspace.specs.LibraryAnswers.Refusals.{tech_refusal}
+use Rattle.workspace.specs.LibraryAnswers.Replies.{tech_text}
 use Rattle.library_commands.specs.CommandTech.{TechMeans, file_effect, tech_effect, tech_file}
 use Rattle.line_answers.specs.LineEffects.{refused, reply}
 use Rattle.workspace.specs.States.{State, begun_with}

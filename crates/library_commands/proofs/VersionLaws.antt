@@ -4,10 +4,10 @@ use Rattle.std.specs.Prelude.{Option}
 use Rattle.ext_model.specs.declared.tables.CellKey.{CellKey}
 use Rattle.cell_library.specs.Libraries.{LibraryParts, seen}
 use Rattle.script_lines.specs.declared.commands.Command.{Command}
-use Rattle.edit_script.specs.Editing.{editing_of}
-use Rattle.undo_log.specs.Inverses.{Inverses, Keeps, kept_versions}
-use Rattle.undo_log.specs.Versions.{Versions, versions_after}
-use Rattle.undo_log.proofs.LeadLaws.{versions_unique}
+use Rattle.uniqueness.specs.EditScript.Editing.{editing_of}
+use Rattle.look_commands.specs.UndoLog.Inverses.{Inverses, Keeps, kept_versions}
+use Rattle.look_commands.specs.UndoLog.Versions.{Versions, versions_after}
+use Rattle.look_commands.proofs.UndoLog.LeadLaws.{versions_unique}
 use Rattle.workspace.proofs.VersionLaws.{KeepsSome}
 
 -- after a command that edits it keeps those that the command leaves

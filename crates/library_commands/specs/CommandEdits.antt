@@ -5,15 +5,15 @@ use Rattle.session_model.specs.Effects.{Effect}
 use Rattle.cell_library.specs.Additions.{children_in}
 use Rattle.script_lines.specs.declared.commands.Command.{Command}
 use Rattle.script_lines.specs.declared.commands.Command.TheVariants as command
-use Rattle.edit_script.specs.declared.faults.EditFault.{EditFault}
-use Rattle.edit_script.specs.Editing.{Editing}
-use Rattle.edit_script.specs.Edits.{applied}
-use Rattle.edit_script.specs.Refusals.{ApplyIsRefused}
+use Rattle.uniqueness.specs.EditScript.declared.faults.EditFault.{EditFault}
+use Rattle.uniqueness.specs.EditScript.Editing.{Editing}
+use Rattle.uniqueness.specs.EditScript.Edits.{applied}
+use Rattle.uniqueness.specs.EditScript.Refusals.{ApplyIsRefused}
 use Rattle.line_answers.specs.declared.refusals.Refusal.{Refusal}
 use Rattle.line_answers.specs.LineEffects.{accepted, refused, reply}
 use Rattle.line_answers.specs.Refusals.{no_cell, no_tech}
-use Rattle.library_answers.specs.Refusals.{edit_refusal}
-use Rattle.undo_log.specs.Versions.{versions_after}
+use Rattle.workspace.specs.LibraryAnswers.Refusals.{edit_refusal}
+use Rattle.look_commands.specs.UndoLog.Versions.{versions_after}
 use Rattle.workspace.specs.States.{State, Workspace}
 
 -- Without a technology there is nothing to edit, and no cell to `edit`.

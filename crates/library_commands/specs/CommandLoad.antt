@@ -3,13 +3,13 @@ use Rattle.std.specs.Prelude.{◌≡◌, ◌⊎◌, ℕ, suc, List, [], ◌∷�
 use Rattle.outside_io.specs.Files.{Files}
 use Rattle.session_model.specs.Effects.{Effect}
 use Rattle.cell_library.specs.Views.{LibraryView}
-use Rattle.cell_loading.specs.declared.faults.LoadFault.{LoadFault}
-use Rattle.cell_loading.specs.Loads.{IsLoaded, LoadIsRefused}
+use Rattle.uniqueness.specs.CellLoading.declared.faults.LoadFault.{LoadFault}
+use Rattle.uniqueness.specs.CellLoading.Loads.{IsLoaded, LoadIsRefused}
 use Rattle.line_answers.specs.LineEffects.{accepted, refused, reply}
 use Rattle.line_answers.specs.Refusals.{no_tech}
-use Rattle.library_answers.specs.Refusals.{load_refusal}
-use Rattle.library_answers.specs.Replies.{loaded_text}
-use Rattle.undo_log.specs.Versions.{no_versions}
+use Rattle.workspace.specs.LibraryAnswers.Refusals.{load_refusal}
+use Rattle.workspace.specs.LibraryAnswers.Replies.{loaded_text}
+use Rattle.look_commands.specs.UndoLog.Versions.{no_versions}
 use Rattle.workspace.specs.States.{State, Workspace}
 
 -- The cells came to the library, and the first of them is the current one. None of them was ever extracted. The edits before can't be undone

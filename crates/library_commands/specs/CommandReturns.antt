@@ -4,10 +4,10 @@ use Rattle.session_model.specs.Effects.{Effect}
 use Rattle.cell_library.specs.Additions.{children_in}
 use Rattle.cell_library.specs.declared.limits.TheConstants.{MOST_EDITS}
 use Rattle.line_answers.specs.LineEffects.{accepted, refused, reply}
-use Rattle.undo_log.specs.declared.faults.UndoFault.{UndoFault}
-use Rattle.undo_log.specs.declared.faults.UndoFault.TheVariants.{Edits, NothingToRedo, NothingToUndo}
-use Rattle.undo_log.specs.Versions.{Return, Versions, redone, undone, versions_redone, versions_undone}
-use Rattle.library_answers.specs.Refusals.{undo_refusal}
+use Rattle.look_commands.specs.UndoLog.declared.faults.UndoFault.{UndoFault}
+use Rattle.look_commands.specs.UndoLog.declared.faults.UndoFault.TheVariants.{Edits, NothingToRedo, NothingToUndo}
+use Rattle.look_commands.specs.UndoLog.Versions.{Return, Versions, redone, undone, versions_redone, versions_undone}
+use Rattle.workspace.specs.LibraryAnswers.Refusals.{undo_refusal}
 use Rattle.workspace.specs.States.{State, Workspace}
 use Rattle.library_commands.specs.declared.command_returns.Way.{Way}
 use Rattle.library_commands.specs.declared.command_returns.Way.TheVariants.{Redo, Undo}

@@ -9,8 +9,8 @@ use Rattle.tech_file.specs.declared.reading.TechAt.{TechAt}
 use Rattle.tech_file.specs.Reading.{technology_of}
 use Rattle.line_answers.specs.LineEffects.{accepted, refused, reply}
 use Rattle.line_answers.specs.Refusals.{file_refusal}
-use Rattle.library_answers.specs.Refusals.{tech_again, tech_refusal}
-use Rattle.library_answers.specs.Replies.{tech_text}
+use Rattle.workspace.specs.LibraryAnswers.Refusals.{tech_again, tech_refusal}
+use Rattle.workspace.specs.LibraryAnswers.Replies.{tech_text}
 use Rattle.workspace.specs.States.{State, begun_with}
 
 -- the file of a technology

@@ -4,17 +4,17 @@ ghost use Rattle.script_lines.specs.Forms.{IsFormed};
 ghost use Rattle.session_model.specs.Effects.{AnswersAlone};
 ghost use Rattle.line_answers.specs.LineEffects.{IsOfInside};
 ghost use Rattle.line_answers.specs.Refusals.{refusal_line};
-ghost use Rattle.library_answers.specs.Refusals.{edit_refusal};
+ghost use Rattle.workspace.specs.LibraryAnswers.Refusals.{edit_refusal};
 ghost use Rattle.workspace.specs.KeptSessions.{IsSession, state_of};
 ghost use Rattle.library_commands.specs.CommandEdits.{EditMeans, nothing_to_edit};
 
-use edit_script::EditFault;
-use library_answers::{ok, refuse_edit};
 use line_answers::{refuse_no_cell, refuse_no_tech, told};
 use script_lines::Command;
 use session_model::{Answer, Halt};
 use std::alloc::Global;
+use uniqueness::edit_script::EditFault;
 use workspace::LayoutSession;
+use workspace::library_answers::{ok, refuse_edit};
 
 /// A command that edits, the script's line of this number.
 pub fn edit(

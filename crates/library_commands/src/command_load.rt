@@ -7,14 +7,14 @@ ghost use Rattle.session_model.specs.Effects.{Answers};
 ghost use Rattle.workspace.specs.KeptSessions.{IsEdited, IsSession, edited_state, state_of};
 ghost use Rattle.library_commands.specs.CommandLoad.{LoadMeans};
 
-use cell_loading::{Loaded, load_cells};
 use ext_model::CellKey;
-use library_answers::{loaded, refuse_load};
 use line_answers::{refuse_no_tech, told};
 use names_lists::Name;
 use outside_io::Shelf;
 use session_model::{Answer, Halt};
 use std::alloc::Global;
+use uniqueness::cell_loading::{Loaded, load_cells};
+use workspace::library_answers::{loaded, refuse_load};
 use workspace::{Edited, LayoutSession};
 
 /// `load c`, the script's line of this number.

@@ -5,11 +5,11 @@ ghost use Rattle.line_answers.specs.LineEffects.{IsOfInside};
 ghost use Rattle.workspace.specs.KeptSessions.{IsEdited, IsSession, edited_state, state_of};
 ghost use Rattle.library_commands.specs.CommandReturns.{IsBrought, ReturnIsRefused, ReturnMeans, nothing_left};
 
-use library_answers::{ok, refuse_undo};
 use line_answers::told;
+use look_commands::undo_log::UndoFault;
 use session_model::{Answer, Halt};
 use std::alloc::Global;
-use undo_log::UndoFault;
+use workspace::library_answers::{ok, refuse_undo};
 use workspace::{Edited, LayoutSession};
 
 /// Which way a cell is brought among its versions.

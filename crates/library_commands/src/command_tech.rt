@@ -6,20 +6,20 @@ ghost use Rattle.session_model.specs.Effects.{Answers};
 ghost use Rattle.tech_file.specs.Reading.{technology_of};
 ghost use Rattle.line_answers.specs.LineEffects.{IsOfInside};
 ghost use Rattle.line_answers.specs.Refusals.{refusal_line};
-ghost use Rattle.library_answers.specs.Refusals.{tech_refusal};
+ghost use Rattle.workspace.specs.LibraryAnswers.Refusals.{tech_refusal};
 ghost use Rattle.workspace.specs.KeptSessions.{IsSession, state_of};
 ghost use Rattle.library_commands.specs.CommandTech.{TechMeans, tech_effect};
 
 use cell_library::Library;
-use library_answers::{refuse_tech, refuse_tech_again, tech_reply};
 use line_answers::{file_name, refuse_file, told};
+use look_commands::undo_log::Log;
 use names_lists::Name;
 use outside_io::Shelf;
 use session_model::{Answer, Fetched, Halt, fetch_text};
 use std::alloc::Global;
 use tech_file::{TechAt, read_tech};
 use tech_model::TechFault;
-use undo_log::Log;
+use workspace::library_answers::{refuse_tech, refuse_tech_again, tech_reply};
 use workspace::{Cache, Edited, LayoutSession};
 
 /// `tech f`, the script's line of this number.

@@ -20,6 +20,7 @@ mod command_returns;
 mod command_tech;
 mod laws;
 
+pub use cif_commands;
 pub use command_checks::check;
 pub use command_cif::write_cif;
 pub use command_edits::edit;
@@ -28,4 +29,5 @@ pub use command_looks::look_at;
 pub use command_returns::{Way, bring_back};
 pub use command_tech::tech;
 pub use laws::library_lines_have_one_effect;
+pub use look_commands;
 pub use workspace::{LayoutSession, new_session};

@@ -1,7 +1,7 @@
 -- Views that show the same of a cell and of each below it.
 use Rattle.std.proofs.Common.{◌≡◌, ℕ, zero, suc, ap, ◌∙◌}
 use Rattle.finite_sets.specs.Chain.Chain.{stay, go}
-use Rattle.cell_tree.specs.declared.limits.TheConstants.{MOST_DEPTH}
+use Rattle.cell_library.specs.CellTree.declared.limits.TheConstants.{MOST_DEPTH}
 use Rattle.cell_library.specs.Views.{CellView, LibraryView, view_at}
 use Rattle.tree_names.specs.TreeRecords.NamedTrees.NamedTree.{named_tree}
 use Rattle.tree_names.specs.TreeRecords.NamedTrees.NamedElements.{no_more}

@@ -4,8 +4,8 @@ use Rattle.std.specs.Prelude.{Option, Some, None, slice_index_or}
 use Rattle.std.specs.Option.{option_map_or}
 use Rattle.std.proofs.lemmas.List.{get_or_append_left}
 use Rattle.finite_sets.proofs.Chains.{Chain-carries}
-use Rattle.geo_core.specs.declared.transforms.Transform.{Transform}
-use Rattle.cell_tree.specs.Uses.{HasChild}
+use Rattle.ext_model.specs.GeoCore.declared.transforms.Transform.{Transform}
+use Rattle.cell_library.specs.CellTree.Uses.{HasChild}
 use Rattle.cell_library.specs.Edits.{empty_cell, single_use, transform_of, with_new_cell}
 use Rattle.cell_library.specs.Libraries.{LibraryParts, IsLawfulLibrary, cells_seen, seen, uses_in}
 use Rattle.cell_library.specs.Views.{CellView, LibraryView, changed_at, no_cell, view_at, with_cell_changed}

@@ -7,9 +7,9 @@ use Rattle.finite_sets.specs.Range.{integer_range, pairs_of, IsBetween}
 use Rattle.finite_sets.proofs.Distincts.{Distinct-map}
 use Rattle.finite_sets.proofs.Members.{In-map_source}
 use Rattle.finite_sets.proofs.Ranges.{Lists-integer_range, Lists-pairs_of}
-use Rattle.geo_core.specs.declared.grids.Grid.{Grid}
-use Rattle.geo_core.specs.Elements.{element_of, elements_of, indices, nth_index}
-use Rattle.geo_core.proofs.ElementLaws.{nth_either}
+use Rattle.ext_model.specs.GeoCore.declared.grids.Grid.{Grid}
+use Rattle.ext_model.specs.GeoCore.Elements.{element_of, elements_of, indices, nth_index}
+use Rattle.ext_model.proofs.GeoCore.ElementLaws.{nth_either}
 use Rattle.ext_model.specs.NodeNames.{slashes_in}
 use Rattle.ext_model.specs.ElementNames.{is_use_id, indexed_name}
 use Rattle.ext_model.proofs.TextCuts.{front_of, no_slashes}

@@ -3,12 +3,12 @@ use Rattle.std.proofs.Common.{◌≡◌, ◌<◌, ℕ, ℤ, true, length, Some, 
 use Rattle.std.specs.Prelude.{All, IfSome}
 use Rattle.std.proofs.lemmas.Bool.Decides.{nat_tests}
 use Rattle.std.proofs.lemmas.Int.{ints}
-use Rattle.geo_core.specs.declared.squares.Rect.{Rect}
-use Rattle.geo_core.specs.Areas.{IsNear, IsSmall}
-use Rattle.tech_model.specs.declared.raw.Label.{Label}
-use Rattle.tech_model.specs.declared.raw.LayerId.{LayerId}
-use Rattle.tech_model.specs.declared.raw.RawTech.{RawTech}
-use Rattle.names.specs.Labels.{IsLabelOf, IsLayerOf}
+use Rattle.ext_model.specs.GeoCore.declared.squares.Rect.{Rect}
+use Rattle.ext_model.specs.GeoCore.Areas.{IsNear, IsSmall}
+use Rattle.cell_library.specs.TechModel.declared.raw.Label.{Label}
+use Rattle.cell_library.specs.TechModel.declared.raw.LayerId.{LayerId}
+use Rattle.cell_library.specs.TechModel.declared.raw.RawTech.{RawTech}
+use Rattle.tree_names.specs.Names.Labels.{IsLabelOf, IsLayerOf}
 use Rattle.cell_library.specs.CellPaint.Painting.{is_coordinate, is_in_range}
 use Rattle.cell_library.specs.CellBodies.Bodies.{IsLabel}
 use Rattle.cell_library.specs.CellBodies.Numbers.{is_label_area}

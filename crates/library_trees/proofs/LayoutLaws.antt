@@ -2,15 +2,15 @@
 use Rattle.std.proofs.Common.{◌≡◌, ℕ, zero, suc, ℤ, List, [], ◌∷◌, map, refl, ap, ◌∙◌}
 use Rattle.std.specs.Prelude.{Option, Some, None}
 use Rattle.std.proofs.lemmas.Simd.{map-map}
-use Rattle.geo_core.specs.declared.grids.Grid.{Grid}
-use Rattle.geo_core.specs.declared.transforms.Transform.{Transform}
-use Rattle.geo_core.specs.Elements.{elements_of}
+use Rattle.ext_model.specs.GeoCore.declared.grids.Grid.{Grid}
+use Rattle.ext_model.specs.GeoCore.declared.transforms.Transform.{Transform}
+use Rattle.ext_model.specs.GeoCore.Elements.{elements_of}
 use Rattle.cell_library.specs.LayoutModel.CellTrees.{CellTree}
 use Rattle.cell_library.specs.LayoutModel.CellTrees.CellTree.{cell_tree}
 use Rattle.cell_library.specs.LayoutModel.CellTrees.Elements.{element_and}
-use Rattle.cell_tree.specs.declared.limits.TheConstants.{MOST_DEPTH}
-use Rattle.cell_tree.specs.declared.use_tables.UseBody.{UseBody}
-use Rattle.cell_tree.specs.Uses.{displacements}
+use Rattle.cell_library.specs.CellTree.declared.limits.TheConstants.{MOST_DEPTH}
+use Rattle.cell_library.specs.CellTree.declared.use_tables.UseBody.{UseBody}
+use Rattle.cell_library.specs.CellTree.Uses.{displacements}
 use Rattle.cell_library.specs.LayoutTrees.{element_transform, elements_at, elements_from, own_cell, tree_at, tree_to}
 use Rattle.cell_library.specs.Views.{LibraryView, view_at}
 use Rattle.tree_names.specs.TreeRecords.NamedTrees.{NamedTree, NamedElements, layouts_below, layouts_of}

@@ -1,4 +1,5 @@
 -- what crates above name of those below
+pub use Rattle.cell_library.proofs as CellLibrary
 pub use Rattle.tree_names.proofs.CellNodes as CellNodes
 pub use Rattle.tree_names.proofs.Measures as Measures
 pub use Rattle.tree_names.proofs.NameClasses as NameClasses

@@ -9,7 +9,7 @@ use Rattle.finite_sets.specs.Chain.Chain.{stay, go}
 use Rattle.finite_sets.specs.Lists.{In}
 use Rattle.finite_sets.proofs.Distincts.{Distinct-places}
 use Rattle.finite_sets.proofs.Members.{In-map, In-map_source}
-use Rattle.geo_core.specs.declared.transforms.Transform.{Transform}
+use Rattle.ext_model.specs.GeoCore.declared.transforms.Transform.{Transform}
 use Rattle.cell_library.specs.TechModel.declared.raw.RawTech.{RawTech}
 use Rattle.ext_model.specs.declared.arrays.ArrayExt.{ArrayExt}
 use Rattle.ext_model.specs.declared.records.CellExt.{CellExt}

@@ -4,10 +4,10 @@ use Rattle.std.specs.Prelude.{slice_get}
 use Rattle.std.proofs.lemmas.Bool.{cases_lt}
 use Rattle.finite_sets.specs.Chain.Chain.{stay, go}
 use Rattle.finite_sets.proofs.Chains.{Chain-push}
-use Rattle.cell_tree.specs.declared.use_tables.UseBody.{UseBody}
-use Rattle.cell_tree.specs.Cells.{IsAbove, Uses}
-use Rattle.cell_tree.specs.Trees.{cell_at, stamp_at}
-use Rattle.cell_tree.specs.Uses.{HasChild}
+use Rattle.cell_library.specs.CellTree.declared.use_tables.UseBody.{UseBody}
+use Rattle.cell_library.specs.CellTree.Cells.{IsAbove, Uses}
+use Rattle.cell_library.specs.CellTree.Trees.{cell_at, stamp_at}
+use Rattle.cell_library.specs.CellTree.Uses.{HasChild}
 use Rattle.cell_library.specs.Libraries.{LibraryParts, IsLawfulLibrary, IsNextEdit, edits_of, seen}
 use Rattle.cell_library.specs.Views.{CellView, LibraryView, view_at, with_cell_changed}
 use Rattle.cell_library.proofs.LayoutTreeLaws.{uses_seen, state_is}

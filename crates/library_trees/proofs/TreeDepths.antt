@@ -1,13 +1,13 @@
 -- How deep named trees are.
 use Rattle.std.proofs.Common.{◌≡◌, ◌<◌, ◌≤◌, max, ℕ, zero, suc, List, [], ◌∷◌, length, refl, arith}
 use Rattle.std.specs.Prelude.{Some, slice_get}
-use Rattle.geo_core.specs.declared.transforms.Transform.{Transform}
+use Rattle.ext_model.specs.GeoCore.declared.transforms.Transform.{Transform}
 use Rattle.tree_names.specs.CircuitModel.declared.limits.TheConstants.{LONGEST_CHAIN}
-use Rattle.cell_tree.specs.declared.limits.TheConstants.{MOST_DEPTH}
-use Rattle.cell_tree.specs.declared.sizes.Dimension.TheVariants.{Depth}
-use Rattle.cell_tree.specs.declared.sizes.Size.{Size}
-use Rattle.cell_tree.specs.declared.use_tables.UseBody.{UseBody}
-use Rattle.cell_tree.specs.Sizes.{size_at, depth_below as size_below}
+use Rattle.cell_library.specs.CellTree.declared.limits.TheConstants.{MOST_DEPTH}
+use Rattle.cell_library.specs.CellTree.declared.sizes.Dimension.TheVariants.{Depth}
+use Rattle.cell_library.specs.CellTree.declared.sizes.Size.{Size}
+use Rattle.cell_library.specs.CellTree.declared.use_tables.UseBody.{UseBody}
+use Rattle.cell_library.specs.CellTree.Sizes.{size_at, depth_below as size_below}
 use Rattle.cell_library.specs.Libraries.{LibraryParts, IsLawfulLibrary, seen}
 use Rattle.cell_library.specs.Views.{view_at}
 use Rattle.cell_library.proofs.LayoutTreeLaws.{children_are_cells, depth_is}

@@ -7,10 +7,10 @@ use Rattle.std.proofs.lemmas.List.Elements.{All-tail}
 use Rattle.finite_sets.specs.Lists.{Distinct, In}
 use Rattle.finite_sets.proofs.Distincts.{Distinct-append}
 use Rattle.finite_sets.proofs.Members.{In-append_cases}
-use Rattle.geo_core.specs.declared.transforms.Transform.{Transform}
+use Rattle.ext_model.specs.GeoCore.declared.transforms.Transform.{Transform}
 use Rattle.cell_library.specs.CellBodies.Words.{is_use_id}
-use Rattle.cell_tree.specs.declared.use_tables.UseBody.{UseBody}
-use Rattle.cell_tree.specs.Trees.{cell_at, empty_cell}
+use Rattle.cell_library.specs.CellTree.declared.use_tables.UseBody.{UseBody}
+use Rattle.cell_library.specs.CellTree.Trees.{cell_at, empty_cell}
 use Rattle.cell_library.specs.Libraries.{LibraryParts, IsLawfulLibrary, seen}
 use Rattle.cell_library.specs.Views.{CellView, LibraryView, view_at}
 use Rattle.cell_library.proofs.LayoutTreeLaws.{uses_seen, state_is}
@@ -23,7 +23,7 @@ use Rattle.library_trees.specs.NamedCells.{named_elements_at, named_elements_fro
 use Rattle.library_trees.proofs.ElementNameLaws.{names_differ, names_in, names_tell_id, names_whole}
 use Rattle.ext_model.proofs.TextCuts.{front_of}
 use Rattle.library_trees.proofs.WholeTrees.{UsesWithIds, no_cell_seen}
-use Rattle.cell_tree.specs.declared.limits.TheConstants.{MOST_DEPTH}
+use Rattle.cell_library.specs.CellTree.declared.limits.TheConstants.{MOST_DEPTH}
 
 -- the ids of uses
 abbrev use_ids : UsesWithIds → List (List ℕ)

@@ -4,13 +4,13 @@ use Rattle.std.specs.Prelude.{Some, slice_get}
 use Rattle.std.proofs.Math.ListN.{get_or-eq_default}
 use Rattle.tree_names.specs.TreeRecords.NamedTrees.{NamedTree}
 use Rattle.tree_names.specs.TreeRecords.NamedTrees.NamedTree.{named_tree}
-use Rattle.cell_tree.specs.declared.limits.TheConstants.{MOST_DEPTH}
-use Rattle.cell_tree.specs.declared.sizes.Dimension.TheVariants.{Depth}
-use Rattle.cell_tree.specs.declared.sizes.Size.{Size}
-use Rattle.cell_tree.specs.declared.use_tables.UseBody.{UseBody}
-use Rattle.cell_tree.specs.Sizes.{CellState, size_at}
-use Rattle.cell_tree.specs.Trees.{cell_at}
-use Rattle.cell_tree.proofs.SizeLaws.{child_is_lower}
+use Rattle.cell_library.specs.CellTree.declared.limits.TheConstants.{MOST_DEPTH}
+use Rattle.cell_library.specs.CellTree.declared.sizes.Dimension.TheVariants.{Depth}
+use Rattle.cell_library.specs.CellTree.declared.sizes.Size.{Size}
+use Rattle.cell_library.specs.CellTree.declared.use_tables.UseBody.{UseBody}
+use Rattle.cell_library.specs.CellTree.Sizes.{CellState, size_at}
+use Rattle.cell_library.specs.CellTree.Trees.{cell_at}
+use Rattle.cell_library.proofs.CellTree.SizeLaws.{child_is_lower}
 use Rattle.cell_library.specs.Libraries.{LibraryParts, IsLawfulLibrary, cells_seen, seen, uses_in}
 use Rattle.cell_library.specs.Views.{no_cell, view_at}
 use Rattle.cell_library.proofs.LayoutTreeLaws.{children_are_cells, uses_seen, depth_is, state_is}

@@ -1,6 +1,6 @@
 -- The record of a cell of a library.
 use Rattle.std.specs.Prelude.{◌≡◌, ℕ, List, map}
-use Rattle.geo_core.specs.Images.{six_of}
+use Rattle.ext_model.specs.GeoCore.Images.{six_of}
 use Rattle.ext_model.specs.declared.arrays.ArrayUse.{ArrayUse}
 use Rattle.ext_model.specs.declared.arrays.ArrayExt.{ArrayExt}
 use Rattle.ext_model.specs.Plain.{plain}

@@ -1,7 +1,7 @@
 -- The names of the elements of a use.
 use Rattle.std.specs.Prelude.{ℕ, ℤ, pos, List, [], ◌∷◌, map, Option, Some, None}
-use Rattle.geo_core.specs.declared.grids.Grid.{Grid}
-use Rattle.geo_core.specs.Elements.{elements_of}
+use Rattle.ext_model.specs.GeoCore.declared.grids.Grid.{Grid}
+use Rattle.ext_model.specs.GeoCore.Elements.{elements_of}
 pub use Rattle.ext_model.specs.ElementNames.{indexed_name}
 
 -- An element of a use: its name, and how far it is displaced, in the child's coordinates and before the transform.

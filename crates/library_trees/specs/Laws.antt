@@ -1,10 +1,10 @@
 -- The laws of the cells of a library as trees with names and labels, as statements.
 use Rattle.std.specs.Prelude.{◌≡◌, ◌<◌, ◌≤◌, ℕ, ℤ, List, length}
-use Rattle.geo_core.specs.declared.grids.Grid.{Grid}
-use Rattle.geo_core.specs.declared.squares.Rect.{Rect}
+use Rattle.ext_model.specs.GeoCore.declared.grids.Grid.{Grid}
+use Rattle.ext_model.specs.GeoCore.declared.squares.Rect.{Rect}
 use Rattle.cell_library.specs.TechModel.declared.raw.Label.{Label}
-use Rattle.cell_tree.specs.declared.limits.TheConstants.{MOST_DEPTH}
-use Rattle.cell_tree.specs.Trees.{stamp_at}
+use Rattle.cell_library.specs.CellTree.declared.limits.TheConstants.{MOST_DEPTH}
+use Rattle.cell_library.specs.CellTree.Trees.{stamp_at}
 use Rattle.tree_names.specs.HierarchyModel.CleanCells.{IsClean}
 use Rattle.tree_names.specs.CircuitModel.declared.limits.TheConstants.{LONGEST_CHAIN}
 use Rattle.cell_library.specs.Edits.{erased, labelled, moved, painted, placed, unlabelled, with_grid, with_new_cell, without_use}

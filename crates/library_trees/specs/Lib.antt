@@ -1,4 +1,7 @@
 -- what crates above name of those below
+pub use Rattle.cell_library.specs.CellTree as CellTree
+pub use Rattle.cell_library.specs.LayoutModel as LayoutModel
+pub use Rattle.cell_library.specs as CellLibrary
 pub use Rattle.tree_names.specs.CellNodes as CellNodes
 pub use Rattle.tree_names.specs.CircuitModel as CircuitModel
 pub use Rattle.tree_names.specs.HierarchyModel as HierarchyModel

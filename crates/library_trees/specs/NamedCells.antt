@@ -1,10 +1,10 @@
 -- The cells of a library as trees with names and labels.
 use Rattle.std.specs.Prelude.{ℕ, zero, suc, List, [], ◌∷◌}
 use Rattle.finite_sets.specs.Chain.{Chain}
-use Rattle.geo_core.specs.declared.transforms.Transform.{Transform}
-use Rattle.cell_tree.specs.declared.limits.TheConstants.{MOST_DEPTH}
-use Rattle.cell_tree.specs.declared.use_tables.UseBody.{UseBody}
-use Rattle.cell_tree.specs.Uses.{HasChild}
+use Rattle.ext_model.specs.GeoCore.declared.transforms.Transform.{Transform}
+use Rattle.cell_library.specs.CellTree.declared.limits.TheConstants.{MOST_DEPTH}
+use Rattle.cell_library.specs.CellTree.declared.use_tables.UseBody.{UseBody}
+use Rattle.cell_library.specs.CellTree.Uses.{HasChild}
 use Rattle.cell_library.specs.LayoutTrees.{element_transform}
 use Rattle.cell_library.specs.Views.{CellView, LibraryView, view_at}
 use Rattle.tree_names.specs.TreeRecords.NamedTrees.{NamedTree, NamedElements, OwnBody}

@@ -30,8 +30,10 @@ ghost use Rattle.library_trees.specs.Laws.{NewCellsKeepTrees, StampsTellChangedT
 ghost use Rattle.library_trees.specs.RecordLaws.{KeptRecordsAreOfTheTree, ListedRecordsAreOfTheTree};
 ghost use Rattle.std.specs.Prelude.{◌<◌, length};
 
+pub use cell_library;
 use cell_library::Reader;
 use ext_model::CellKey;
+pub use tree_names::cell_nodes;
 
 /// Without names and labels, the named tree of a cell is its tree of layouts.
 pub fn named_trees_have_the_layouts()

@@ -1,7 +1,7 @@
 -- Where the answer to a line comes from: from what the shelf said, or from inside.
 use Rattle.std.proofs.Common.{◌≡◌, ◌≤◌, Bool, true, false, List}
 use Rattle.std.specs.Prelude.{Result, Ok, Err, IfOk, IsOkUnless}
-use Rattle.outside_io.specs.declared.outside.Shelf.{Ghosts as ShelfWords}
+use Rattle.session_model.specs.OutsideIo.declared.outside.Shelf.{Ghosts as ShelfWords}
 use Rattle.session_model.specs.declared.answer.Answer.{Answer}
 use Rattle.session_model.specs.declared.answer.Halt.{Halt}
 use Rattle.session_model.specs.declared.answer.Halt.TheVariants.{ReadFault, WriteFault, Memory}

@@ -4,8 +4,8 @@ use Rattle.std.specs.Prelude.{All}
 use Rattle.geo_core.specs.declared.squares.Rect.{Rect}
 use Rattle.ext_model.specs.declared.tables.CellKey.{CellKey}
 use Rattle.use_orders.specs.LibraryOrder.{IsLibraryOrder}
-use Rattle.hier_merge.proofs.CleanOrders.{first_unclean_there, numbers}
-use Rattle.hier_merge.specs.UncleanCells.{AreOffendingOf, IsCleanCell, IsUncleanBelow}
+use Rattle.library_answers.proofs.HierMerge.CleanOrders.{first_unclean_there, numbers}
+use Rattle.library_answers.specs.HierMerge.UncleanCells.{AreOffendingOf, IsCleanCell, IsUncleanBelow}
 use Rattle.cell_library.specs.Additions.{children_in}
 use Rattle.cell_library.specs.Views.{LibraryView}
 

@@ -5,7 +5,7 @@ use Rattle.line_answers.specs.LineEffects.{reply}
 use Rattle.ext_model.specs.declared.records.NodeRec.{NodeRec}
 use Rattle.ext_text.specs.NodeLines.{node_line}
 use Rattle.cell_library.specs.Views.{LibraryView, view_at}
-use Rattle.cell_nodes.specs.NodeRecords.{AreNodeRecords}
+use Rattle.library_trees.specs.CellNodes.NodeRecords.{AreNodeRecords}
 
 -- a line for each node
 abbrev pub node_lines : List NodeRec → List ReportLine

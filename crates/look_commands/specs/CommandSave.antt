@@ -4,8 +4,8 @@ use Rattle.session_model.specs.declared.answer.Store.{Store}
 use Rattle.session_model.specs.declared.report.ReportLine.{ReportLine}
 use Rattle.line_answers.specs.LineEffects.{reply}
 use Rattle.cell_library.specs.Views.{LibraryView}
-use Rattle.mag_text.specs.CellTexts.{IsCellText}
-use Rattle.cell_loading.specs.CellFiles.{cell_file}
+use Rattle.library_answers.specs.MagText.CellTexts.{IsCellText}
+use Rattle.library_answers.specs.CellLoading.CellFiles.{cell_file}
 
 -- `save c`
 abbrev pub saved_text : List ℕ → List ℕ

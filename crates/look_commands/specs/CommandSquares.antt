@@ -2,7 +2,7 @@
 use Rattle.std.specs.Prelude.{◌≡◌, ◌⊎◌, ℕ, List, [], ◌∷◌, ◌++◌, map, codes}
 use Rattle.geo_core.specs.declared.squares.Rect.{Rect}
 use Rattle.cell_library.specs.Views.{LibraryView, view_at}
-use Rattle.hier_merge.specs.UncleanCells.{IsCleanCell, IsUncleanBelow}
+use Rattle.library_answers.specs.HierMerge.UncleanCells.{IsCleanCell, IsUncleanBelow}
 use Rattle.session_model.specs.declared.report.ReportLine.{ReportLine}
 use Rattle.line_answers.specs.LineEffects.{reply}
 use Rattle.library_answers.specs.Offending.{offending_line}

@@ -6,9 +6,9 @@ ghost use Rattle.line_answers.specs.LineEffects.{IsOfInside, reply};
 ghost use Rattle.look_commands.specs.CommandNodes.{TellsNodes, node_lines};
 
 use cell_library::Library;
-use cell_nodes::cell_nodes;
 use ext_model::{CellKey, NodeRec};
 use ext_text::append_node_line;
+use library_trees::cell_nodes::cell_nodes;
 use line_answers::reply;
 use session_model::ReportLine;
 use std::alloc::{AllocError, Global};

@@ -6,8 +6,8 @@ ghost use Rattle.look_commands.specs.CommandSave.{SavesCell, saved_text};
 
 use cell_library::Library;
 use ext_model::CellKey;
+use library_answers::mag_text::write_mag;
 use line_answers::{append_with_name, file_name, one_line, one_store, reply};
-use mag_text::write_mag;
 use names_lists::{List, Name};
 use session_model::{Answer, Halt, ReportLine, Store};
 use std::alloc::{AllocError, Global};

@@ -3,18 +3,18 @@ ghost use Rattle.std.specs.Prelude.{◌≡◌, ◌<◌, All, MatchOption, map, l
 ghost use Rattle.use_orders.specs.LibraryOrder.{IsLibraryOrder};
 ghost use Rattle.cell_library.specs.Additions.{children_in};
 ghost use Rattle.cell_library.specs.Libraries.{seen};
-ghost use Rattle.hier_merge.specs.UncleanCells.{IsCleanCell, IsUncleanBelow};
+ghost use Rattle.library_answers.specs.HierMerge.UncleanCells.{IsCleanCell, IsUncleanBelow};
 ghost use Rattle.line_answers.specs.LineEffects.{IsOfInside, reply};
 ghost use Rattle.look_commands.specs.CommandSquares.{TellsSquares, clean_text};
 
 use cell_library::{Library, Opened, Reader};
 use ext_model::CellKey;
 use geo_core::Rect;
-use hier_merge::offending_of;
+use library_answers::hier_merge::offending_of;
+use library_answers::offending_lines;
 use line_answers::{append_with_name, one_line, reply};
 use names_lists::{List, Name};
 use session_model::{Halt, ReportLine};
-use library_answers::offending_lines;
 use std::alloc::{AllocError, Global};
 use std::marker::Brand;
 use std::sync::ledger::{Blank, Ledger};

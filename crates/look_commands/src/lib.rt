@@ -6,4 +6,5 @@ mod command_save;
 mod command_squares;
 mod looks;
 
+pub use library_answers::undo_log;
 pub use looks::{Look, tell};

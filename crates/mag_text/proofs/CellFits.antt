@@ -18,13 +18,13 @@ use Rattle.geo_core.specs.Images.{six_of}
 use Rattle.geo_core.specs.Orientation.{matrix, is_orientation}
 use Rattle.text_scan.specs.PlainNames.{is_plain_name}
 use Rattle.tech_model.specs.declared.raw.Label.{Label}
-use Rattle.layout_model.specs.Layouts.{Layout}
-use Rattle.cell_paint.specs.Painting.{is_coordinate, is_in_range}
-use Rattle.cell_bodies.specs.declared.bodies.CellUse.{CellUse}
-use Rattle.cell_bodies.specs.Bodies.{IsLabel}
-use Rattle.cell_bodies.specs.Words.{is_use_id}
-use Rattle.cell_bodies.specs.Numbers.{is_displacement, are_displacements, is_index, are_few_elements, is_grid, is_placing}
-use Rattle.cell_bodies.specs.Numbers.{is_scale_number}
+use Rattle.cell_library.specs.LayoutModel.Layouts.{Layout}
+use Rattle.cell_library.specs.CellPaint.Painting.{is_coordinate, is_in_range}
+use Rattle.cell_library.specs.CellBodies.declared.bodies.CellUse.{CellUse}
+use Rattle.cell_library.specs.CellBodies.Bodies.{IsLabel}
+use Rattle.cell_library.specs.CellBodies.Words.{is_use_id}
+use Rattle.cell_library.specs.CellBodies.Numbers.{is_displacement, are_displacements, is_index, are_few_elements, is_grid, is_placing}
+use Rattle.cell_library.specs.CellBodies.Numbers.{is_scale_number}
 use Rattle.geo_core.proofs.OrientationLaws.{is_orientation-six_of}
 use Rattle.cell_tree.specs.declared.sizes.Dimension.TheVariants.{Hull}
 use Rattle.cell_tree.specs.declared.sizes.Size.{Size}

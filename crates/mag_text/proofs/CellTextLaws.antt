@@ -3,7 +3,7 @@ use Rattle.std.proofs.Common.{◌≡◌, ◌<◌, ℕ, zero, suc, List, [], ◌�
 use Rattle.std.specs.Prelude.{◌+◌, Option, Some, None, slice_get, slice_index_or, All}
 use Rattle.std.proofs.lemmas.List.{take_more}
 use Rattle.std.proofs.lemmas.Option.{slice_get-get_or}
-use Rattle.cell_bodies.specs.Bodies.{IsLabel}
+use Rattle.cell_library.specs.CellBodies.Bodies.{IsLabel}
 use Rattle.cell_tree.specs.declared.use_tables.UseBody.{UseBody}
 use Rattle.cell_tree.specs.Trees.{cell_at}
 use Rattle.cell_tree.specs.Uses.{IsLawfulUse}

@@ -9,13 +9,13 @@ use Rattle.tech_model.specs.declared.raw.RawTech.{RawTech}
 use Rattle.tech_model.specs.Types.{plane_of}
 use Rattle.tech_model.specs.WellFormed.{IsWellFormed}
 use Rattle.tech_model.specs.ColumnForms.{IsOnPlane}
-use Rattle.layout_model.specs.Places.{Place}
-use Rattle.layout_model.specs.Layouts.{Layout}
-use Rattle.cell_paint.specs.Paints.{KeepsTypes, IsSoundPaint}
-use Rattle.cell_paint.proofs.ColumnsLaws.{column_type}
-use Rattle.cell_paint.proofs.PlaneLaws.{space_past}
-use Rattle.cell_bodies.specs.declared.bodies.CellBody.{CellBody}
-use Rattle.cell_bodies.specs.declared.bodies.CellUse.{CellUse}
+use Rattle.cell_library.specs.LayoutModel.Places.{Place}
+use Rattle.cell_library.specs.LayoutModel.Layouts.{Layout}
+use Rattle.cell_library.specs.CellPaint.Paints.{KeepsTypes, IsSoundPaint}
+use Rattle.cell_library.proofs.CellPaint.ColumnsLaws.{column_type}
+use Rattle.cell_library.proofs.CellPaint.PlaneLaws.{space_past}
+use Rattle.cell_library.specs.CellBodies.declared.bodies.CellBody.{CellBody}
+use Rattle.cell_library.specs.CellBodies.declared.bodies.CellUse.{CellUse}
 use Rattle.cell_tree.specs.declared.use_tables.UseBody.{UseBody}
 use Rattle.cell_library.specs.Contents.{held_at}
 use Rattle.cell_library.specs.Libraries.{LibraryParts, IsLawfulLibrary, seen, uses_in}

@@ -2,9 +2,9 @@
 use Rattle.std.proofs.Common.{◌≡◌, ℕ, List, take}
 use Rattle.geo_core.specs.declared.squares.Rect.{Rect}
 use Rattle.tech_model.specs.declared.raw.RawTech.{RawTech}
-use Rattle.layout_model.specs.Places.{Place}
-use Rattle.layout_model.specs.Layouts.{Layout}
-use Rattle.cell_paint.specs.Painting.{with_all_painted}
+use Rattle.cell_library.specs.LayoutModel.Places.{Place}
+use Rattle.cell_library.specs.LayoutModel.Layouts.{Layout}
+use Rattle.cell_library.specs.CellPaint.Painting.{with_all_painted}
 use Rattle.mag_text.specs.declared.files.Drawn.{Drawn}
 use Rattle.mag_text.specs.Drawings.{painted_all, drawn_at}
 

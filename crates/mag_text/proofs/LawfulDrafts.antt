@@ -19,10 +19,10 @@ use Rattle.geo_core.specs.declared.squares.Rect.{Rect}
 use Rattle.tech_model.specs.declared.raw.LayerId.{LayerId}
 use Rattle.tech_model.specs.declared.raw.Label.{Label as OneLabel}
 use Rattle.tech_model.specs.declared.raw.RawTech.{RawTech}
-use Rattle.cell_bodies.specs.declared.bodies.CellUse.{CellUse}
-use Rattle.cell_bodies.specs.Bodies.{ids_of, IsUse, IsLabel, IsBody}
-use Rattle.cell_bodies.specs.Words.{is_use_id}
-use Rattle.cell_bodies.specs.Numbers.{is_grid, is_placing, is_scale_number}
+use Rattle.cell_library.specs.CellBodies.declared.bodies.CellUse.{CellUse}
+use Rattle.cell_library.specs.CellBodies.Bodies.{ids_of, IsUse, IsLabel, IsBody}
+use Rattle.cell_library.specs.CellBodies.Words.{is_use_id}
+use Rattle.cell_library.specs.CellBodies.Numbers.{is_grid, is_placing, is_scale_number}
 use Rattle.mag_text.specs.declared.faults.MagFault.{MagFault}
 use Rattle.mag_text.specs.declared.faults.MagFault.TheVariants.{UseTwice, Magic, BadLine}
 use Rattle.mag_text.specs.declared.files.Group.{Group as OneGroup}
@@ -37,7 +37,7 @@ use Rattle.mag_text.specs.declared.files.UsePart.TheVariants.{Named, Arrayed, Da
 use Rattle.mag_text.specs.Drafts.{Draft, nothing_yet, none_seen, has_id, use_named, opens, takes_in_header, takes_in_group, takes_in_use, takes_said, takes_in}
 use Rattle.mag_text.specs.Drafts.{with_grid, with_time, with_six, ends_read_over, is_magic, begins, line_taken, line_in, step, ended, finish}
 use Rattle.mag_text.specs.LineForms.{says}
-use Rattle.cell_bodies.specs.declared.bodies.CellBody.{CellBody}
+use Rattle.cell_library.specs.CellBodies.declared.bodies.CellBody.{CellBody}
 use Rattle.mag_text.specs.Drawings.{IsDrawn, AreDrawn}
 use Rattle.mag_text.specs.MagTexts.{mag_in, HasAllOf}
 use Rattle.mag_text.proofs.LawfulLines.{IsGoodLine, IsGoodGroup, IsGoodScale, IsPainted, says-good}

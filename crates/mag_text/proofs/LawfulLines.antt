@@ -17,11 +17,11 @@ use Rattle.text_form.specs.SaidLines.{and_then}
 use Rattle.tech_model.specs.declared.raw.LayerId.{LayerId}
 use Rattle.tech_model.specs.declared.raw.RawTech.{RawTech}
 use Rattle.tech_model.specs.Types.{has_name, layer_named, layer_number}
-use Rattle.cell_paint.specs.Painting.{is_coordinate, is_in_range}
-use Rattle.cell_bodies.specs.Bodies.{IsLabel}
-use Rattle.cell_bodies.specs.Words.{is_use_id, is_label_text}
-use Rattle.cell_bodies.specs.Numbers.{is_displacement, is_index, are_indices, are_displacements, are_few_elements, are_elements, is_grid}
-use Rattle.cell_bodies.specs.Numbers.{is_placing, is_position, has_sides, is_label_area, is_scale_number}
+use Rattle.cell_library.specs.CellPaint.Painting.{is_coordinate, is_in_range}
+use Rattle.cell_library.specs.CellBodies.Bodies.{IsLabel}
+use Rattle.cell_library.specs.CellBodies.Words.{is_use_id, is_label_text}
+use Rattle.cell_library.specs.CellBodies.Numbers.{is_displacement, is_index, are_indices, are_displacements, are_few_elements, are_elements, is_grid}
+use Rattle.cell_library.specs.CellBodies.Numbers.{is_placing, is_position, has_sides, is_label_area, is_scale_number}
 use Rattle.mag_text.specs.declared.faults.MagFault.{MagFault}
 use Rattle.mag_text.specs.declared.faults.MagFault.TheVariants.{BadLine, NoLayer, Range, EmptyRect, Transform as NoOrientation}
 use Rattle.mag_text.specs.declared.files.Group.{Group as OneGroup}

@@ -22,13 +22,13 @@ use Rattle.tech_model.specs.WellFormed.{IsWellFormed}
 use Rattle.tech_model.specs.Rules.{KeepsRules}
 use Rattle.tech_model.specs.Columns.{type_on, painted_column}
 use Rattle.tech_model.specs.ColumnForms.{IsOnPlane}
-use Rattle.layout_model.specs.Places.{Place}
-use Rattle.layout_model.specs.Layouts.{Layout}
-use Rattle.cell_paint.specs.Painting.{place_at, kinds_on, column_at}
-use Rattle.cell_paint.proofs.AgainLaws.{image_type}
-use Rattle.cell_paint.proofs.ColumnsLaws.{column_type}
-use Rattle.cell_paint.proofs.PaintLaws.{type_past_column, changed_inside, changed_outside}
-use Rattle.cell_paint.proofs.ShownLaws.{Stands, shown, with_layer, shown_there, shown_space, painted_column-shown}
+use Rattle.cell_library.specs.LayoutModel.Places.{Place}
+use Rattle.cell_library.specs.LayoutModel.Layouts.{Layout}
+use Rattle.cell_library.specs.CellPaint.Painting.{place_at, kinds_on, column_at}
+use Rattle.cell_library.proofs.CellPaint.AgainLaws.{image_type}
+use Rattle.cell_library.proofs.CellPaint.ColumnsLaws.{column_type}
+use Rattle.cell_library.proofs.CellPaint.PaintLaws.{type_past_column, changed_inside, changed_outside}
+use Rattle.cell_library.proofs.CellPaint.ShownLaws.{Stands, shown, with_layer, shown_there, shown_space, painted_column-shown}
 use Rattle.mag_text.specs.declared.files.Drawn.{Drawn}
 use Rattle.mag_text.specs.declared.written.LayerStrips.{LayerStrips}
 use Rattle.mag_text.specs.CellsAgain.{IsSoundLayout}

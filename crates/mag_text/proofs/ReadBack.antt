@@ -17,7 +17,7 @@ use Rattle.tech_model.specs.declared.raw.LayerId.{LayerId}
 use Rattle.tech_model.specs.declared.raw.RawTech.{RawTech}
 use Rattle.tech_model.specs.Types.{layer_at, first_name, layer_number}
 use Rattle.tech_model.specs.WellFormed.{IsWellFormed}
-use Rattle.cell_bodies.specs.declared.bodies.CellUse.{CellUse}
+use Rattle.cell_library.specs.CellBodies.declared.bodies.CellUse.{CellUse}
 use Rattle.mag_text.specs.declared.faults.MagFault.TheVariants.{UseTwice, Magic}
 use Rattle.mag_text.specs.declared.files.Drawn.{Drawn}
 use Rattle.mag_text.specs.declared.files.Group.TheVariants.{Paint, Labels, ReadOver}
@@ -40,9 +40,9 @@ use Rattle.std.specs.Prelude.{IfSome, IsTrue}
 use Rattle.text_scan.specs.Decimal.{decimal, natural_text}
 use Rattle.text_scan.specs.Numbers.{number_of}
 use Rattle.text_scan.proofs.DecimalLemmas.{number_of-decimal}
-use Rattle.cell_paint.specs.Painting.{is_in_range}
-use Rattle.cell_bodies.specs.Bodies.{IsLabel}
-use Rattle.cell_bodies.specs.Numbers.{is_grid, is_placing, is_scale_number}
+use Rattle.cell_library.specs.CellPaint.Painting.{is_in_range}
+use Rattle.cell_library.specs.CellBodies.Bodies.{IsLabel}
+use Rattle.cell_library.specs.CellBodies.Numbers.{is_grid, is_placing, is_scale_number}
 use Rattle.mag_text.specs.declared.faults.MagFault.TheVariants.{Range}
 use Rattle.mag_text.specs.NumberForms.{is_decimal, number_in, scale_number_in}
 use Rattle.mag_text.specs.WordForms.{after_word}

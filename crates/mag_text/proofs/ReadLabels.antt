@@ -24,11 +24,11 @@ use Rattle.tech_model.specs.declared.limits.TheConstants.{LONGEST_LABEL}
 use Rattle.tech_model.specs.declared.raw.Label.{Label as OneLabel}
 use Rattle.tech_model.specs.declared.raw.LayerId.{LayerId}
 use Rattle.tech_model.specs.declared.raw.RawTech.{RawTech}
-use Rattle.cell_paint.specs.Painting.{is_in_range}
-use Rattle.cell_bodies.specs.Bodies.{IsLabel}
-use Rattle.cell_bodies.specs.Words.{is_text_byte, begins_with_blank, ends_with_blank, is_label_text, without_last_blanks, without_outer_blanks}
-use Rattle.cell_bodies.specs.Numbers.{is_position, has_sides, is_label_area}
-use Rattle.cell_bodies.proofs.BlankLaws.{without_first_blanks-none}
+use Rattle.cell_library.specs.CellPaint.Painting.{is_in_range}
+use Rattle.cell_library.specs.CellBodies.Bodies.{IsLabel}
+use Rattle.cell_library.specs.CellBodies.Words.{is_text_byte, begins_with_blank, ends_with_blank, is_label_text, without_last_blanks, without_outer_blanks}
+use Rattle.cell_library.specs.CellBodies.Numbers.{is_position, has_sides, is_label_area}
+use Rattle.cell_library.proofs.CellBodies.BlankLaws.{without_first_blanks-none}
 use Rattle.mag_text.specs.declared.faults.MagFault.TheVariants.{EmptyRect}
 use Rattle.mag_text.specs.declared.files.MagLine.TheVariants.{Label}
 use Rattle.mag_text.specs.NumberForms.{Four, rect_in, if_touched, position_in}

@@ -19,8 +19,8 @@ use Rattle.text_scan.proofs.WordLemmas.{words_of-split, words_of-none}
 use Rattle.text_scan.proofs.WrittenLemmas.{IsWord-test, words_of-line_of, words-decimals}
 use Rattle.text_form.specs.SaidLines.{and_then}
 use Rattle.tech_model.specs.declared.raw.RawTech.{RawTech}
-use Rattle.cell_paint.specs.Painting.{is_coordinate, is_in_range}
-use Rattle.cell_bodies.specs.Words.{is_use_id_byte, is_use_id}
+use Rattle.cell_library.specs.CellPaint.Painting.{is_coordinate, is_in_range}
+use Rattle.cell_library.specs.CellBodies.Words.{is_use_id_byte, is_use_id}
 use Rattle.ext_model.specs.declared.limits.TheConstants.{LONGEST_USE_ID}
 use Rattle.geo_core.proofs.OrientationLaws.{six_of-is_orientation}
 use Rattle.geo_core.specs.declared.orients.Orient.{Orient}
@@ -29,8 +29,8 @@ use Rattle.geo_core.specs.Images.{six_of}
 use Rattle.geo_core.specs.Orientation.{matrix, is_orientation}
 use Rattle.text_scan.specs.PlainNames.{is_plain_byte, is_plain_name}
 use Rattle.text_scan.specs.declared.plain_name.TheConstants.{LONGEST_NAME}
-use Rattle.cell_bodies.specs.Numbers.{is_displacement, is_index, is_grid, is_placing, are_elements, are_indices, are_displacements}
-use Rattle.cell_bodies.specs.Numbers.{are_few_elements}
+use Rattle.cell_library.specs.CellBodies.Numbers.{is_displacement, is_index, is_grid, is_placing, are_elements, are_indices, are_displacements}
+use Rattle.cell_library.specs.CellBodies.Numbers.{are_few_elements}
 use Rattle.mag_text.specs.declared.faults.MagFault.TheVariants.{Range, EmptyRect, Transform as NoOrientation}
 use Rattle.mag_text.specs.declared.files.MagLine.TheVariants.{Nothing, Area, Use, Array, Transform, Box}
 use Rattle.mag_text.specs.NumberForms.{if_in, coordinate_in, displacement_in, index_in, rect_in, if_painted, grid_in, six_in}

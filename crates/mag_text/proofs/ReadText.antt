@@ -20,8 +20,8 @@ use Rattle.tech_model.specs.declared.raw.Label.{Label as OneLabel}
 use Rattle.tech_model.specs.declared.raw.RawTech.{RawTech}
 use Rattle.tech_model.specs.Types.{layer_at, first_name}
 use Rattle.tech_model.specs.WellFormed.{IsWellFormed}
-use Rattle.cell_bodies.specs.Bodies.{IsLabel}
-use Rattle.cell_bodies.specs.Words.{is_text_byte, begins_with_blank, ends_with_blank, is_label_text}
+use Rattle.cell_library.specs.CellBodies.Bodies.{IsLabel}
+use Rattle.cell_library.specs.CellBodies.Words.{is_text_byte, begins_with_blank, ends_with_blank, is_label_text}
 use Rattle.mag_text.specs.declared.written.LayerStrips.{LayerStrips}
 use Rattle.mag_text.specs.declared.written.WrittenUse.{WrittenUse}
 use Rattle.mag_text.specs.Drafts.{nothing_yet, step, finish}

@@ -15,8 +15,8 @@ use Rattle.geo_core.specs.Strips.{IsStrip}
 use Rattle.tech_model.specs.declared.raw.RawTech.{RawTech}
 use Rattle.tech_model.specs.Types.{is_type, plane_of, no_layer, type_number}
 use Rattle.tech_model.specs.WellFormed.{IsWellFormed}
-use Rattle.layout_model.specs.Layouts.{Layout}
-use Rattle.cell_paint.specs.Painting.{is_coordinate, is_in_range, kinds_on, place_at}
+use Rattle.cell_library.specs.LayoutModel.Layouts.{Layout}
+use Rattle.cell_library.specs.CellPaint.Painting.{is_coordinate, is_in_range, kinds_on, place_at}
 use Rattle.mag_text.specs.declared.written.LayerStrips.{LayerStrips}
 use Rattle.mag_text.specs.WrittenTexts.{own_image, AreAllStrips}
 use Rattle.tech_model.specs.declared.raw.Label.{Label as OneLabel}

@@ -9,8 +9,8 @@ use Rattle.std.specs.Cmp.Lexicographic.{same_text}
 use Rattle.std.proofs.lemmas.List.{map-append}
 use Rattle.std.proofs.lemmas.List.Folds.{list_any-append}
 use Rattle.std.proofs.lemmas.List.Sorted.{list_any-IsPermutation}
-use Rattle.cell_bodies.specs.declared.bodies.CellUse.{CellUse}
-use Rattle.cell_bodies.specs.Bodies.{ids_of}
+use Rattle.cell_library.specs.CellBodies.declared.bodies.CellUse.{CellUse}
+use Rattle.cell_library.specs.CellBodies.Bodies.{ids_of}
 use Rattle.mag_text.specs.steps.UseIds.{AreIds}
 use Rattle.mag_text.specs.Drafts.{has_id}
 

@@ -13,7 +13,7 @@ use Rattle.text_scan.proofs.WrittenLemmas.{text_of-append, lines_behind}
 use Rattle.tech_model.specs.declared.raw.Label.{Label}
 use Rattle.tech_model.specs.declared.raw.RawTech.{RawTech}
 use Rattle.tech_model.specs.Types.{first_name, layer_at}
-use Rattle.layout_model.specs.Layouts.{Layout}
+use Rattle.cell_library.specs.LayoutModel.Layouts.{Layout}
 use Rattle.mag_text.specs.declared.written.LayerStrips.{LayerStrips}
 use Rattle.mag_text.specs.declared.written.WrittenUse.{WrittenUse}
 use Rattle.mag_text.specs.WrittenTexts.{numbers_line, scale_lines, no_time_line, tech_line, header_lines, group_line, area_line, group_lines, layer_lines}

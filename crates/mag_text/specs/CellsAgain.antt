@@ -6,12 +6,12 @@ use Rattle.text_form.specs.declared.reading.At.{At}
 use Rattle.tech_model.specs.declared.raw.RawTech.{RawTech}
 use Rattle.tech_model.specs.Types.{is_type, plane_of, layer_of}
 use Rattle.tech_model.specs.ColumnForms.{IsOnPlane}
-use Rattle.layout_model.specs.Places.{Place}
-use Rattle.layout_model.specs.Layouts.{Layout}
-use Rattle.cell_paint.specs.Painting.{kinds_on}
-use Rattle.cell_paint.specs.Paints.{layout_of}
-use Rattle.cell_bodies.specs.declared.bodies.CellBody.{CellBody}
-use Rattle.cell_bodies.specs.declared.bodies.CellUse.{CellUse}
+use Rattle.cell_library.specs.LayoutModel.Places.{Place}
+use Rattle.cell_library.specs.LayoutModel.Layouts.{Layout}
+use Rattle.cell_library.specs.CellPaint.Painting.{kinds_on}
+use Rattle.cell_library.specs.CellPaint.Paints.{layout_of}
+use Rattle.cell_library.specs.CellBodies.declared.bodies.CellBody.{CellBody}
+use Rattle.cell_library.specs.CellBodies.declared.bodies.CellUse.{CellUse}
 use Rattle.cell_tree.specs.declared.use_tables.UseBody.{UseBody}
 use Rattle.cell_library.specs.Views.{LibraryView, view_at}
 use Rattle.mag_text.specs.declared.faults.MagFault.{MagFault}

@@ -7,8 +7,8 @@ use Rattle.text_scan.specs.Words.{words_of}
 use Rattle.text_form.specs.SaidLines.{and_then}
 use Rattle.tech_model.specs.declared.raw.Label.{Label as OneLabel}
 use Rattle.tech_model.specs.declared.raw.RawTech.{RawTech}
-use Rattle.cell_bodies.specs.declared.bodies.CellUse.{CellUse}
-use Rattle.cell_bodies.specs.Bodies.{ids_of}
+use Rattle.cell_library.specs.CellBodies.declared.bodies.CellUse.{CellUse}
+use Rattle.cell_library.specs.CellBodies.Bodies.{ids_of}
 use Rattle.mag_text.specs.declared.faults.MagFault.{MagFault}
 use Rattle.mag_text.specs.declared.faults.MagFault.TheVariants.{Magic, BadLine, UseTwice, NoEnd}
 use Rattle.mag_text.specs.declared.files.Drawn.{Drawn}

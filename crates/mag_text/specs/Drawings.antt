@@ -2,8 +2,8 @@
 use Rattle.std.specs.Prelude.{◌≡◌, ◌<◌, true, ℕ, pos, List, length, All, fold, slice_index_or}
 use Rattle.geo_core.specs.Areas.{has_square}
 use Rattle.tech_model.specs.declared.raw.RawTech.{RawTech}
-use Rattle.layout_model.specs.Layouts.{Layout}
-use Rattle.cell_paint.specs.Painting.{is_in_range, with_paint}
+use Rattle.cell_library.specs.LayoutModel.Layouts.{Layout}
+use Rattle.cell_library.specs.CellPaint.Painting.{is_in_range, with_paint}
 use Rattle.mag_text.specs.declared.files.Drawn.{Drawn}
 
 -- A rectangle that may be painted: it is of a layer of the technology, has a square, and lies within the range of paint.

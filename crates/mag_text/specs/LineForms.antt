@@ -27,7 +27,7 @@ use Rattle.tech_model.specs.declared.raw.Label.{Label as OneLabel}
 use Rattle.tech_model.specs.declared.raw.LayerId.{LayerId}
 use Rattle.tech_model.specs.declared.raw.RawTech.{RawTech}
 use Rattle.tech_model.specs.Types.{layer_named, layer_number}
-use Rattle.cell_bodies.specs.Words.{is_use_id, is_label_text, without_outer_blanks}
+use Rattle.cell_library.specs.CellBodies.Words.{is_use_id, is_label_text, without_outer_blanks}
 use Rattle.mag_text.specs.declared.faults.MagFault.{MagFault}
 use Rattle.mag_text.specs.declared.faults.MagFault.TheVariants.{BadLine, NoLayer, NotHere}
 use Rattle.mag_text.specs.declared.files.Group.{Group as OneGroup}

@@ -5,10 +5,10 @@ use Rattle.text_form.specs.declared.reading.At.{At}
 use Rattle.text_form.specs.Folds.{last_number, first_fault_or, text_state}
 use Rattle.text_form.specs.FirstFaults.{IsFirstFault}
 use Rattle.tech_model.specs.declared.raw.RawTech.{RawTech}
-use Rattle.layout_model.specs.Places.{Place}
-use Rattle.cell_paint.specs.Paints.{layout_of}
-use Rattle.cell_bodies.specs.declared.bodies.CellBody.{CellBody}
-use Rattle.cell_bodies.specs.Bodies.{IsBody}
+use Rattle.cell_library.specs.LayoutModel.Places.{Place}
+use Rattle.cell_library.specs.CellPaint.Paints.{layout_of}
+use Rattle.cell_library.specs.CellBodies.declared.bodies.CellBody.{CellBody}
+use Rattle.cell_library.specs.CellBodies.Bodies.{IsBody}
 use Rattle.mag_text.specs.declared.faults.MagFault.{MagFault}
 use Rattle.mag_text.specs.Drafts.{Draft, nothing_yet, step, finish}
 use Rattle.mag_text.specs.Drawings.{painted_all}

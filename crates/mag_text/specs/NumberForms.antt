@@ -7,8 +7,8 @@ use Rattle.geo_core.specs.declared.grids.Grid.{Grid}
 use Rattle.geo_core.specs.declared.squares.Rect.{Rect}
 use Rattle.geo_core.specs.Areas.{has_square}
 use Rattle.geo_core.specs.Orientation.{is_orientation}
-use Rattle.cell_paint.specs.Painting.{is_coordinate}
-use Rattle.cell_bodies.specs.Numbers.{is_displacement, is_index, are_few_elements, is_position, has_sides, is_scale_number}
+use Rattle.cell_library.specs.CellPaint.Painting.{is_coordinate}
+use Rattle.cell_library.specs.CellBodies.Numbers.{is_displacement, is_index, are_few_elements, is_position, has_sides, is_scale_number}
 use Rattle.mag_text.specs.declared.faults.MagFault.{MagFault}
 use Rattle.mag_text.specs.declared.faults.MagFault.TheVariants.{EmptyRect, Range, Transform}
 

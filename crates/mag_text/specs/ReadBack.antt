@@ -10,13 +10,13 @@ use Rattle.tech_model.specs.declared.raw.RawTech.{RawTech}
 use Rattle.tech_model.specs.Types.{layer_number}
 use Rattle.tech_model.specs.WellFormed.{IsWellFormed}
 use Rattle.geo_core.specs.Covering.{Covers}
-use Rattle.layout_model.specs.Places.{Place}
-use Rattle.layout_model.specs.Layouts.{Layout, IsMaterial}
-use Rattle.cell_paint.specs.Painting.{is_in_range, paint_range}
-use Rattle.cell_bodies.specs.declared.bodies.CellUse.{CellUse}
-use Rattle.cell_bodies.specs.Bodies.{IsLabel}
-use Rattle.cell_bodies.specs.Words.{is_use_id}
-use Rattle.cell_bodies.specs.Numbers.{is_grid, is_placing, is_scale_number}
+use Rattle.cell_library.specs.LayoutModel.Places.{Place}
+use Rattle.cell_library.specs.LayoutModel.Layouts.{Layout, IsMaterial}
+use Rattle.cell_library.specs.CellPaint.Painting.{is_in_range, paint_range}
+use Rattle.cell_library.specs.CellBodies.declared.bodies.CellUse.{CellUse}
+use Rattle.cell_library.specs.CellBodies.Bodies.{IsLabel}
+use Rattle.cell_library.specs.CellBodies.Words.{is_use_id}
+use Rattle.cell_library.specs.CellBodies.Numbers.{is_grid, is_placing, is_scale_number}
 use Rattle.mag_text.specs.declared.files.Drawn.{Drawn}
 use Rattle.mag_text.specs.declared.files.Section.TheVariants.{Ended}
 use Rattle.mag_text.specs.declared.written.LayerStrips.{LayerStrips}

@@ -7,10 +7,10 @@ use Rattle.text_scan.specs.PlainNames.{is_plain_name}
 use Rattle.tech_model.specs.declared.raw.Label.{Label as OneLabel}
 use Rattle.tech_model.specs.declared.raw.RawTech.{RawTech}
 use Rattle.tech_model.specs.WellFormed.{IsWellFormed}
-use Rattle.cell_paint.specs.Painting.{is_in_range}
-use Rattle.cell_bodies.specs.Bodies.{IsLabel}
-use Rattle.cell_bodies.specs.Words.{is_use_id}
-use Rattle.cell_bodies.specs.Numbers.{is_grid, is_placing}
+use Rattle.cell_library.specs.CellPaint.Painting.{is_in_range}
+use Rattle.cell_library.specs.CellBodies.Bodies.{IsLabel}
+use Rattle.cell_library.specs.CellBodies.Words.{is_use_id}
+use Rattle.cell_library.specs.CellBodies.Numbers.{is_grid, is_placing}
 use Rattle.mag_text.specs.declared.files.MagLine.TheVariants.{Area, Label, Use, Array, Transform, Box}
 use Rattle.mag_text.specs.LineForms.{says}
 use Rattle.mag_text.specs.WrittenTexts.{area_line, grid_line, transform_line, box_line, use_line, label_line}

@@ -15,7 +15,7 @@ use crate::files::{Drawn, Group, MagLine, Section, Seen, UsePart};
 use crate::line_forms::says;
 use crate::painting::paint_all;
 use crate::use_tables::UseTable;
-use cell_bodies::{CellBody, CellUse};
+use cell_library::cell_bodies::{CellBody, CellUse};
 use geo_core::{Grid, Rect};
 use names_lists::{List, Name};
 use std::alloc::{AllocError, Global};

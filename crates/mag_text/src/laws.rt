@@ -10,14 +10,14 @@ ghost use Rattle.mag_text.specs.declared.written.LayerStrips.{LayerStrips as Str
 ghost use Rattle.mag_text.specs.declared.written.WrittenUse.{WrittenUse as OneUse};
 ghost use Rattle.tech_model.specs.declared.raw.Label.{Label as OneLabel};
 ghost use Rattle.mag_text.specs.WrittenTexts.{mag_text};
-ghost use Rattle.layout_model.specs.Layouts.{Layout as Kinds};
+ghost use Rattle.cell_library.specs.LayoutModel.Layouts.{Layout as Kinds};
 ghost use Rattle.mag_text.specs.WrittenTexts.{IsWrittenText};
 ghost use Rattle.mag_text.specs.ReadBack.{FitsText, IsReadAs, IsWritable, draft_of};
 ghost use Rattle.mag_text.specs.WrittenLaws.{SayWhatTheyWereWrittenFrom};
 ghost use Rattle.tech_model.specs.WellFormed.{IsWellFormed};
 ghost use Rattle.tech_model.specs.Rules.{KeepsRules};
-ghost use Rattle.layout_model.specs.Places.{Place};
-ghost use Rattle.cell_paint.specs.Paints.{IsSoundPaint};
+ghost use Rattle.cell_library.specs.LayoutModel.Places.{Place};
+ghost use Rattle.cell_library.specs.CellPaint.Paints.{IsSoundPaint};
 ghost use Rattle.cell_library.specs.Libraries.{LibraryParts, IsLawfulLibrary, seen};
 ghost use Rattle.cell_library.specs.Views.{view_at};
 ghost use Rattle.mag_text.specs.CellTexts.{IsCellText};

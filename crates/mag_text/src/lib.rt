@@ -32,6 +32,8 @@ mod use_tables;
 mod writing;
 mod written;
 
+pub use cell_library;
+pub use cell_library::cell_bodies;
 pub use cell_texts::write_mag;
 pub use faults::{MagAt, MagFault};
 pub use files::{Drawn, Group, MagLine, Section, Seen, UsePart};

@@ -3,7 +3,7 @@ ghost use Rattle.std.specs.Prelude.{◌≡◌, ◌≢◌, ◌∷◌, [], Ok, Err
 ghost use Rattle.text_scan.specs.Words.{words_of};
 ghost use Rattle.mag_text.specs.declared.faults.MagFault.TheVariants.{Memory as OutOfMemory};
 ghost use Rattle.text_form.specs.SaidLines.{and_then};
-ghost use Rattle.cell_bodies.specs.Words.{without_outer_blanks};
+ghost use Rattle.cell_library.specs.CellBodies.Words.{without_outer_blanks};
 ghost use Rattle.mag_text.specs.NumberForms.{rect_in, if_painted};
 ghost use Rattle.mag_text.specs.LineForms.{layer_in, label_layer_in, tech_line, timestamp_line, scale_line, is_read_over_name, group_named};
 ghost use Rattle.mag_text.specs.LineForms.{if_four, if_six, four_numbers, six_numbers, group_line, area_line, label_place, label_at, label_line_of};
@@ -18,7 +18,7 @@ use crate::numbers::{
     Four, Six, are_four_decimal, are_six_decimal, grid_in, if_painted, if_touched, is_decimal,
     number_in, position_in, rect_in, scale_in, six_in,
 };
-use cell_bodies::{is_label_text, is_use_id, without_outer_blanks};
+use cell_library::cell_bodies::{is_label_text, is_use_id, without_outer_blanks};
 use geo_core::Rect;
 use names_lists::Name;
 use std::alloc::Global;

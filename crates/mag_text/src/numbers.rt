@@ -1,15 +1,15 @@
 //! The numbers of a mag text.
 ghost use Rattle.std.specs.Prelude.{◌≡◌, IsTrue, IfOk};
-ghost use Rattle.cell_bodies.specs.Numbers.{is_index};
+ghost use Rattle.cell_library.specs.CellBodies.Numbers.{is_index};
 ghost use Rattle.mag_text.specs.NumberForms.{is_decimal, are_four_decimal, are_six_decimal, number_in, if_in, coordinate_in, displacement_in, index_in};
 ghost use Rattle.mag_text.specs.NumberForms.{if_scale_number, scale_number_in, scale_in, if_position, position_in, rect_in, if_painted, if_touched};
 ghost use Rattle.mag_text.specs.NumberForms.{if_few, grid_in, if_orientation, six_in};
 
 use crate::faults::MagFault;
-use cell_bodies::{
+use cell_library::cell_bodies::{
     are_few_elements, has_sides, is_displacement, is_index, is_position, is_scale_number,
 };
-use cell_paint::is_coordinate;
+use cell_library::cell_paint::is_coordinate;
 use geo_core::{Grid, Orient, Rect};
 use text_scan::NumFault;
 

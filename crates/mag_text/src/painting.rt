@@ -1,11 +1,11 @@
 //! The paint of a cell's rectangles.
 ghost use Rattle.std.specs.Prelude.{◌≡◌, ◌<◌, ◌+◌, true, false, length, IfOk};
-ghost use Rattle.layout_model.specs.Places.{Place};
-ghost use Rattle.cell_paint.specs.Paints.{layout_of};
+ghost use Rattle.cell_library.specs.LayoutModel.Places.{Place};
+ghost use Rattle.cell_library.specs.CellPaint.Paints.{layout_of};
 ghost use Rattle.mag_text.specs.Drawings.{AreDrawn, drawn_at, painted_all};
 
 use crate::files::Drawn;
-use cell_paint::CellPaint;
+use cell_library::cell_paint::CellPaint;
 use std::alloc::{AllocError, Global};
 use tech_model::Tech;
 

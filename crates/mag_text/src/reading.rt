@@ -5,7 +5,7 @@ ghost use Rattle.mag_text.specs.MagTexts.{mag_in, IsRead};
 
 use crate::drafts::MagDraft;
 use crate::faults::{MagAt, MagFault};
-use cell_bodies::CellBody;
+use cell_library::cell_bodies::CellBody;
 use std::alloc::Global;
 use tech_model::Tech;
 use text_form::{At, LineReader, read_text};

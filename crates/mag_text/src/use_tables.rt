@@ -2,7 +2,7 @@
 ghost use Rattle.std.specs.Prelude.{◌≡◌, [], ◌∷◌, ◌++◌, OnOk};
 ghost use Rattle.mag_text.specs.Drafts.{has_id};
 
-use cell_bodies::CellUse;
+use cell_library::cell_bodies::CellUse;
 use std::alloc::{AllocError, Global};
 use std::collections::HashSet;
 use std::marker::Model;
@@ -17,7 +17,7 @@ pub struct UseTable {
 
 impl Model for UseTable {
     ghost use Rattle.std.specs.Prelude.{List};
-    ghost use Rattle.cell_bodies.specs.declared.bodies.CellUse.{CellUse};
+    ghost use Rattle.cell_library.specs.CellBodies.declared.bodies.CellUse.{CellUse};
     ghost use Rattle.mag_text.specs.steps.UseIds.{AreIds};
 
     ghost Value = { List CellUse };

@@ -3,7 +3,7 @@ ghost use Rattle.std.specs.Prelude.{◌≡◌, ◌<◌, ◌∷◌, ◌++◌, [],
 ghost use Rattle.text_scan.specs.Decimal.{decimal};
 ghost use Rattle.text_scan.specs.Written.{text_of};
 ghost use Rattle.tech_model.specs.Types.{layer_at, first_name};
-ghost use Rattle.cell_paint.specs.Paints.{layout_of};
+ghost use Rattle.cell_library.specs.CellPaint.Paints.{layout_of};
 ghost use Rattle.mag_text.specs.WrittenTexts.{numbers_line, scale_lines, no_time_line, tech_line, header_lines};
 ghost use Rattle.mag_text.specs.WrittenTexts.{AreLayerStrips, AreAllStrips, group_line, area_line, layer_lines, array_lines, grid_line, transform_line};
 ghost use Rattle.mag_text.specs.WrittenTexts.{box_line};
@@ -11,7 +11,7 @@ ghost use Rattle.mag_text.specs.WrittenTexts.{use_line, use_lines, layer_word, l
 ghost use Rattle.mag_text.specs.WrittenTexts.{IsWrittenText, numbers_behind_blanks, text_of_each};
 
 use crate::written::{LayerStrips, WrittenUse};
-use cell_paint::CellPaint;
+use cell_library::cell_paint::CellPaint;
 use geo_core::{Grid, Rect};
 use names_lists::List;
 use std::alloc::{AllocError, Global};

@@ -9,13 +9,13 @@ use Rattle.script_lines.specs.declared.commands.Command.TheVariants as command
 use Rattle.script_lines.specs.declared.faults.LineFault.{LineFault}
 use Rattle.script_lines.specs.Commands.{command_of}
 use Rattle.line_answers.specs.LineEffects.{FreeEffect, LeavesState}
-use Rattle.look_commands.specs.declared.looks.Look.TheVariants as look
-use Rattle.circuit_commands.specs.declared.circuits.CircuitFile.TheVariants as file
-use Rattle.uniqueness.specs.Ext2simEffects.{Ext2simMeansOneEffect}
-use Rattle.uniqueness.specs.Simulations.{SimrunMeansOneEffect}
+use Rattle.library_commands.specs.LookCommands.declared.looks.Look.TheVariants as look
+use Rattle.extract_commands.specs.CircuitCommands.declared.circuits.CircuitFile.TheVariants as file
+use Rattle.extract_commands.specs.Uniqueness.Ext2simEffects.{Ext2simMeansOneEffect}
+use Rattle.extract_commands.specs.Uniqueness.Simulations.{SimrunMeansOneEffect}
 use Rattle.extract_commands.specs.declared.command_vectors.VectorQuestion.TheVariants as question
 use Rattle.extract_commands.specs.OneEffects.{CircuitMeansOneEffect, ExtractMeansOneEffect, GenerateMeansOneEffect, VectorsMeansOneEffect}
-use Rattle.cif_commands.specs.OneEffects.{CifstatMeansOneEffect}
+use Rattle.library_commands.specs.CifCommands.OneEffects.{CifstatMeansOneEffect}
 use Rattle.library_commands.specs.OneEffects.{CheckMeansOneEffect, EditMeansOneEffect, LoadMeansOneEffect, LookMeansOneEffect, ReturnMeansOneEffect}
 use Rattle.library_commands.specs.OneEffects.{TechMeansOneEffect, WriteMeansOneEffect}
 use Rattle.library_commands.specs.declared.command_returns.Way.TheVariants as way

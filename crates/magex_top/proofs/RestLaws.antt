@@ -18,11 +18,11 @@ use Rattle.script_lines.specs.declared.commands.Command.TheVariants.{Tech, Load,
 use Rattle.script_lines.specs.declared.commands.Command.TheVariants.{Undo, Redo, Save, Squares, Drc, Cif, Cifstat, Nodes, Extract, Flat, Sim, Ext2sim, Vectors, Grade, Simrun, Generate}
 use Rattle.script_lines.specs.declared.faults.LineFault.{LineFault}
 use Rattle.script_lines.specs.Commands.{command_of}
-use Rattle.circuit_commands.proofs.RestLaws.{ext2sim_rests}
-use Rattle.network_commands.proofs.RestLaws.{simrun_rests}
+use Rattle.extract_commands.proofs.CircuitCommands.RestLaws.{ext2sim_rests}
+use Rattle.extract_commands.proofs.NetworkCommands.RestLaws.{simrun_rests}
 use Rattle.extract_commands.specs.declared.command_vectors.VectorQuestion.TheVariants as question
 use Rattle.extract_commands.proofs.RestLaws.{vectors_rest}
-use Rattle.cif_commands.proofs.RestLaws.{cifstat_rests}
+use Rattle.library_commands.proofs.CifCommands.RestLaws.{cifstat_rests}
 use Rattle.library_commands.proofs.OneChecks.{check_rests}
 use Rattle.library_commands.proofs.RestLaws.{load_rests, tech_rests}
 use Rattle.library_commands.specs.Workspace.States.{State}

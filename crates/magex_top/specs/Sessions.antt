@@ -8,10 +8,10 @@ use Rattle.script_lines.specs.declared.commands.Command.TheVariants.{Undo, Redo,
 use Rattle.script_lines.specs.declared.faults.LineFault.{LineFault}
 use Rattle.script_lines.specs.Commands.{command_of}
 use Rattle.line_answers.specs.LineEffects.{LeavesState, accepted, refused}
-use Rattle.circuit_commands.specs.declared.circuits.CircuitFile.TheVariants as file
-use Rattle.circuit_commands.specs.CommandExt2sim.{Ext2simMeans}
-use Rattle.network_commands.specs.CommandSimrun.{SimrunMeans}
-use Rattle.look_commands.specs.declared.looks.Look.TheVariants as look
+use Rattle.extract_commands.specs.CircuitCommands.declared.circuits.CircuitFile.TheVariants as file
+use Rattle.extract_commands.specs.CircuitCommands.CommandExt2sim.{Ext2simMeans}
+use Rattle.extract_commands.specs.NetworkCommands.CommandSimrun.{SimrunMeans}
+use Rattle.library_commands.specs.LookCommands.declared.looks.Look.TheVariants as look
 use Rattle.library_commands.specs.Workspace.KeptSessions.{IsSession, KeepsSoundLibrary, state_of}
 use Rattle.library_commands.specs.Workspace.States.{State, first_state}
 use Rattle.extract_commands.specs.CommandCircuits.{CircuitMeans}
@@ -20,7 +20,7 @@ use Rattle.extract_commands.specs.CommandGenerate.{GenerateMeans}
 use Rattle.extract_commands.specs.CommandVectors.{VectorsMeans}
 use Rattle.extract_commands.specs.declared.command_vectors.VectorQuestion.TheVariants as question
 use Rattle.magex_top.specs.declared.session.RunSession.{RunSession}
-use Rattle.cif_commands.specs.CommandCifstat.{CifstatMeans}
+use Rattle.library_commands.specs.CifCommands.CommandCifstat.{CifstatMeans}
 use Rattle.library_commands.specs.CommandChecks.{CheckMeans}
 use Rattle.library_commands.specs.CommandCif.{WriteMeans}
 use Rattle.library_commands.specs.CommandEdits.{EditMeans}

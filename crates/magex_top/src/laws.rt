@@ -3,10 +3,10 @@ ghost use Rattle.session_model.specs.Scripts.{HasOneEffect, MeansInSound};
 ghost use Rattle.magex_top.specs.Runs.{SessionsAreMadeGood};
 ghost use Rattle.magex_top.specs.Sessions.{IsRunSession, RunLineMeans, run_state_of};
 
-use cif_commands::cif_commands_mean_one_effect;
 use extract_commands::extracting_lines_have_one_effect;
+use extract_commands::uniqueness::{ext2sim_means_one_effect, simrun_means_one_effect};
+use library_commands::cif_commands::cif_commands_mean_one_effect;
 use library_commands::library_lines_have_one_effect;
-use uniqueness::{ext2sim_means_one_effect, simrun_means_one_effect};
 
 /// A session that fetches no name that it stores is the same one over the files that are left after a first few of its stores, with the same
 /// report, the same stores and the same status, and it leaves the same files in the end.

@@ -9,15 +9,15 @@ ghost use Rattle.library_commands.specs.Workspace.KeptSessions.{IsSession, state
 ghost use Rattle.magex_top.specs.Refusals.{line_fault_text, line_refusal};
 ghost use Rattle.magex_top.specs.Sessions.{CommandMeans, LineMeans};
 
-use cif_commands::cifstat;
-use circuit_commands::{CircuitFile, ext2sim};
+use extract_commands::circuit_commands::{CircuitFile, ext2sim};
+use extract_commands::network_commands::simrun;
 use extract_commands::{VectorQuestion, circuit, extract, generate, vectors};
+use library_commands::cif_commands::cifstat;
+use library_commands::look_commands::Look;
 use library_commands::{
     LayoutSession, Way, bring_back, check, edit, load, look_at, tech, write_cif,
 };
 use line_answers::{refuse, told, worded};
-use look_commands::Look;
-use network_commands::simrun;
 use outside_io::Shelf;
 use script_lines::{Command, LineFault, read_line};
 use session_model::{Answer, Halt, Session};

@@ -6,17 +6,17 @@ use Rattle.std.proofs.lemmas.Int.{ints}
 use Rattle.std.proofs.lemmas.List.{get_or-map, length-map, ext_get_or}
 use Rattle.std.proofs.lemmas.List.Elements.{All-map, All-append}
 use Rattle.std.proofs.lemmas.List.FromFn.{length-range_with_len, get_or-range_with_len}
-use Rattle.finite_sets.specs.Lists.{In, Lists}
-use Rattle.finite_sets.specs.Total.{sum_on, one_if}
-use Rattle.finite_sets.proofs.Members.{In-get_or}
-use Rattle.finite_sets.proofs.Searches.{All-from_In}
-use Rattle.finite_sets.proofs.Sums.{sum_on-append, sum_on-map, sum_on-same}
+use Rattle.geo_core.specs.FiniteSets.Lists.{In, Lists}
+use Rattle.geo_core.specs.FiniteSets.Total.{sum_on, one_if}
+use Rattle.geo_core.proofs.FiniteSets.Members.{In-get_or}
+use Rattle.geo_core.proofs.FiniteSets.Searches.{All-from_In}
+use Rattle.geo_core.proofs.FiniteSets.Sums.{sum_on-append, sum_on-map, sum_on-same}
 use Rattle.geo_core.specs.Areas.{IsNear}
 use Rattle.geo_core.specs.Covering.{IsProper}
 use Rattle.key_sums.specs.declared.Amount.{Amount}
 use Rattle.key_sums.specs.Amounts.{counts_for, sum_of}
-use Rattle.rect_contacts.specs.declared.contacts.Contact.{Contact}
-use Rattle.rect_contacts.specs.Squares.{area_of, perimeter_of}
+use Rattle.flood_nodes.specs.RectContacts.declared.contacts.Contact.{Contact}
+use Rattle.flood_nodes.specs.RectContacts.Squares.{area_of, perimeter_of}
 use Rattle.layout_model.specs.declared.region_tiles.RegionTile.{RegionTile}
 use Rattle.flood_nodes.specs.SoundTiles.{IsSoundTile}
 use Rattle.flood_nodes.specs.TileShares.{no_tile, tile_at, indices_of, IsTileContact, is_of, open_by_contacts}

@@ -4,14 +4,14 @@ use Rattle.std.proofs.Common.{inl, inr, ◌∙◌, ap, subst, arith}
 use Rattle.std.specs.Prelude.{All}
 use Rattle.std.proofs.lemmas.Int.{ints}
 use Rattle.std.proofs.lemmas.List.{length-map}
-use Rattle.finite_sets.specs.Lists.{In, Distinct, Lists}
-use Rattle.finite_sets.specs.Range.{IsBetween, nonnegative_part, extent, integer_range, pairs_of}
-use Rattle.finite_sets.specs.Total.{sum_on, Total, one_if}
-use Rattle.finite_sets.proofs.Distincts.{Distinct-map, length-distinct}
-use Rattle.finite_sets.proofs.Members.{In-map_source}
-use Rattle.finite_sets.proofs.Ranges.{extent_up, Lists-integer_range, Lists-pairs_of, length-integer_range, length-pairs_of}
-use Rattle.finite_sets.proofs.Searches.{All-from_In}
-use Rattle.finite_sets.proofs.Totals.{Total-count, Total-le, Total-scale}
+use Rattle.geo_core.specs.FiniteSets.Lists.{In, Distinct, Lists}
+use Rattle.geo_core.specs.FiniteSets.Range.{IsBetween, nonnegative_part, extent, integer_range, pairs_of}
+use Rattle.geo_core.specs.FiniteSets.Total.{sum_on, Total, one_if}
+use Rattle.geo_core.proofs.FiniteSets.Distincts.{Distinct-map, length-distinct}
+use Rattle.geo_core.proofs.FiniteSets.Members.{In-map_source}
+use Rattle.geo_core.proofs.FiniteSets.Ranges.{extent_up, Lists-integer_range, Lists-pairs_of, length-integer_range, length-pairs_of}
+use Rattle.geo_core.proofs.FiniteSets.Searches.{All-from_In}
+use Rattle.geo_core.proofs.FiniteSets.Totals.{Total-count, Total-le, Total-scale}
 use Rattle.layout_model.specs.Layouts.{Layout}
 use Rattle.layout_model.specs.Measures.{area_at, perimeter_at, IsArea, IsPerimeter}
 use Rattle.layout_model.specs.Nodes.{AreMeasures}

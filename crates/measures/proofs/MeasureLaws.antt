@@ -6,16 +6,16 @@ use Rattle.std.specs.List.{list_any}
 use Rattle.std.proofs.lemmas.Bool.{cases_Bool, cases_lt, false≢true}
 use Rattle.std.proofs.lemmas.List.{get_or-take, get_or_append_left, get_or_default, get_or_push, length-append, length-take-le}
 use Rattle.std.proofs.lemmas.Option.{get_or_from_slice_get, slice_get_within}
-use Rattle.finite_sets.specs.Lists.{In, Lists}
-use Rattle.finite_sets.proofs.Members.{In-index}
-use Rattle.finite_sets.proofs.Totals.{Total-at, Total-iff}
-use Rattle.finite_sets.proofs.Searches.{list_any-fails}
+use Rattle.geo_core.specs.FiniteSets.Lists.{In, Lists}
+use Rattle.geo_core.proofs.FiniteSets.Members.{In-index}
+use Rattle.geo_core.proofs.FiniteSets.Totals.{Total-at, Total-iff}
+use Rattle.geo_core.proofs.FiniteSets.Searches.{list_any-fails}
 use Rattle.tech_model.specs.declared.raw.ClassRec.{ClassRec}
 use Rattle.tech_model.specs.declared.raw.RawTech.{RawTech}
 use Rattle.tech_model.specs.declared.raw.TypeId.{TypeId}
 use Rattle.tech_model.specs.Types.{is_type}
 use Rattle.tech_model.specs.WellFormed.{IsClass, IsWellFormed}
-use Rattle.rect_contacts.specs.declared.contacts.Contact.{Contact}
+use Rattle.flood_nodes.specs.RectContacts.declared.contacts.Contact.{Contact}
 use Rattle.layout_model.specs.declared.region_tiles.RegionTile.{RegionTile}
 use Rattle.layout_model.specs.Places.{Place}
 use Rattle.layout_model.specs.Layouts.{Layout}

@@ -7,7 +7,7 @@ use Rattle.std.proofs.lemmas.Int.{ints, to_z-of_z}
 use Rattle.geo_core.specs.declared.squares.Rect.{Rect}
 use Rattle.geo_core.specs.Covering.{IsProper}
 use Rattle.geo_core.specs.Areas.{IsNear}
-use Rattle.rect_contacts.specs.Squares.{area_of}
+use Rattle.flood_nodes.specs.RectContacts.Squares.{area_of}
 
 -- a number from 0 on and below 2^58
 record IsCount (z : ℤ) : Type 0 where

@@ -1,6 +1,6 @@
 -- How large areas and perimeters can be.
 use Rattle.std.specs.Prelude.{◌<◌, ◌^◌, ℤ, pos, neg_ℤ, ◌≤ℤ◌}
-use Rattle.finite_sets.specs.Range.{IsBetween}
+use Rattle.geo_core.specs.FiniteSets.Range.{IsBetween}
 use Rattle.geo_core.specs.declared.limits.TheConstants.{PLANE_EDGE}
 use Rattle.tech_model.specs.declared.limits.TheConstants.{MOST_PLANES}
 use Rattle.layout_model.specs.Places.{Place}

@@ -2,7 +2,7 @@
 ghost use Rattle.std.specs.Prelude.{◌≡◌, ◌<◌, ◌<ℤ◌, ◌++◌, pos, All, length, IfOk, OnOk};
 ghost use Rattle.geo_core.specs.Areas.{IsNear};
 ghost use Rattle.geo_core.specs.Covering.{IsProper};
-ghost use Rattle.finite_sets.specs.Lists.{Lists};
+ghost use Rattle.geo_core.specs.FiniteSets.Lists.{Lists};
 ghost use Rattle.layout_model.specs.Technologies.{class_of};
 ghost use Rattle.flood_nodes.specs.SoundTiles.{IsSoundTile};
 ghost use Rattle.flood_nodes.specs.TileShares.{IsTileContact};
@@ -10,9 +10,9 @@ ghost use Rattle.measures.specs.steps.Sizes.{area_amounts, perimeter_amounts, sh
 ghost use Rattle.measures.specs.steps.Columns.{IsColumn};
 
 use crate::sizes::{area_in, perimeter_in, shared_in};
+use flood_nodes::rect_contacts::Contact;
 use key_sums::{Amount, sums_by_key};
 use layout_model::RegionTile;
-use rect_contacts::Contact;
 use std::alloc::{AllocError, Global};
 use tech_model::ClassRec;
 

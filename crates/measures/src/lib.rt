@@ -5,5 +5,6 @@ mod columns;
 mod sizes;
 mod tables;
 
+pub use flood_nodes;
 pub use sizes::{area_of, perimeter_of};
 pub use tables::{MeasureRow, Measures, measure, measure_tiles};

@@ -2,7 +2,7 @@
 ghost use Rattle.std.specs.Prelude.{◌≡◌, ◌<◌, ◌^◌, pos, ◌≤ℤ◌, ◌<ℤ◌};
 ghost use Rattle.geo_core.specs.Areas.{IsNear};
 ghost use Rattle.geo_core.specs.Covering.{IsProper};
-ghost use Rattle.rect_contacts.specs.Squares.{area_of, perimeter_of};
+ghost use Rattle.flood_nodes.specs.RectContacts.Squares.{area_of, perimeter_of};
 ghost use Rattle.layout_model.specs.Technologies.{class_of};
 ghost use Rattle.measures.specs.steps.Sizes.{area_in, perimeter_in, shared_in};
 

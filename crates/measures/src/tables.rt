@@ -1,6 +1,6 @@
 //! The measures of all regions in all classes.
 ghost use Rattle.std.specs.Prelude.{◌≡◌, ◌<◌, All, length, map, IfOk};
-ghost use Rattle.finite_sets.specs.Lists.{Lists};
+ghost use Rattle.geo_core.specs.FiniteSets.Lists.{Lists};
 ghost use Rattle.layout_model.specs.Layouts.{Layout as OneLayout};
 ghost use Rattle.layout_model.specs.RegionTiles.{AreLayoutTiles, AreMeasured};
 ghost use Rattle.layout_model.specs.Technologies.{class_of};
@@ -10,9 +10,9 @@ ghost use Rattle.measures.specs.steps.Columns.{AreColumns, pairs_at};
 
 use crate::columns::{Column, measured_in};
 use flood_nodes::Regions;
+use flood_nodes::rect_contacts::Contact;
 use layout_model::RegionTile;
 use names_lists::List;
-use rect_contacts::Contact;
 use std::alloc::{AllocError, Global};
 use tech_model::{ClassRec, Tech};
 

@@ -2,7 +2,7 @@
 use Rattle.std.proofs.Common.{◌≡◌, ℕ, ℤ, pos, ◌-ℤ◌, List, slice_get, sym, ap, ◌∙◌, arith}
 use Rattle.std.specs.Prelude.{Some}
 use Rattle.std.proofs.lemmas.Int.{ints}
-use Rattle.finite_sets.specs.Total.{sum_on}
+use Rattle.tech_model.specs.FiniteSets.Total.{sum_on}
 use Rattle.tech_model.specs.declared.raw.RawTech.{RawTech}
 use Rattle.hierarchy_model.specs.LayoutModel.Places.{Place}
 use Rattle.hierarchy_model.specs.Offences.Offences.{SetLayout}

@@ -2,7 +2,7 @@
 use Rattle.std.proofs.Common.{◌≡◌, ◌≢◌, ◌⊎◌, ℕ, List, slice_get, inl, inr, sym, ap, ◌∙◌}
 use Rattle.std.specs.Prelude.{Some}
 use Rattle.std.proofs.lemmas.Bool.{cases_eq}
-use Rattle.geo_core.specs.declared.squares.Square.{Square}
+use Rattle.tech_model.specs.GeoCore.declared.squares.Square.{Square}
 use Rattle.tech_model.specs.declared.raw.RawTech.{RawTech}
 use Rattle.tech_model.specs.Types.{connects}
 use Rattle.hierarchy_model.specs.LayoutModel.LayerTypes.{or_space}

@@ -2,8 +2,8 @@
 use Rattle.std.proofs.Common.{◌≡◌, ◌≢◌, ℕ, zero, suc, ℤ, pos, ◌+ℤ◌, List, [], ◌∷◌, map, slice_get, refl, sym, ap, ◌∙◌, arith}
 use Rattle.std.specs.Prelude.{Some}
 use Rattle.std.proofs.lemmas.Int.{ints}
-use Rattle.finite_sets.specs.Total.{sum_on}
-use Rattle.finite_sets.proofs.Sums.{sum_on-map, sum_on-zero}
+use Rattle.tech_model.specs.FiniteSets.Total.{sum_on}
+use Rattle.tech_model.proofs.FiniteSets.Sums.{sum_on-map, sum_on-zero}
 
 -- weights that agree at each position of the list
 pub sum_by_position : {X : Type 0} (v w : X → ℤ) (xs : List X) → ((position : ℕ) (x : X) → slice_get xs position ≡ Some x → v x ≡ w x)

@@ -1,8 +1,8 @@
 -- Links of parts are links of the flat layout where no place offends, and so are those of restricted parts.
 use Rattle.std.proofs.Common.{◌≡◌, ℕ, List, slice_get, inl, inr, sym, ap, subst, ◌∙◌, IsTrue}
 use Rattle.std.specs.Prelude.{Some}
-use Rattle.finite_sets.proofs.Chains.{Chain-weaker}
-use Rattle.geo_core.specs.declared.squares.Square.{Square}
+use Rattle.tech_model.proofs.FiniteSets.Chains.{Chain-weaker}
+use Rattle.tech_model.specs.GeoCore.declared.squares.Square.{Square}
 use Rattle.tech_model.specs.declared.raw.RawTech.{RawTech}
 use Rattle.tech_model.specs.Rules.{KeepsRules}
 use Rattle.tech_model.specs.Types.{connects, is_within, joined}

@@ -3,9 +3,9 @@ use Rattle.std.proofs.Common.{◌≡◌, ℕ, suc, ℤ, pos, ◌+ℤ◌, ◌-ℤ
 use Rattle.std.specs.Prelude.{◌*ℤ◌, All, not}
 use Rattle.std.proofs.lemmas.Int.{ints}
 use Rattle.std.proofs.Math.IntN.{zero-*ℤ}
-use Rattle.finite_sets.specs.Total.{sum_on, one_if}
-use Rattle.finite_sets.proofs.Sums.{sum_on-add, sum_on-sub, sum_on-swap, sum_on-same, sum_on-zero, sum_on-nothing, sum_on-scale_right}
-use Rattle.geo_core.specs.declared.squares.Square.{Square}
+use Rattle.tech_model.specs.FiniteSets.Total.{sum_on, one_if}
+use Rattle.tech_model.proofs.FiniteSets.Sums.{sum_on-add, sum_on-sub, sum_on-swap, sum_on-same, sum_on-zero, sum_on-nothing, sum_on-scale_right}
+use Rattle.tech_model.specs.GeoCore.declared.squares.Square.{Square}
 use Rattle.tech_model.specs.declared.raw.RawTech.{RawTech}
 use Rattle.hierarchy_model.specs.LayoutModel.Layouts.{Layout}
 use Rattle.hierarchy_model.specs.LayoutModel.Places.{Place, neighbours}

@@ -1,8 +1,8 @@
 -- Parts restricted to the squares at which they meet: their flat layout, and what it counts beyond them.
 use Rattle.std.proofs.Common.{◌≡◌, ◌⊎◌, ℕ, ℤ, pos, ◌-ℤ◌, List, [], ◌∷◌, map, bit_or, inl, inr, refl, sym, ap, ◌∙◌}
-use Rattle.finite_sets.specs.Total.{sum_on}
-use Rattle.finite_sets.proofs.Places.{map-pointwise}
-use Rattle.geo_core.specs.declared.squares.Square.{Square}
+use Rattle.tech_model.specs.FiniteSets.Total.{sum_on}
+use Rattle.tech_model.proofs.FiniteSets.Places.{map-pointwise}
+use Rattle.tech_model.specs.GeoCore.declared.squares.Square.{Square}
 use Rattle.tech_model.specs.declared.raw.RawTech.{RawTech}
 use Rattle.tech_model.specs.Types.{joined}
 use Rattle.hierarchy_model.specs.LayoutModel.LayerTypes.{or_space}

@@ -1,6 +1,6 @@
 -- Laws of parts that meet in few squares, as statements.
 use Rattle.std.specs.Prelude.{◌≡◌, ◌⊎◌, ℕ, pos, Bool, false, List, All, Some, slice_get}
-use Rattle.geo_core.specs.declared.squares.Square.{Square}
+use Rattle.tech_model.specs.GeoCore.declared.squares.Square.{Square}
 use Rattle.tech_model.specs.declared.raw.RawTech.{RawTech}
 use Rattle.tech_model.specs.Rules.{KeepsRules}
 use Rattle.tech_model.specs.Types.{connects}

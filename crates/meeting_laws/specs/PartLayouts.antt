@@ -1,7 +1,7 @@
 -- Parts of a layout and their flat layout, as layouts of tile types.
 use Rattle.std.specs.Prelude.{◌≡◌, ◌≢◌, ◌-ℤ◌, ℕ, ℤ, Bool, IsTrue, List, Some, slice_get}
-use Rattle.finite_sets.specs.Total.{sum_on}
-use Rattle.geo_core.specs.declared.squares.Square.{Square}
+use Rattle.tech_model.specs.FiniteSets.Total.{sum_on}
+use Rattle.tech_model.specs.GeoCore.declared.squares.Square.{Square}
 use Rattle.tech_model.specs.declared.raw.RawTech.{RawTech}
 use Rattle.tech_model.specs.Types.{connects}
 use Rattle.hierarchy_model.specs.LayoutModel.LayerTypes.{or_space}

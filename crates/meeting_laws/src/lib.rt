@@ -12,7 +12,10 @@
 ghost use Rattle.meeting_laws.specs.Laws.{LinksAreOfPartsOrWithin, MeetingsAreCounted, RestrictedLayoutIsTheSameWithin};
 ghost use Rattle.meeting_laws.specs.Laws.{RestrictedLinksAreLinks, RestrictedNodesAreInNodes};
 
+pub use hierarchy_model;
+pub use hierarchy_model::offences;
 use tech_model::Tech;
+pub use tree_records::measures;
 
 /// A link of the flat layout is a link of one part with the same two types, or both its squares are among those at which parts meet. It
 /// does nothing.

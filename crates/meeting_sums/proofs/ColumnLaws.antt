@@ -9,7 +9,7 @@ use Rattle.finite_sets.proofs.Members.{In-index}
 use Rattle.key_sums.specs.declared.Amount.{Amount}
 use Rattle.rect_contacts.specs.declared.contacts.Contact.{Contact}
 use Rattle.tech_model.specs.declared.raw.ClassRec.{ClassRec}
-use Rattle.layout_model.specs.Technologies.{class_of}
+use Rattle.offences.specs.LayoutModel.Technologies.{class_of}
 use Rattle.offences.specs.declared.plane_stacks.PlaneStack.{PlaneStack}
 use Rattle.meeting_sums.specs.declared.columns.Column.{Column}
 use Rattle.meeting_sums.specs.declared.sums.MeetingSum.{MeetingSum}

@@ -13,11 +13,11 @@ use Rattle.rect_contacts.specs.declared.contacts.Contact.{Contact}
 use Rattle.tech_model.specs.declared.raw.ClassRec.{ClassRec}
 use Rattle.tech_model.specs.declared.raw.RawTech.{RawTech}
 use Rattle.tech_model.specs.WellFormed.{IsWellFormed, IsClass}
-use Rattle.measures.proofs.MeasureLaws.{space_out}
-use Rattle.layout_model.specs.Layouts.{Layout}
-use Rattle.layout_model.specs.Places.{Place}
-use Rattle.layout_model.specs.Technologies.{Class, capacitance, class_of}
-use Rattle.flood_nodes.specs.TileShares.{IsTileContact, IsInTiles}
+use Rattle.meeting_laws.proofs.Measures.MeasureLaws.{space_out}
+use Rattle.offences.specs.LayoutModel.Layouts.{Layout}
+use Rattle.offences.specs.LayoutModel.Places.{Place}
+use Rattle.offences.specs.LayoutModel.Technologies.{Class, capacitance, class_of}
+use Rattle.meeting_laws.specs.FloodNodes.TileShares.{IsTileContact, IsInTiles}
 use Rattle.offences.specs.declared.plane_stacks.PlaneStack.{PlaneStack}
 use Rattle.offences.specs.Offences.{SetLayout}
 use Rattle.offences.specs.PlaneStacks.{ArePlaneStacks}

@@ -16,7 +16,7 @@ use Rattle.finite_sets.proofs.Sums.{sum_on-add, sum_on-same, sum_on-nothing}
 use Rattle.offences.specs.declared.stacks.PartKind.{PartKind}
 use Rattle.offences.specs.TypedStacks.{AreByPart, kind_in}
 use Rattle.offences.proofs.KindLaws.{kind_in-absent}
-use Rattle.flood_nodes.proofs.ShareLaws.{one_plane}
+use Rattle.meeting_laws.proofs.FloodNodes.ShareLaws.{one_plane}
 
 -- parts that rise, as searches ask for them
 pub rising_parts : (kinds : List PartKind) → AreByPart kinds → IsNonDecreasingBy (λ entry. entry.part) kinds

@@ -1,4 +1,6 @@
 -- what crates above name of those below
+pub use Rattle.rect_contacts.proofs as RectContacts
+pub use Rattle.offences.proofs as Offences
 pub use Rattle.meeting_laws.proofs as LowerMeetingLaws
 mod TileTests
 mod AmountLaws

@@ -16,13 +16,13 @@ use Rattle.geo_core.specs.Covering.{Covers}
 use Rattle.rect_contacts.specs.declared.contacts.Contact.{Contact}
 use Rattle.rect_contacts.specs.Squares.{area_of, perimeter_of}
 use Rattle.tech_model.specs.declared.raw.RawTech.{RawTech}
-use Rattle.layout_model.specs.Measures.{perimeter_at}
-use Rattle.layout_model.specs.Places.{Place}
-use Rattle.layout_model.specs.Technologies.{Class}
-use Rattle.layout_model.specs.declared.region_tiles.RegionTile.{RegionTile}
-use Rattle.flood_nodes.specs.TileShares.{no_tile, tile_at, indices_of, IsTileContact, IsInTiles}
-use Rattle.flood_nodes.proofs.ShareLaws.{Lists-indices_of, one_plane}
-use Rattle.flood_nodes.proofs.StackLaws.{same_from_test}
+use Rattle.offences.specs.LayoutModel.Measures.{perimeter_at}
+use Rattle.offences.specs.LayoutModel.Places.{Place}
+use Rattle.offences.specs.LayoutModel.Technologies.{Class}
+use Rattle.offences.specs.LayoutModel.declared.region_tiles.RegionTile.{RegionTile}
+use Rattle.meeting_laws.specs.FloodNodes.TileShares.{no_tile, tile_at, indices_of, IsTileContact, IsInTiles}
+use Rattle.meeting_laws.proofs.FloodNodes.ShareLaws.{Lists-indices_of, one_plane}
+use Rattle.meeting_laws.proofs.FloodNodes.StackLaws.{same_from_test}
 use Rattle.offences.specs.declared.plane_stacks.PlaneStack.{PlaneStack}
 use Rattle.offences.specs.Offences.{SetLayout}
 use Rattle.offences.specs.PlaneStacks.{ArePlaneStacks}

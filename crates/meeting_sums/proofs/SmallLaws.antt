@@ -21,14 +21,14 @@ use Rattle.geo_core.specs.Covering.{IsProper}
 use Rattle.rect_contacts.specs.declared.contacts.Contact.{Contact}
 use Rattle.rect_contacts.specs.Squares.{area_of, perimeter_of}
 use Rattle.tech_model.specs.declared.raw.ClassRec.{ClassRec}
-use Rattle.layout_model.specs.Places.{Place}
-use Rattle.layout_model.specs.Technologies.{Class, class_of}
-use Rattle.layout_model.specs.declared.region_tiles.RegionTile.{RegionTile}
-use Rattle.flood_nodes.specs.Stacking.{AreSpread}
-use Rattle.flood_nodes.specs.TileShares.{no_tile, tile_at, indices_of, IsTileContact, IsInTiles}
-use Rattle.flood_nodes.proofs.ShareLaws.{Lists-indices_of, cond_not_negative}
-use Rattle.measures.specs.Bounds.{IsNearPlace, IsSmallMeasure}
-use Rattle.measures.proofs.BoundLaws.{measures_are_small}
+use Rattle.offences.specs.LayoutModel.Places.{Place}
+use Rattle.offences.specs.LayoutModel.Technologies.{Class, class_of}
+use Rattle.offences.specs.LayoutModel.declared.region_tiles.RegionTile.{RegionTile}
+use Rattle.meeting_laws.specs.FloodNodes.Stacking.{AreSpread}
+use Rattle.meeting_laws.specs.FloodNodes.TileShares.{no_tile, tile_at, indices_of, IsTileContact, IsInTiles}
+use Rattle.meeting_laws.proofs.FloodNodes.ShareLaws.{Lists-indices_of, cond_not_negative}
+use Rattle.meeting_laws.specs.Measures.Bounds.{IsNearPlace, IsSmallMeasure}
+use Rattle.meeting_laws.proofs.Measures.BoundLaws.{measures_are_small}
 use Rattle.offences.specs.declared.plane_stacks.PlaneStack.{PlaneStack}
 use Rattle.offences.specs.declared.stacks.PartKind.{PartKind}
 use Rattle.offences.specs.TypedStacks.{AreByPart, kind_in}

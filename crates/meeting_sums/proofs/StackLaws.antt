@@ -16,9 +16,9 @@ use Rattle.geo_core.specs.Covering.{IsProper}
 use Rattle.key_sums.specs.declared.Amount.{Amount}
 use Rattle.rect_contacts.specs.declared.contacts.Contact.{Contact}
 use Rattle.rect_contacts.specs.Squares.{area_of, perimeter_of}
-use Rattle.layout_model.specs.declared.region_tiles.RegionTile.{RegionTile}
-use Rattle.flood_nodes.specs.Stacking.{AreSpread}
-use Rattle.flood_nodes.specs.TileShares.{no_tile, IsTileContact}
+use Rattle.offences.specs.LayoutModel.declared.region_tiles.RegionTile.{RegionTile}
+use Rattle.meeting_laws.specs.FloodNodes.Stacking.{AreSpread}
+use Rattle.meeting_laws.specs.FloodNodes.TileShares.{no_tile, IsTileContact}
 use Rattle.offences.specs.declared.plane_stacks.PlaneStack.{PlaneStack}
 use Rattle.offences.specs.declared.stacks.TypedStack.{TypedStack}
 use Rattle.offences.specs.TypedStacks.{AreByPart}

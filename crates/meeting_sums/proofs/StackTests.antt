@@ -14,12 +14,12 @@ use Rattle.tech_model.specs.declared.raw.RawTech.{RawTech}
 use Rattle.tech_model.specs.declared.raw.TypeId.{TypeId}
 use Rattle.tech_model.specs.Types.{is_type, type_number}
 use Rattle.tech_model.specs.WellFormed.{IsWellFormed}
-use Rattle.layout_model.specs.LayerTypes.{or_space}
-use Rattle.layout_model.specs.Places.{Place}
-use Rattle.layout_model.specs.RegionTiles.{LiesIn, LieApart, AreLayoutTiles}
-use Rattle.layout_model.specs.declared.region_tiles.RegionTile.{RegionTile}
-use Rattle.flood_nodes.specs.Stacking.{AreSpread, AreTyped}
-use Rattle.flood_nodes.specs.TileShares.{no_tile}
+use Rattle.offences.specs.LayoutModel.LayerTypes.{or_space}
+use Rattle.offences.specs.LayoutModel.Places.{Place}
+use Rattle.offences.specs.LayoutModel.RegionTiles.{LiesIn, LieApart, AreLayoutTiles}
+use Rattle.offences.specs.LayoutModel.declared.region_tiles.RegionTile.{RegionTile}
+use Rattle.meeting_laws.specs.FloodNodes.Stacking.{AreSpread, AreTyped}
+use Rattle.meeting_laws.specs.FloodNodes.TileShares.{no_tile}
 use Rattle.offences.specs.declared.plane_stacks.PlaneStack.{PlaneStack}
 use Rattle.offences.specs.Changes.{number_of}
 use Rattle.offences.specs.Offences.{SetLayout, joined_at, flat_type}

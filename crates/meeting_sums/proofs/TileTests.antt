@@ -19,17 +19,17 @@ use Rattle.geo_core.specs.Covering.{Covers, IsProper, is_covered}
 use Rattle.geo_core.proofs.CoveringLaws.{Covers-is_covered, is_covered-Covers}
 use Rattle.rect_contacts.specs.declared.contacts.Contact.{Contact}
 use Rattle.rect_contacts.specs.Squares.{area_of, perimeter_of}
-use Rattle.layout_model.specs.Places.{Place, neighbours}
-use Rattle.layout_model.specs.Layouts.{Layout, IsMaterial}
-use Rattle.layout_model.specs.Measures.{area_at, perimeter_at, IsArea, IsPerimeter}
-use Rattle.layout_model.specs.RegionTiles.{LiesIn, LieApart, AreLayoutTiles}
-use Rattle.layout_model.specs.declared.region_tiles.RegionTile.{RegionTile}
-use Rattle.flood_nodes.specs.Renumbered.{AreRenumbered}
-use Rattle.flood_nodes.specs.Stacking.{AreSpread}
-use Rattle.flood_nodes.specs.TileShares.{no_tile, tile_at, indices_of, shared_by, IsTileContact, IsInTiles, is_of, open_by_contacts}
-use Rattle.flood_nodes.proofs.OpenEdges.{tiles_area, tiles_measure}
-use Rattle.flood_nodes.proofs.ShareLaws.{Lists-indices_of, one_plane}
-use Rattle.flood_nodes.proofs.StackLaws.{same_from_test}
+use Rattle.offences.specs.LayoutModel.Places.{Place, neighbours}
+use Rattle.offences.specs.LayoutModel.Layouts.{Layout, IsMaterial}
+use Rattle.offences.specs.LayoutModel.Measures.{area_at, perimeter_at, IsArea, IsPerimeter}
+use Rattle.offences.specs.LayoutModel.RegionTiles.{LiesIn, LieApart, AreLayoutTiles}
+use Rattle.offences.specs.LayoutModel.declared.region_tiles.RegionTile.{RegionTile}
+use Rattle.meeting_laws.specs.FloodNodes.Renumbered.{AreRenumbered}
+use Rattle.meeting_laws.specs.FloodNodes.Stacking.{AreSpread}
+use Rattle.meeting_laws.specs.FloodNodes.TileShares.{no_tile, tile_at, indices_of, shared_by, IsTileContact, IsInTiles, is_of, open_by_contacts}
+use Rattle.meeting_laws.proofs.FloodNodes.OpenEdges.{tiles_area, tiles_measure}
+use Rattle.meeting_laws.proofs.FloodNodes.ShareLaws.{Lists-indices_of, one_plane}
+use Rattle.meeting_laws.proofs.FloodNodes.StackLaws.{same_from_test}
 
 -- The tiles have the same planes and areas, in their places.
 pub record HaveSameAreas (tiles others : List RegionTile) : Type 0 where

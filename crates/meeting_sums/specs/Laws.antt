@@ -1,8 +1,8 @@
 -- The law of pieces as tiles, as a statement.
 use Rattle.std.specs.Prelude.{List}
 use Rattle.tech_model.specs.declared.raw.RawTech.{RawTech}
-use Rattle.layout_model.specs.RegionTiles.{AreLayoutTiles}
-use Rattle.flood_nodes.specs.Stacking.{AreTyped}
+use Rattle.offences.specs.LayoutModel.RegionTiles.{AreLayoutTiles}
+use Rattle.meeting_laws.specs.FloodNodes.Stacking.{AreTyped}
 use Rattle.offences.specs.declared.plane_stacks.PlaneStack.{PlaneStack}
 use Rattle.offences.specs.Offences.{SetLayout}
 use Rattle.offences.specs.PlaneStacks.{ArePlaneStacks}

@@ -2,8 +2,8 @@
 use Rattle.std.specs.Prelude.{◌≡◌, ℕ, List, Some, map, slice_get, unwrap_or}
 use Rattle.geo_core.specs.Covering.{Covers}
 use Rattle.tech_model.specs.Types.{type_number}
-use Rattle.layout_model.specs.Places.{Place}
-use Rattle.layout_model.specs.declared.region_tiles.RegionTile.{RegionTile}
+use Rattle.offences.specs.LayoutModel.Places.{Place}
+use Rattle.offences.specs.LayoutModel.declared.region_tiles.RegionTile.{RegionTile}
 use Rattle.offences.specs.declared.plane_stacks.PlaneStack.{PlaneStack}
 
 -- the piece as a tile of its plane, with the flat type: space where that is undefined

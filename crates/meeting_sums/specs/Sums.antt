@@ -3,8 +3,8 @@ use Rattle.std.specs.Prelude.{◌≡◌, ℕ, ℤ, List, [], ◌∷◌, length, 
 use Rattle.finite_sets.specs.Total.{Total}
 use Rattle.tech_model.specs.declared.raw.ClassRec.{ClassRec}
 use Rattle.tech_model.specs.declared.raw.RawTech.{RawTech}
-use Rattle.layout_model.specs.Places.{Place}
-use Rattle.layout_model.specs.Technologies.{Class, class_of, rules_of, capacitance}
+use Rattle.offences.specs.LayoutModel.Places.{Place}
+use Rattle.offences.specs.LayoutModel.Technologies.{Class, class_of, rules_of, capacitance}
 use Rattle.offences.specs.declared.plane_stacks.PlaneStack.{PlaneStack}
 use Rattle.offences.specs.Offences.{SetLayout}
 use Rattle.meeting_laws.specs.TreeRecords.PlaceWeights.{area_weight, perimeter_weight, capacitance_weight}

@@ -1,6 +1,6 @@
 //! What pieces and contacts count in a class, as amounts of groups.
 ghost use Rattle.std.specs.Prelude.{◌≡◌, ◌⊎◌, pos, ◌-ℤ◌, ◌≤ℤ◌, if◌then◌else◌, OnOk};
-ghost use Rattle.layout_model.specs.Technologies.{class_of};
+ghost use Rattle.offences.specs.LayoutModel.Technologies.{class_of};
 ghost use Rattle.offences.specs.TypedStacks.{AreByPart};
 ghost use Rattle.meeting_sums.specs.steps.Counts.{beyond, beyond_both, for_group, for_both, AddAmounts};
 

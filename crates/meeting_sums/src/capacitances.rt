@@ -1,6 +1,6 @@
 //! Capacitances of areas and perimeters that may be negative.
 ghost use Rattle.std.specs.Prelude.{◌≡◌, ◌≤◌, ◌^◌, pos, neg_ℤ, ◌+ℤ◌, ◌*ℤ◌, ◌≤ℤ◌, All, length, map};
-ghost use Rattle.layout_model.specs.Technologies.{capacitance, class_of};
+ghost use Rattle.offences.specs.LayoutModel.Technologies.{capacitance, class_of};
 ghost use Rattle.meeting_sums.specs.steps.Counts.{IsSmallSum};
 
 use tech_model::{ClassRec, LARGEST_MEASURE, Tech};

@@ -1,16 +1,16 @@
 //! What all groups count in one class.
 ghost use Rattle.std.specs.Prelude.{◌≡◌, ◌<◌, ℕ, pos, ◌-ℤ◌, ◌≤ℤ◌, All, length, IfOk, OnOk, slice_index_or};
 ghost use Rattle.finite_sets.specs.Lists.{In, Lists};
-ghost use Rattle.flood_nodes.specs.Stacking.{AreSpread};
-ghost use Rattle.flood_nodes.specs.TileShares.{IsTileContact};
-ghost use Rattle.layout_model.specs.Technologies.{class_of};
+ghost use Rattle.meeting_laws.specs.FloodNodes.Stacking.{AreSpread};
+ghost use Rattle.meeting_laws.specs.FloodNodes.TileShares.{IsTileContact};
+ghost use Rattle.offences.specs.LayoutModel.Technologies.{class_of};
 ghost use Rattle.offences.specs.TypedStacks.{AreByPart};
 ghost use Rattle.meeting_sums.specs.steps.Counts.{area_beyond, alone_beyond, shared_beyond, perimeter_beyond, AddAmounts, AreColumns};
 ghost use Rattle.meeting_sums.specs.StackTiles.{tiles_of};
 
 use crate::amounts::{push_contact, push_stack};
 use key_sums::{Amount, sums_by_key};
-use measures::{area_of, perimeter_of};
+use meeting_laws::measures::{area_of, perimeter_of};
 use offences::PlaneStack;
 use rect_contacts::Contact;
 use std::alloc::{AllocError, Global};

@@ -1,6 +1,6 @@
 //! Types of pieces in a class.
 ghost use Rattle.std.specs.Prelude.{◌≡◌, ◌<◌, ◌≤◌, ◌&&◌, length, take, drop, All};
-ghost use Rattle.layout_model.specs.Technologies.{class_of};
+ghost use Rattle.offences.specs.LayoutModel.Technologies.{class_of};
 ghost use Rattle.offences.specs.TypedStacks.{AreByPart, kind_in};
 ghost use Rattle.meeting_sums.specs.steps.Counts.{flat_kind};
 

@@ -1,8 +1,8 @@
 //! The sums of all groups.
 ghost use Rattle.std.specs.Prelude.{◌≡◌, ◌<◌, ℕ, List as Listed, All, length, IfOk};
 ghost use Rattle.finite_sets.specs.Lists.{Lists};
-ghost use Rattle.flood_nodes.specs.Stacking.{AreSpread};
-ghost use Rattle.flood_nodes.specs.TileShares.{IsTileContact};
+ghost use Rattle.meeting_laws.specs.FloodNodes.Stacking.{AreSpread};
+ghost use Rattle.meeting_laws.specs.FloodNodes.TileShares.{IsTileContact};
 ghost use Rattle.offences.specs.Offences.{SetLayout};
 ghost use Rattle.offences.specs.PlaneStacks.{ArePlaneStacks};
 ghost use Rattle.offences.specs.TypedStacks.{AreByPart};

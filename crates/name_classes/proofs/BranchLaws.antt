@@ -5,14 +5,14 @@ use Rattle.std.specs.Str.{bytes_eq}
 use Rattle.std.proofs.lemmas.Slice.Eq.{bytes_eq-Decides}
 use Rattle.std.proofs.lemmas.Bool.{cases_Bool}
 use Rattle.std.proofs.lemmas.Option.{slice_get_within, slice_get_read, get_or_from_slice_get}
-use Rattle.element_tree.specs.declared.tree.ElementTree.{ElementTree}
-use Rattle.finite_sets.specs.Lists.{Distinct}
-use Rattle.finite_sets.proofs.Searches.{find-In, find-passes, find-none, none_found}
-use Rattle.finite_sets.proofs.Places.{In-slice_get, slice_get-In, slice_get-one}
+use Rattle.full_names.specs.ElementTree.declared.tree.ElementTree.{ElementTree}
+use Rattle.partition.specs.FiniteSets.Lists.{Distinct}
+use Rattle.partition.proofs.FiniteSets.Searches.{find-In, find-passes, find-none, none_found}
+use Rattle.partition.proofs.FiniteSets.Places.{In-slice_get, slice_get-In, slice_get-one}
 use Rattle.ext_model.specs.declared.records.UseRec.{UseRec}
 use Rattle.ext_model.specs.declared.records.CellExt.{CellExt}
-use Rattle.element_tree.specs.declared.tree.Branch.{Branch}
-use Rattle.element_tree.specs.Trees.{branches_of}
+use Rattle.full_names.specs.ElementTree.declared.tree.Branch.{Branch}
+use Rattle.full_names.specs.ElementTree.Trees.{branches_of}
 use Rattle.full_names.specs.declared.names.FullNames.{FullNames}
 use Rattle.full_names.specs.Names.{IsReached}
 use Rattle.name_classes.specs.declared.tables.UseTable.{UseTable}

@@ -6,14 +6,14 @@ use Rattle.std.proofs.lemmas.Bool.Decides.{nat_tests}
 use Rattle.std.proofs.lemmas.Option.{slice_get-get_or, slice_get_within, slice_get-map, get_or_from_slice_get}
 use Rattle.std.proofs.lemmas.List.{length-map}
 use Rattle.std.specs.Option.{option_map}
-use Rattle.finite_sets.specs.Lists.{In, Distinct}
-use Rattle.finite_sets.specs.Chain.{Chain, EitherWay}
-use Rattle.finite_sets.specs.Chain.Chain.{stay, go}
-use Rattle.finite_sets.proofs.Members.{In-append_left, In-append_right, In-map, In-map_source}
-use Rattle.finite_sets.proofs.Distincts.{length-distinct}
-use Rattle.finite_sets.proofs.Chains.{Chain-one, Chain-append, Chain-same, Chain-either_back}
-use Rattle.finite_sets.proofs.Places.{one_place, In-slice_get, slice_get-In, slice_get-one}
-use Rattle.finite_sets.proofs.Images.{In-flat_map}
+use Rattle.partition.specs.FiniteSets.Lists.{In, Distinct}
+use Rattle.partition.specs.FiniteSets.Chain.{Chain, EitherWay}
+use Rattle.partition.specs.FiniteSets.Chain.Chain.{stay, go}
+use Rattle.partition.proofs.FiniteSets.Members.{In-append_left, In-append_right, In-map, In-map_source}
+use Rattle.partition.proofs.FiniteSets.Distincts.{length-distinct}
+use Rattle.partition.proofs.FiniteSets.Chains.{Chain-one, Chain-append, Chain-same, Chain-either_back}
+use Rattle.partition.proofs.FiniteSets.Places.{one_place, In-slice_get, slice_get-In, slice_get-one}
+use Rattle.partition.proofs.FiniteSets.Images.{In-flat_map}
 use Rattle.partition.specs.Divides.{IsPair}
 use Rattle.partition.specs.Marks.{IsNumbered}
 use Rattle.ext_model.specs.declared.records.NodeRec.{NodeRec}
@@ -23,7 +23,7 @@ use Rattle.ext_model.specs.Paths.{last_name, path_text}
 use Rattle.ext_model.specs.RecordNames.{names_of, node_names}
 use Rattle.circuit_model.specs.Elements.{Element, ids_of}
 use Rattle.circuit_model.specs.FullNames.{name_in, IsFullName, AreLinked, AreOneNode, AreInNameOrder}
-use Rattle.element_tree.specs.declared.tree.TreeElement.{TreeElement}
+use Rattle.full_names.specs.ElementTree.declared.tree.TreeElement.{TreeElement}
 use Rattle.full_names.specs.declared.names.FullNames.{FullNames}
 use Rattle.full_names.specs.NameLists.{IsFullNameList}
 use Rattle.full_names.specs.Names.{AreNames, IsElement, elements_in}

@@ -2,9 +2,9 @@
 use Rattle.std.proofs.Common.{◌≡◌, ◌⊎◌, ◌+◌, ◌==◌, ℕ, Bool, inl, inr, List, [], ◌++◌, refl, sym, ◌∙◌, ap, subst, arith}
 use Rattle.std.specs.Prelude.{Some, slice_get, if◌then◌else◌}
 use Rattle.std.proofs.lemmas.Bool.{cases_Bool, cases_lt}
-use Rattle.finite_sets.specs.Lists.{In}
-use Rattle.finite_sets.proofs.Members.{In-append_left, In-append_right, In-append_cases}
-use Rattle.finite_sets.proofs.Places.{In-slice_get, slice_get-In, slice_get-one}
+use Rattle.partition.specs.FiniteSets.Lists.{In}
+use Rattle.partition.proofs.FiniteSets.Members.{In-append_left, In-append_right, In-append_cases}
+use Rattle.partition.proofs.FiniteSets.Places.{In-slice_get, slice_get-In, slice_get-one}
 use Rattle.partition.specs.Divides.{KeepsPairs}
 use Rattle.ext_model.specs.declared.records.NodeRec.{NodeRec}
 use Rattle.ext_model.specs.declared.records.MergeRec.{MergeRec}
@@ -12,7 +12,7 @@ use Rattle.ext_model.specs.declared.records.CellExt.{CellExt}
 use Rattle.ext_model.specs.RecordNames.{names_of}
 use Rattle.circuit_model.specs.Elements.{Element}
 use Rattle.circuit_model.specs.FullNames.{name_in}
-use Rattle.element_tree.specs.declared.tree.TreeElement.{TreeElement}
+use Rattle.full_names.specs.ElementTree.declared.tree.TreeElement.{TreeElement}
 use Rattle.full_names.specs.declared.names.FullNames.{FullNames}
 use Rattle.full_names.specs.NameLists.{IsFullNameList}
 use Rattle.full_names.specs.Names.{AreNames, IsElement, HasSpot, GivesName, elements_in}

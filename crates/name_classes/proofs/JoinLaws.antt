@@ -2,8 +2,8 @@
 use Rattle.std.proofs.Common.{◌≡◌, ◌<◌, ℕ, inl, inr, List, [], ◌∷◌, ◌++◌, length, refl, ◌∙◌, subst}
 use Rattle.std.proofs.Common.{arith, append_assoc}
 use Rattle.std.proofs.lemmas.Option.{slice_get_within}
-use Rattle.finite_sets.specs.Lists.{In}
-use Rattle.finite_sets.proofs.Members.{In-append_left, In-append_right, In-append_cases}
+use Rattle.partition.specs.FiniteSets.Lists.{In}
+use Rattle.partition.proofs.FiniteSets.Members.{In-append_left, In-append_right, In-append_cases}
 use Rattle.partition.specs.Divides.{Divides, IsPair, AddsPair}
 use Rattle.full_names.specs.declared.names.FullNames.{FullNames}
 use Rattle.full_names.specs.declared.names.Spot.{Spot}

@@ -1,5 +1,8 @@
 -- what crates above name of those below
-pub use Rattle.element_tree.proofs as ElementTree
+pub use Rattle.partition.proofs.FiniteSets as FiniteSets
+pub use Rattle.ext_model.proofs.GeoCore as GeoCore
+pub use Rattle.ext_model.proofs as ExtModel
+pub use Rattle.full_names.proofs.ElementTree as ElementTree
 pub use Rattle.full_names.proofs as FullNames
 pub mod ListLaws
 pub mod TreeLaws

@@ -4,9 +4,9 @@ use Rattle.std.proofs.Common.{subst, arith}
 use Rattle.std.specs.Prelude.{Option, Some, slice_get}
 use Rattle.std.proofs.lemmas.Option.{slice_get_within, slice_get-map}
 use Rattle.std.specs.Option.{option_map}
-use Rattle.finite_sets.specs.Lists.{Distinct}
-use Rattle.finite_sets.proofs.Places.{one_place, slice_get-below, slice_get-one}
-use Rattle.finite_sets.proofs.OneForOne.{AreOneForOne-push, AreOneForOne-from_places, AreOneForOne-there}
+use Rattle.partition.specs.FiniteSets.Lists.{Distinct}
+use Rattle.partition.proofs.FiniteSets.Places.{one_place, slice_get-below, slice_get-one}
+use Rattle.partition.proofs.FiniteSets.OneForOne.{AreOneForOne-push, AreOneForOne-from_places, AreOneForOne-there}
 
 -- there is a thing at each place
 pub at_place : {X Y : Type 0} (xs : List X) (ys : List Y) (k : ℕ) (y : Y) → length ys ≡ length xs → slice_get ys k ≡ Some y

@@ -8,9 +8,9 @@ use Rattle.std.proofs.lemmas.Bool.{cases_Bool}
 use Rattle.std.proofs.lemmas.Option.{slice_get_within, get_or_from_slice_get}
 use Rattle.std.proofs.lemmas.List.Sums.{sum_by-cons}
 use Rattle.std.proofs.lemmas.List.{map-append}
-use Rattle.finite_sets.specs.Lists.{In}
-use Rattle.finite_sets.proofs.Searches.{find-passes, list_any-of_In}
-use Rattle.finite_sets.proofs.Places.{In-slice_get, slice_get-one, slice_get-below}
+use Rattle.partition.specs.FiniteSets.Lists.{In}
+use Rattle.partition.proofs.FiniteSets.Searches.{find-passes, list_any-of_In}
+use Rattle.partition.proofs.FiniteSets.Places.{In-slice_get, slice_get-one, slice_get-below}
 use Rattle.ext_model.specs.declared.names.TheConstants.{SLASH}
 use Rattle.ext_model.specs.declared.records.UseRec.{UseRec}
 use Rattle.ext_model.specs.declared.records.CellExt.{CellExt}
@@ -24,10 +24,10 @@ use Rattle.circuit_model.specs.Elements.{Element, ids_of, ext_of}
 use Rattle.circuit_model.specs.FullNames.{name_in}
 use Rattle.circuit_model.specs.FlatNodes.{is_among}
 use Rattle.circuit_model.specs.Refusals.{leads, before_slash, after_slash}
-use Rattle.element_tree.specs.declared.tree.Branch.{Branch}
-use Rattle.element_tree.specs.declared.tree.TreeElement.{TreeElement}
-use Rattle.element_tree.specs.declared.tree.ElementTree.{ElementTree}
-use Rattle.element_tree.specs.Trees.{branches_of}
+use Rattle.full_names.specs.ElementTree.declared.tree.Branch.{Branch}
+use Rattle.full_names.specs.ElementTree.declared.tree.TreeElement.{TreeElement}
+use Rattle.full_names.specs.ElementTree.declared.tree.ElementTree.{ElementTree}
+use Rattle.full_names.specs.ElementTree.Trees.{branches_of}
 use Rattle.full_names.specs.declared.names.FullNames.{FullNames}
 use Rattle.full_names.specs.declared.names.Spot.{Spot}
 use Rattle.full_names.specs.Names.{elements_in, AreNames, IsElement, IsReached, IsSpotOf, LacksName}

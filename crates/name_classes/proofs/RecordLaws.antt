@@ -4,8 +4,8 @@ use Rattle.std.specs.Prelude.{Some, slice_get, pos}
 use Rattle.ext_model.specs.GeoCore.declared.orients.Orient.TheVariants.{R0}
 use Rattle.std.proofs.lemmas.Option.{slice_get_within, slice_get-get_or}
 use Rattle.ext_model.specs.declared.records.CellExt.{CellExt}
-use Rattle.element_tree.specs.declared.tree.TreeElement.{TreeElement}
-use Rattle.element_tree.specs.declared.tree.ElementTree.{ElementTree}
+use Rattle.full_names.specs.ElementTree.declared.tree.TreeElement.{TreeElement}
+use Rattle.full_names.specs.ElementTree.declared.tree.ElementTree.{ElementTree}
 use Rattle.name_classes.specs.declared.paths.Resolver.{Resolver}
 use Rattle.name_classes.specs.steps.Paths.{IsResolver}
 use Rattle.name_classes.specs.steps.Links.{HasRecord}

@@ -6,13 +6,13 @@ use Rattle.std.proofs.lemmas.Bool.{cases_eq, cases_lt}
 use Rattle.std.proofs.lemmas.List.{length-set, with_items_is}
 use Rattle.std.specs.Vec.{with_items}
 use Rattle.std.proofs.lemmas.Option.{slice_get_within}
-use Rattle.finite_sets.proofs.Places.{slice_get-In, slice_get-one, slice_get-set_same, slice_get-set_other, slice_get-In_take}
-use Rattle.finite_sets.proofs.Firsts.{first_some-none, first_some-at}
+use Rattle.partition.proofs.FiniteSets.Places.{slice_get-In, slice_get-one, slice_get-set_same, slice_get-set_other, slice_get-In_take}
+use Rattle.partition.proofs.FiniteSets.Firsts.{first_some-none, first_some-at}
 use Rattle.ext_model.specs.declared.records.CellExt.{CellExt}
 use Rattle.circuit_model.specs.declared.faults.FlatFault.{FlatFault}
 use Rattle.circuit_model.specs.Elements.{Element}
 use Rattle.circuit_model.specs.Refusals.{first_fault, merge_fault, element_fault}
-use Rattle.element_tree.specs.declared.tree.TreeElement.{TreeElement}
+use Rattle.full_names.specs.ElementTree.declared.tree.TreeElement.{TreeElement}
 use Rattle.full_names.specs.declared.names.FullNames.{FullNames}
 use Rattle.full_names.specs.Names.{AreNames, IsElement, elements_in}
 use Rattle.name_classes.specs.declared.links.RecordLinks.{RecordLinks}

@@ -5,8 +5,8 @@ use Rattle.std.specs.Prelude.{Some, None, slice_get}
 use Rattle.std.specs.Str.{bytes_eq}
 use Rattle.std.proofs.lemmas.Slice.Eq.{bytes_eq-Decides}
 use Rattle.std.proofs.lemmas.Bool.{cases_Bool}
-use Rattle.finite_sets.proofs.Members.{In-push_cases}
-use Rattle.finite_sets.proofs.Places.{slice_get-append_left, slice_get-push_new}
+use Rattle.partition.proofs.FiniteSets.Members.{In-push_cases}
+use Rattle.partition.proofs.FiniteSets.Places.{slice_get-append_left, slice_get-push_new}
 use Rattle.ext_model.specs.declared.records.UseRec.{UseRec}
 use Rattle.ext_model.specs.declared.records.CellExt.{CellExt}
 use Rattle.name_classes.specs.declared.tables.UseTable.{UseTable}

@@ -6,7 +6,7 @@ use Rattle.circuit_model.specs.declared.faults.FlatFault.{FlatFault}
 use Rattle.circuit_model.specs.Elements.{Element}
 use Rattle.circuit_model.specs.FullNames.{name_in, AreOneNode}
 use Rattle.circuit_model.specs.Refusals.{first_fault, element_fault}
-use Rattle.element_tree.specs.declared.tree.TreeElement.{TreeElement}
+use Rattle.full_names.specs.ElementTree.declared.tree.TreeElement.{TreeElement}
 use Rattle.full_names.specs.declared.names.FullNames.{FullNames}
 use Rattle.full_names.specs.NameLists.{IsFullNameList}
 use Rattle.full_names.specs.Names.{elements_in, IsElement, IsSpotOf}

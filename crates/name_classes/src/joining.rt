@@ -1,6 +1,6 @@
 //! Full names by their numbers, joined by the links of all elements.
 ghost use Rattle.std.specs.Prelude.{◌≡◌, ◌<◌, ◌^◌, [], ◌∷◌, length, IfOk};
-ghost use Rattle.finite_sets.specs.Lists.{In};
+ghost use Rattle.partition.specs.FiniteSets.Lists.{In};
 ghost use Rattle.partition.specs.Marks.{IsNumbered};
 ghost use Rattle.full_names.specs.Names.{AreNames};
 ghost use Rattle.name_classes.specs.declared.links.Link.{Link as OneLink};
@@ -8,8 +8,8 @@ ghost use Rattle.name_classes.specs.steps.Links.{AreAllLinks};
 ghost use Rattle.name_classes.specs.steps.Joins.{HasEndsAt, AddsJoins, AreJoined, once_at, links_at};
 
 use crate::links::{Link, RecordLinks};
-use element_tree::TreeElement;
 use full_names::FullNames;
+use full_names::element_tree::TreeElement;
 use partition::{Labelling, Partition};
 use std::alloc::{AllocError, Global};
 

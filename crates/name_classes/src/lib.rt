@@ -22,3 +22,4 @@ mod paths;
 mod tables;
 
 pub use classes::{MergeEnd, NameClasses, name_classes};
+pub use full_names;

@@ -1,6 +1,6 @@
 //! Which names the elements of a record make one node of.
 ghost use Rattle.std.specs.Prelude.{◌≡◌, ◌⊎◌, ◌↔◌, ◌<◌, [], length, map, slice_set, true, IsTrue, IfOk, IfErr, IfSome, OnOk};
-ghost use Rattle.finite_sets.specs.Lists.{In};
+ghost use Rattle.partition.specs.FiniteSets.Lists.{In};
 ghost use Rattle.ext_model.specs.declared.names.NameKind.TheVariants.{Global as GlobalKind};
 ghost use Rattle.ext_model.specs.NodeNames.{name_kind};
 ghost use Rattle.name_classes.specs.steps.Paths.{IsResolver, IsEndFrom};

@@ -6,9 +6,9 @@ ghost use Rattle.name_classes.specs.steps.Paths.{IsSplit, IsResolver, IsNameOf, 
 
 use crate::classes::MergeEnd;
 use crate::tables::{UseTable, use_tables};
-use element_tree::{Branch, ElementTree};
 use ext_model::{CellExt, SLASH};
 use full_names::FullNames;
+use full_names::element_tree::{Branch, ElementTree};
 use std::alloc::{AllocError, Global};
 
 /// A tree of records with its full names, and tables by which paths are taken down the tree.

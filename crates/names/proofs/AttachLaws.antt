@@ -5,11 +5,11 @@ use Rattle.std.proofs.lemmas.Bool.{cases_lt, and_parts, and_from, false≢true}
 use Rattle.std.proofs.lemmas.List.{get_or_past}
 use Rattle.std.proofs.lemmas.List.Sorted.{IsPermutation-sym}
 use Rattle.std.proofs.lemmas.Option.{none-some, slice_get_within, slice_get-get_or, get_or_from_slice_get}
-use Rattle.finite_sets.specs.Lists.{In}
-use Rattle.finite_sets.specs.Least.{IsLeast}
-use Rattle.finite_sets.proofs.Leasts.{IsLeast-unique}
-use Rattle.finite_sets.proofs.Members.{In-get_or, In-index, In-permutation}
-use Rattle.finite_sets.proofs.Searches.{find-In, All-In}
+use Rattle.geo_core.specs.FiniteSets.Lists.{In}
+use Rattle.geo_core.specs.FiniteSets.Least.{IsLeast}
+use Rattle.geo_core.proofs.FiniteSets.Leasts.{IsLeast-unique}
+use Rattle.geo_core.proofs.FiniteSets.Members.{In-get_or, In-index, In-permutation}
+use Rattle.geo_core.proofs.FiniteSets.Searches.{find-In, All-In}
 use Rattle.geo_core.specs.declared.squares.Square.{Square}
 use Rattle.geo_core.specs.declared.squares.Rect.{Rect}
 use Rattle.geo_core.specs.Areas.{common_rect, corner_of, has_square}

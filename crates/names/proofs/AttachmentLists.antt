@@ -5,8 +5,8 @@ use Rattle.std.specs.Option.{option_map}
 use Rattle.std.proofs.lemmas.Bool.{cases_eq, cases_lt, false≢true}
 use Rattle.std.proofs.lemmas.List.{get_or_append_left, get_or_push, get_or_past, get_or_default, length_push}
 use Rattle.std.proofs.lemmas.Option.{none-some, same_Some}
-use Rattle.finite_sets.specs.Lists.{In}
-use Rattle.finite_sets.proofs.Members.{In-get_or, In-index}
+use Rattle.geo_core.specs.FiniteSets.Lists.{In}
+use Rattle.geo_core.proofs.FiniteSets.Members.{In-get_or, In-index}
 use Rattle.ext_model.specs.NodeNames.{is_naming_text}
 use Rattle.flood_nodes.specs.SoundTiles.{IsSoundTile}
 use Rattle.flood_nodes.specs.TileShares.{no_tile}

@@ -10,10 +10,10 @@ use Rattle.std.proofs.lemmas.Bool.{cases_eq}
 use Rattle.std.proofs.lemmas.Cmp.{nat_list_cmp_total, tied_itself}
 use Rattle.std.proofs.lemmas.List.{get_or_append_left, get_or_push, length_push}
 use Rattle.std.proofs.lemmas.Option.{none-some, same_Some}
-use Rattle.finite_sets.specs.Chain.{EitherWay}
-use Rattle.finite_sets.specs.Lists.{In}
-use Rattle.finite_sets.proofs.Chains.{Chain-one, Chain-append, Chain-same, Chain-weaker, Chain-either_back}
-use Rattle.finite_sets.proofs.Members.{In-append_left, In-append_right, In-append_cases}
+use Rattle.geo_core.specs.FiniteSets.Chain.{EitherWay}
+use Rattle.geo_core.specs.FiniteSets.Lists.{In}
+use Rattle.geo_core.proofs.FiniteSets.Chains.{Chain-one, Chain-append, Chain-same, Chain-weaker, Chain-either_back}
+use Rattle.geo_core.proofs.FiniteSets.Members.{In-append_left, In-append_right, In-append_cases}
 use Rattle.partition.specs.Divides.{IsJoined, IsPair}
 use Rattle.ext_model.specs.NodeNames.{is_global}
 use Rattle.names.specs.steps.CountedLabels.{counted_region, joined_pair, IsCounted, IsFirstRegion, IsNamed, ShareText, AreCounted}

@@ -10,9 +10,9 @@ use Rattle.std.proofs.lemmas.Int.{ints}
 use Rattle.std.proofs.lemmas.List.{get_or-set_same, get_or-set_other, length-set}
 use Rattle.std.proofs.lemmas.List.Quantifiers.{all_pairs_push}
 use Rattle.std.proofs.lemmas.List.Sorted.{IsPermutation-sym}
-use Rattle.finite_sets.specs.Lists.{In}
-use Rattle.finite_sets.proofs.Members.{In-get_or, In-index, In-push_cases, In-push, In-append_left, In-permutation}
-use Rattle.finite_sets.proofs.Orders.{int_cmp-not_less, ordering_then-not_less, IsSortedByKey-pairs, nat_then-not_less}
+use Rattle.geo_core.specs.FiniteSets.Lists.{In}
+use Rattle.geo_core.proofs.FiniteSets.Members.{In-get_or, In-index, In-push_cases, In-push, In-append_left, In-permutation}
+use Rattle.geo_core.proofs.FiniteSets.Orders.{int_cmp-not_less, ordering_then-not_less, IsSortedByKey-pairs, nat_then-not_less}
 use Rattle.layout_model.specs.Places.{IsNoLater}
 use Rattle.layout_model.specs.declared.region_tiles.RegionTile.{RegionTile}
 use Rattle.flood_nodes.specs.TileShares.{tile_at, no_tile}

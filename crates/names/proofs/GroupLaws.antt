@@ -6,8 +6,8 @@ use Rattle.std.proofs.lemmas.List.{get_or-map, length-map}
 use Rattle.std.proofs.lemmas.List.Elements.{All-map}
 use Rattle.std.proofs.lemmas.List.Quantifiers.{all_pairs_push}
 use Rattle.std.proofs.lemmas.Option.{none-some, same_Some}
-use Rattle.finite_sets.specs.Lists.{In}
-use Rattle.finite_sets.proofs.Members.{In-get_or, In-push_cases, In-push, In-append_left}
+use Rattle.geo_core.specs.FiniteSets.Lists.{In}
+use Rattle.geo_core.proofs.FiniteSets.Members.{In-get_or, In-push_cases, In-push, In-append_left}
 use Rattle.names.specs.steps.Groups.{IsGroup, AreGroupsBy, AreGroups, AddsMember, key_at, class_in, region_key, label_key}
 
 -- a group has nothing of no numbers

@@ -5,9 +5,9 @@ use Rattle.std.specs.Option.{option_map}
 use Rattle.std.proofs.lemmas.Bool.{false≢true}
 use Rattle.std.proofs.lemmas.List.{get_or-map, length-map}
 use Rattle.std.proofs.lemmas.Option.{none-some, same_Some, slice_get_within, get_or_from_slice_get}
-use Rattle.finite_sets.specs.Chain.{EitherWay}
-use Rattle.finite_sets.specs.Chain.Chain.{stay, go}
-use Rattle.finite_sets.proofs.Chains.{Chain-append, Chain-one, Chain-same, Chain-weaker}
+use Rattle.geo_core.specs.FiniteSets.Chain.{EitherWay}
+use Rattle.geo_core.specs.FiniteSets.Chain.Chain.{stay, go}
+use Rattle.geo_core.proofs.FiniteSets.Chains.{Chain-append, Chain-one, Chain-same, Chain-weaker}
 use Rattle.partition.specs.Divides.{IsJoined, IsPair, Divides}
 use Rattle.tech_model.specs.declared.raw.Label.{Label}
 use Rattle.tech_model.specs.declared.raw.RawTech.{RawTech}

@@ -5,11 +5,11 @@ use Rattle.std.specs.declared.cmp.Ordering.TheVariants.{Less, Equal}
 use Rattle.std.proofs.lemmas.Cmp.{tied_itself}
 use Rattle.std.proofs.lemmas.List.{get_or-map, length-map}
 use Rattle.std.proofs.lemmas.Option.{none-some, same_Some}
-use Rattle.finite_sets.specs.Chain.Chain.{stay}
-use Rattle.finite_sets.specs.Lists.{In, Distinct, Lists}
-use Rattle.finite_sets.proofs.Chains.{Chain-same}
-use Rattle.finite_sets.proofs.Distincts.{Distinct-from_places}
-use Rattle.finite_sets.proofs.Members.{In-get_or, In-index}
+use Rattle.geo_core.specs.FiniteSets.Chain.Chain.{stay}
+use Rattle.geo_core.specs.FiniteSets.Lists.{In, Distinct, Lists}
+use Rattle.geo_core.proofs.FiniteSets.Chains.{Chain-same}
+use Rattle.geo_core.proofs.FiniteSets.Distincts.{Distinct-from_places}
+use Rattle.geo_core.proofs.FiniteSets.Members.{In-get_or, In-index}
 use Rattle.geo_core.specs.Areas.{corner_of}
 use Rattle.geo_core.proofs.CoveringLaws.{corner_covered}
 use Rattle.partition.specs.Divides.{IsPair, Divides}

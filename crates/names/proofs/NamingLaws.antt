@@ -11,8 +11,8 @@ use Rattle.std.proofs.lemmas.Cmp.{tied_itself}
 use Rattle.std.proofs.lemmas.List.Kept.{Contains-dedup, Contains-from_dedup, IsStrictlySortedBy-dedup}
 use Rattle.std.proofs.lemmas.List.Sorted.{IsPermutation-sym}
 use Rattle.std.proofs.lemmas.Map.Keys.{Less-from_sorted}
-use Rattle.finite_sets.specs.Lists.{In}
-use Rattle.finite_sets.proofs.Members.{In-map, In-map_source, In-permutation, In-from_Contains, Contains-from_In}
+use Rattle.geo_core.specs.FiniteSets.Lists.{In}
+use Rattle.geo_core.proofs.FiniteSets.Members.{In-map, In-map_source, In-permutation, In-from_Contains, Contains-from_In}
 use Rattle.tech_model.specs.declared.raw.Label.{Label}
 use Rattle.ext_model.specs.NameOrder.{name_cmp}
 use Rattle.ext_model.proofs.NameOrders.{name_cmp_total, name_cmp_exact}

@@ -4,7 +4,7 @@ use Rattle.std.specs.Prelude.{int_lt}
 use Rattle.std.specs.Ordering.{int_eq}
 use Rattle.std.proofs.lemmas.Bool.{cases_Bool, eqb-true, eqb-false, ltb-true, ltb-false, cases_order}
 use Rattle.std.proofs.lemmas.Int.{ints}
-use Rattle.finite_sets.proofs.Orders.{less_equal_or_greater}
+use Rattle.geo_core.proofs.FiniteSets.Orders.{less_equal_or_greater}
 use Rattle.layout_model.specs.Places.{Place, IsBefore, IsNoLater}
 use Rattle.layout_model.proofs.PlaceLaws.{IsBefore-trans}
 use Rattle.names.specs.declared.attaching.Attachment.{Attachment}

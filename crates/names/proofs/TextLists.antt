@@ -5,10 +5,10 @@ use Rattle.std.proofs.lemmas.Bool.{cases_eq}
 use Rattle.std.proofs.lemmas.List.{map_push}
 use Rattle.std.proofs.lemmas.List.Quantifiers.{all_pairs_push}
 use Rattle.std.proofs.lemmas.Option.{none-some}
-use Rattle.finite_sets.specs.Lists.{In}
-use Rattle.finite_sets.proofs.Distincts.{Distinct-push}
-use Rattle.finite_sets.proofs.Listings.{Lists-none, Lists-iff}
-use Rattle.finite_sets.proofs.Members.{In-get_or, In-push_cases, In-push, In-append_left}
+use Rattle.geo_core.specs.FiniteSets.Lists.{In}
+use Rattle.geo_core.proofs.FiniteSets.Distincts.{Distinct-push}
+use Rattle.geo_core.proofs.FiniteSets.Listings.{Lists-none, Lists-iff}
+use Rattle.geo_core.proofs.FiniteSets.Members.{In-get_or, In-push_cases, In-push, In-append_left}
 use Rattle.tech_model.specs.declared.raw.Label.{Label}
 use Rattle.names.specs.Attachments.{AreTextsOf}
 use Rattle.names.specs.steps.CountedLabels.{text_at}

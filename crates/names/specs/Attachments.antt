@@ -1,8 +1,8 @@
 -- Where labels attach, and which of them name the places that they attach to.
 use Rattle.std.specs.Prelude.{◌≡◌, ◌⊎◌, ◌<◌, ℕ, ℤ, pos, ◌+ℤ◌, ◌-ℤ◌, IsTrue, if◌then◌else◌, List, [], length, map, slice_index_or, AllPairs, Some, None}
 use Rattle.std.specs.Ordering.{int_eq}
-use Rattle.finite_sets.specs.Lists.{Lists}
-use Rattle.finite_sets.specs.Least.{IsLeast}
+use Rattle.geo_core.specs.FiniteSets.Lists.{Lists}
+use Rattle.geo_core.specs.FiniteSets.Least.{IsLeast}
 use Rattle.geo_core.specs.declared.squares.Rect.{Rect}
 use Rattle.geo_core.specs.Covering.{Covers}
 use Rattle.tech_model.specs.declared.raw.Label.{Label}

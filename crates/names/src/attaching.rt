@@ -1,6 +1,6 @@
 //! Where labels attach.
 ghost use Rattle.std.specs.Prelude.{◌≡◌, ◌<◌, ◌≤◌, All, IfOk, true, length, if◌then◌else◌, take};
-ghost use Rattle.finite_sets.specs.Lists.{In};
+ghost use Rattle.geo_core.specs.FiniteSets.Lists.{In};
 ghost use Rattle.geo_core.specs.Areas.{IsNear, IsSmall};
 ghost use Rattle.geo_core.specs.Areas.{common_rect};
 ghost use Rattle.tech_model.specs.WellFormed.{IsWellFormed};

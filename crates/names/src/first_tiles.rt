@@ -1,6 +1,6 @@
 //! The first tiles of classes of regions, in the order of places.
 ghost use Rattle.std.specs.Prelude.{◌≡◌, ◌<◌, All, AllPairs, IfOk, IsPermutation, length};
-ghost use Rattle.finite_sets.specs.Lists.{In};
+ghost use Rattle.geo_core.specs.FiniteSets.Lists.{In};
 ghost use Rattle.layout_model.specs.Places.{IsNoLater};
 ghost use Rattle.names.specs.steps.FirstTiles.{corner_place, AreFirstTiles, AreUnmarked};
 

@@ -7,7 +7,7 @@ ghost use Rattle.session_model.specs.Fetches.{text_in};
 ghost use Rattle.sim_networks.specs.SimNetworks.{HasLetter};
 ghost use Rattle.sim_text.specs.SimTexts.{sim_in};
 ghost use Rattle.switch_net.specs.Net.{network_of};
-ghost use Rattle.vector_runs.specs.Runs.{IsFresh};
+ghost use Rattle.network_runs.specs.VectorRuns.Runs.{IsFresh};
 ghost use Rattle.line_answers.specs.LineEffects.{IsOfInside};
 ghost use Rattle.network_commands.specs.CommandSimrun.{RunsRead, RunsRecords, RunsVectors, SimrunMeans};
 ghost use Rattle.network_runs.specs.Simulations.{TellsVectors};

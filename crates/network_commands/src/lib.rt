@@ -5,3 +5,4 @@ mod command_simrun;
 mod refusals;
 
 pub use command_simrun::simrun;
+pub use network_runs::fault_grade;

@@ -8,6 +8,7 @@ mod network_runs;
 mod refusals;
 mod simulations;
 
+pub use fault_grade;
 pub use laws::shown_lines_tell_steady_values;
 pub use network_runs::{NetworkRun, run_circuit};
 pub use refusals::{limit_passed, sim_limit_word};

@@ -8,14 +8,14 @@ use Rattle.std.specs.Int.Bits.{or_zero_l, or_zero_r}
 use Rattle.std.proofs.lemmas.Bool.{eq-eqb, ne_eqb, eqb-true, cases_eq, cases_lt}
 use Rattle.std.proofs.lemmas.List.{length-map}
 use Rattle.std.proofs.lemmas.List.Sums.{length-filter, sum_by-cons}
-use Rattle.finite_sets.specs.Lists.{In, Distinct, Lists}
-use Rattle.finite_sets.proofs.Distincts.{Distinct-from_places}
-use Rattle.finite_sets.proofs.Listings.{Lists-In, Lists-filter, Lists-map, Lists-iff}
-use Rattle.finite_sets.proofs.Members.{In-get_or, In-index, In-filter}
-use Rattle.finite_sets.proofs.Searches.{one_thing}
-use Rattle.finite_sets.proofs.Pairs.{Pairwise, Pairwise-from_AllPairs}
-use Rattle.finite_sets.proofs.Totals.{length-same_set}
-use Rattle.rect_contacts.proofs.BothWays.{Lists-below}
+use Rattle.geo_core.specs.FiniteSets.Lists.{In, Distinct, Lists}
+use Rattle.geo_core.proofs.FiniteSets.Distincts.{Distinct-from_places}
+use Rattle.geo_core.proofs.FiniteSets.Listings.{Lists-In, Lists-filter, Lists-map, Lists-iff}
+use Rattle.geo_core.proofs.FiniteSets.Members.{In-get_or, In-index, In-filter}
+use Rattle.geo_core.proofs.FiniteSets.Searches.{one_thing}
+use Rattle.geo_core.proofs.FiniteSets.Pairs.{Pairwise, Pairwise-from_AllPairs}
+use Rattle.geo_core.proofs.FiniteSets.Totals.{length-same_set}
+use Rattle.rect_overlays.proofs.RectContacts.BothWays.{Lists-below}
 use Rattle.tech_model.specs.declared.raw.RawTech.{RawTech}
 use Rattle.tech_model.specs.Types.{type_number, joined}
 use Rattle.layout_model.specs.Places.{Place}

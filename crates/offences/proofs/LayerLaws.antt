@@ -10,10 +10,10 @@ use Rattle.std.proofs.lemmas.Int.{ints}
 use Rattle.std.proofs.lemmas.List.{length-map, get_or-map, same_lists, take_more, take_all, length-take-le, map-append}
 use Rattle.std.proofs.lemmas.List.FromFn.{get_or-map-range_with_len}
 use Rattle.std.proofs.lemmas.Option.{slice_get_within, slice_get-get_or, slice_get-map}
-use Rattle.finite_sets.specs.Lists.{In}
-use Rattle.finite_sets.proofs.Members.{In-append_left, In-append_right, In-append_cases, In-map, In-map_source}
-use Rattle.finite_sets.proofs.Searches.{list_any-In, All-from_In, list_any-source}
-use Rattle.finite_sets.proofs.Places.{slice_get-append_left, slice_get-push_new, slice_get-push_cases}
+use Rattle.geo_core.specs.FiniteSets.Lists.{In}
+use Rattle.geo_core.proofs.FiniteSets.Members.{In-append_left, In-append_right, In-append_cases, In-map, In-map_source}
+use Rattle.geo_core.proofs.FiniteSets.Searches.{list_any-In, All-from_In, list_any-source}
+use Rattle.geo_core.proofs.FiniteSets.Places.{slice_get-append_left, slice_get-push_new, slice_get-push_cases}
 use Rattle.geo_core.specs.declared.squares.Square.{Square}
 use Rattle.geo_core.specs.declared.squares.Rect.{Rect}
 use Rattle.geo_core.specs.Areas.{widened, IsNear, LiesWithin, common_rect}

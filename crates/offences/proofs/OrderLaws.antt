@@ -3,7 +3,7 @@ use Rattle.std.proofs.Common.{List, get_or}
 use Rattle.std.specs.List.Sorted.{IsSortedByKey}
 use Rattle.std.specs.Ordering.{nat_cmp}
 use Rattle.std.proofs.lemmas.Cmp.{nat_cmp_total}
-use Rattle.finite_sets.proofs.Orders.{IsSortedByKey-pairs, nat_cmp-not_less}
+use Rattle.geo_core.proofs.FiniteSets.Orders.{IsSortedByKey-pairs, nat_cmp-not_less}
 use Rattle.offences.specs.declared.set_tiles.SetTile.{SetTile}
 use Rattle.offences.specs.PartSets.{AreInPartOrder}
 

@@ -8,19 +8,19 @@ use Rattle.std.proofs.lemmas.Bool.{cases_Bool, cases_eq, both_ways}
 use Rattle.std.proofs.lemmas.Grind.{flat_map-append}
 use Rattle.std.proofs.lemmas.List.{take_more, append-nil, length-map}
 use Rattle.std.proofs.Math.ListN.{get_or-map}
-use Rattle.finite_sets.specs.Lists.{In, Lists}
-use Rattle.finite_sets.proofs.Members.{In-append_left, In-append_right, In-append_cases, In-get_or, In-index, In-map, In-map_source, In-filter}
-use Rattle.finite_sets.proofs.Members.{In-filter_source, In-filter_passes}
-use Rattle.finite_sets.proofs.Searches.{list_any-In, All-from_In, All-In, list_any-source}
-use Rattle.finite_sets.proofs.Images.{In-flat_map, In-flat_map_source}
+use Rattle.geo_core.specs.FiniteSets.Lists.{In, Lists}
+use Rattle.geo_core.proofs.FiniteSets.Members.{In-append_left, In-append_right, In-append_cases, In-get_or, In-index, In-map, In-map_source, In-filter}
+use Rattle.geo_core.proofs.FiniteSets.Members.{In-filter_source, In-filter_passes}
+use Rattle.geo_core.proofs.FiniteSets.Searches.{list_any-In, All-from_In, All-In, list_any-source}
+use Rattle.geo_core.proofs.FiniteSets.Images.{In-flat_map, In-flat_map_source}
 use Rattle.geo_core.specs.declared.squares.Square.{Square}
 use Rattle.geo_core.specs.declared.squares.Rect.{Rect}
 use Rattle.geo_core.specs.Covering.{Covers, is_covered}
 use Rattle.geo_core.specs.Strips.{IsInUnion}
 use Rattle.geo_core.proofs.CoveringLaws.{Covers-is_covered, is_covered-Covers}
-use Rattle.rect_contacts.specs.declared.contacts.Contact.{Contact}
-use Rattle.rect_contacts.specs.Contacts.{IsSharedEdge}
-use Rattle.rect_contacts.specs.Rects.{rect_at}
+use Rattle.rect_overlays.specs.RectContacts.declared.contacts.Contact.{Contact}
+use Rattle.rect_overlays.specs.RectContacts.Contacts.{IsSharedEdge}
+use Rattle.rect_overlays.specs.RectContacts.Rects.{rect_at}
 use Rattle.tech_model.specs.declared.raw.RawTech.{RawTech}
 use Rattle.tech_model.specs.Types.{joined}
 use Rattle.tech_model.specs.WellFormed.{IsWellFormed}

@@ -3,7 +3,7 @@ use Rattle.std.proofs.Common.{◌≡◌, ◌≢◌, ◌⊎◌, inl, inr, ℤ, po
 use Rattle.std.specs.Prelude.{AllPairs}
 use Rattle.std.proofs.lemmas.Bool.{cases_lt}
 use Rattle.std.proofs.lemmas.Int.{ints}
-use Rattle.finite_sets.specs.Lists.{In, Lists}
+use Rattle.geo_core.specs.FiniteSets.Lists.{In, Lists}
 use Rattle.geo_core.specs.declared.squares.Square.{Square}
 use Rattle.geo_core.specs.declared.squares.Rect.{Rect}
 use Rattle.geo_core.specs.Areas.{AreDisjoint, common_rect}
@@ -11,10 +11,10 @@ use Rattle.geo_core.specs.Covering.{Covers}
 use Rattle.geo_core.specs.Neighbours.{AreEdgeNeighbours}
 use Rattle.geo_core.proofs.CoveringLaws.{covers_first, covers_second, covers_both}
 use Rattle.geo_core.proofs.NeighbourLaws.{AreEdgeNeighbours-sym}
-use Rattle.rect_contacts.specs.declared.contacts.Contact.{Contact}
-use Rattle.rect_contacts.specs.Contacts.{shared_length, IsSharedEdge}
-use Rattle.rect_contacts.specs.Rects.{rect_at, no_rect}
-use Rattle.rect_contacts.proofs.Abutting.{neighbours_share}
+use Rattle.rect_overlays.specs.RectContacts.declared.contacts.Contact.{Contact}
+use Rattle.rect_overlays.specs.RectContacts.Contacts.{shared_length, IsSharedEdge}
+use Rattle.rect_overlays.specs.RectContacts.Rects.{rect_at, no_rect}
+use Rattle.rect_overlays.proofs.RectContacts.Abutting.{neighbours_share}
 use Rattle.offences.specs.steps.Pieces.{moved_rect, sides_of}
 
 -- the square, moved

@@ -5,10 +5,10 @@ use Rattle.std.specs.Prelude.{All, AllPairs, None, Some}
 use Rattle.std.specs.Option.{option_map}
 use Rattle.std.proofs.lemmas.List.{length-map, map-append}
 use Rattle.std.proofs.lemmas.Option.{slice_get-map, slice_get_within, slice_get-get_or}
-use Rattle.finite_sets.specs.Lists.{In}
-use Rattle.finite_sets.proofs.Members.{In-get_or, In-index, In-push_cases, In-append_left, In-push}
-use Rattle.finite_sets.proofs.Searches.{All-from_In}
-use Rattle.finite_sets.proofs.Pairs.{Pairwise-from_AllPairs, AllPairs-from_Pairwise, Pairwise-map}
+use Rattle.geo_core.specs.FiniteSets.Lists.{In}
+use Rattle.geo_core.proofs.FiniteSets.Members.{In-get_or, In-index, In-push_cases, In-append_left, In-push}
+use Rattle.geo_core.proofs.FiniteSets.Searches.{All-from_In}
+use Rattle.geo_core.proofs.FiniteSets.Pairs.{Pairwise-from_AllPairs, AllPairs-from_Pairwise, Pairwise-map}
 use Rattle.geo_core.specs.declared.squares.Square.{Square}
 use Rattle.geo_core.specs.declared.squares.Rect.{Rect}
 use Rattle.geo_core.specs.Areas.{AreDisjoint, corner_of}

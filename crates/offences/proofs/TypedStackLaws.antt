@@ -4,10 +4,10 @@ use Rattle.std.specs.Prelude.{AllPairs, Some, None, Option}
 use Rattle.std.specs.Int.{bit_at}
 use Rattle.std.specs.Option.{option_map}
 use Rattle.std.proofs.lemmas.Int.{ints}
-use Rattle.finite_sets.specs.Lists.{In}
-use Rattle.finite_sets.proofs.Members.{In-map, In-map_source}
-use Rattle.finite_sets.proofs.Pairs.{Pairwise-from_AllPairs, AllPairs-from_Pairwise, Pairwise-map}
-use Rattle.finite_sets.proofs.Searches.{All-In}
+use Rattle.geo_core.specs.FiniteSets.Lists.{In}
+use Rattle.geo_core.proofs.FiniteSets.Members.{In-map, In-map_source}
+use Rattle.geo_core.proofs.FiniteSets.Pairs.{Pairwise-from_AllPairs, AllPairs-from_Pairwise, Pairwise-map}
+use Rattle.geo_core.proofs.FiniteSets.Searches.{All-In}
 use Rattle.geo_core.specs.declared.squares.Square.{Square}
 use Rattle.geo_core.specs.declared.squares.Rect.{Rect}
 use Rattle.geo_core.specs.Areas.{IsNear, AreDisjoint, corner_of}

@@ -1,5 +1,5 @@
 -- what crates above name of those below
-pub use Rattle.finite_sets.specs as FiniteSets
+pub use Rattle.geo_core.specs.FiniteSets as FiniteSets
 pub use Rattle.geo_core.specs as GeoCore
 pub use Rattle.layout_model.specs as LayoutModel
 pub use Rattle.tech_model.specs as TechModel

@@ -1,7 +1,7 @@
 -- The sets that parts have where the same tiles cover each square.
 use Rattle.std.specs.Prelude.{◌≡◌, ◌≢◌, ◌<◌, ◌≤◌, ◌==◌, ℕ, bit_or, if◌then◌else◌, List, [], ◌∷◌, slice_index_or, AllPairs}
-use Rattle.finite_sets.specs.Lists.{In}
-use Rattle.rect_contacts.specs.Rects.{no_rect}
+use Rattle.geo_core.specs.FiniteSets.Lists.{In}
+use Rattle.rect_overlays.specs.RectContacts.Rects.{no_rect}
 use Rattle.offences.specs.declared.set_tiles.SetTile.{SetTile}
 use Rattle.offences.specs.declared.part_sets.PartSum.{PartSum}
 

@@ -1,6 +1,6 @@
 -- The pieces of all planes of a layout, on whose squares each part has one type.
 use Rattle.std.specs.Prelude.{◌≡◌, ℕ, List, Some, AllPairs, slice_get}
-use Rattle.finite_sets.specs.Lists.{In}
+use Rattle.geo_core.specs.FiniteSets.Lists.{In}
 use Rattle.geo_core.specs.Areas.{AreDisjoint}
 use Rattle.geo_core.specs.Covering.{Covers}
 use Rattle.tech_model.specs.declared.raw.RawTech.{RawTech}

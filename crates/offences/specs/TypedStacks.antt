@@ -3,12 +3,12 @@ use Rattle.std.specs.Prelude.{◌≡◌, ◌≢◌, ◌<◌, ◌==◌, ℕ, Bool
 use Rattle.std.specs.Prelude.{slice_index_or}
 use Rattle.std.specs.Prelude.{Option, Some, None, unwrap_or, AllPairs}
 use Rattle.std.specs.Option.{option_map}
-use Rattle.finite_sets.specs.Lists.{In}
+use Rattle.geo_core.specs.FiniteSets.Lists.{In}
 use Rattle.geo_core.specs.declared.squares.Square.{Square}
 use Rattle.geo_core.specs.declared.squares.Rect.{Rect}
 use Rattle.geo_core.specs.Areas.{IsNear, AreDisjoint}
 use Rattle.geo_core.specs.Covering.{Covers, IsProper}
-use Rattle.rect_contacts.specs.Rects.{no_rect}
+use Rattle.rect_overlays.specs.RectContacts.Rects.{no_rect}
 use Rattle.rect_overlays.specs.declared.stacks.Stack.{Stack}
 use Rattle.tech_model.specs.declared.raw.TypeId.{TypeId}
 use Rattle.tech_model.specs.declared.raw.RawTech.{RawTech}

@@ -7,7 +7,7 @@ ghost use Rattle.offences.specs.TypedStacks.{AreByPart, kind_in};
 use crate::roles::role_of;
 use crate::stacks::{PartKind, TypedStack};
 use geo_core::Rect;
-use rect_contacts::Contact;
+use rect_overlays::rect_contacts::Contact;
 use std::alloc::{AllocError, Global};
 use tech_model::{RawTech, TypeId};
 

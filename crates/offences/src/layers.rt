@@ -12,7 +12,7 @@ ghost use Rattle.offences.specs.SetTiles.{set_layout};
 use crate::pieces::bad_pieces;
 use crate::set_tiles::SetTile;
 use geo_core::Rect;
-use geo_strips::strips;
+use rect_overlays::geo_strips::strips;
 use std::alloc::{AllocError, Global};
 use tech_model::{Layers, RawTech, Tech, TypeId};
 

@@ -14,8 +14,8 @@ use crate::set_tiles::{SetTile, by_part};
 use crate::spoiled::spoiled_areas;
 use crate::stacks::{TypedStack, typed_stacks};
 use geo_core::Rect;
-use geo_strips::strips;
-use rect_contacts::touching;
+use rect_overlays::geo_strips::strips;
+use rect_overlays::rect_contacts::touching;
 use std::alloc::{AllocError, Global};
 use tech_model::{RawTech, Tech};
 

@@ -7,7 +7,7 @@ ghost use Rattle.offences.specs.SetTiles.{AreTilesOfParts, tile_parts};
 
 use crate::pieces::bad_pieces;
 use geo_core::Rect;
-use geo_strips::strips;
+use rect_overlays::geo_strips::strips;
 use std::alloc::{AllocError, Global};
 use tech_model::{PartSet, Tech};
 

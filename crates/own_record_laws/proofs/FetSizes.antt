@@ -2,13 +2,13 @@
 use Rattle.std.proofs.Common.{◌≡◌, ◌⊎◌, ◌^◌, ℤ, pos, ◌+ℤ◌, ◌*ℤ◌, ◌≤ℤ◌, true, List, [], ◌∷◌, map, IsTrue, inl, inr, refl, sym, ◌∙◌, ap}
 use Rattle.std.proofs.Common.{subst, arith}
 use Rattle.std.proofs.lemmas.Int.{ints}
-use Rattle.finite_sets.specs.Lists.{In, Distinct}
-use Rattle.finite_sets.specs.Total.{sum_on, Total}
-use Rattle.finite_sets.proofs.Listings.{length-lists}
-use Rattle.finite_sets.proofs.Sums.{sum_on-count, sum_on-scale}
-use Rattle.finite_sets.proofs.Totals.{Total-none, Total-iff, Total-union, Total-from_list}
-use Rattle.tech_model.specs.declared.raw.RawTech.{RawTech}
-use Rattle.tech_model.specs.ChannelRoles.{is_terminal}
+use Rattle.full_names.specs.FiniteSets.Lists.{In, Distinct}
+use Rattle.full_names.specs.FiniteSets.Total.{sum_on, Total}
+use Rattle.full_names.proofs.FiniteSets.Listings.{length-lists}
+use Rattle.full_names.proofs.FiniteSets.Sums.{sum_on-count, sum_on-scale}
+use Rattle.full_names.proofs.FiniteSets.Totals.{Total-none, Total-iff, Total-union, Total-from_list}
+use Rattle.tree_records.specs.TechModel.declared.raw.RawTech.{RawTech}
+use Rattle.tree_records.specs.TechModel.ChannelRoles.{is_terminal}
 use Rattle.tree_records.specs.LayoutModel.EdgeCounts.{LeadsAcross, IsEdgeCount}
 use Rattle.tree_records.specs.LayoutModel.Layouts.{Layout}
 use Rattle.tree_records.specs.LayoutModel.Measures.{perimeter_at}

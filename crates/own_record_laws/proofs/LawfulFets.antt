@@ -6,24 +6,24 @@ use Rattle.std.specs.Int.{w32}
 use Rattle.std.specs.Int.RustNames.{FitsSigned, unsigned_abs}
 use Rattle.std.proofs.lemmas.Int.{ints}
 use Rattle.std.proofs.lemmas.List.Sums.{sum_by-cons}
-use Rattle.finite_sets.specs.Lists.{In}
-use Rattle.finite_sets.specs.Total.{sum_on}
-use Rattle.finite_sets.proofs.Chains.{Chain-carries}
-use Rattle.finite_sets.proofs.Members.{In-map_source}
-use Rattle.finite_sets.proofs.Searches.{All-from_In, All-In}
-use Rattle.geo_core.specs.Covering.{Covers}
-use Rattle.tech_model.specs.declared.raw.Label.{Label}
-use Rattle.tech_model.specs.declared.raw.RawTech.{RawTech}
-use Rattle.tech_model.specs.WellFormed.{IsWellFormed, IsFet}
-use Rattle.tech_model.proofs.WellFormedLaws.{type_bounds}
-use Rattle.ext_model.specs.declared.limits.TheConstants.{MEASURE_EDGE, LENGTHS_EDGE}
-use Rattle.ext_model.specs.declared.records.TermRec.{TermRec}
-use Rattle.ext_model.specs.declared.records.FetRec.{FetRec}
-use Rattle.ext_model.specs.declared.records.CellExt.{CellExt}
-use Rattle.ext_model.specs.NodeNames.{is_word}
-use Rattle.ext_model.specs.Lawful.{IsMeasure, IsLawfulTerm, IsLawfulFet}
-use Rattle.ext_model.specs.RecordNames.{node_names}
-use Rattle.tech_model.specs.ChannelRoles.{is_terminal}
+use Rattle.full_names.specs.FiniteSets.Lists.{In}
+use Rattle.full_names.specs.FiniteSets.Total.{sum_on}
+use Rattle.full_names.proofs.FiniteSets.Chains.{Chain-carries}
+use Rattle.full_names.proofs.FiniteSets.Members.{In-map_source}
+use Rattle.full_names.proofs.FiniteSets.Searches.{All-from_In, All-In}
+use Rattle.full_names.specs.GeoCore.Covering.{Covers}
+use Rattle.tree_records.specs.TechModel.declared.raw.Label.{Label}
+use Rattle.tree_records.specs.TechModel.declared.raw.RawTech.{RawTech}
+use Rattle.tree_records.specs.TechModel.WellFormed.{IsWellFormed, IsFet}
+use Rattle.tree_records.proofs.TechModel.WellFormedLaws.{type_bounds}
+use Rattle.full_names.specs.ExtModel.declared.limits.TheConstants.{MEASURE_EDGE, LENGTHS_EDGE}
+use Rattle.full_names.specs.ExtModel.declared.records.TermRec.{TermRec}
+use Rattle.full_names.specs.ExtModel.declared.records.FetRec.{FetRec}
+use Rattle.full_names.specs.ExtModel.declared.records.CellExt.{CellExt}
+use Rattle.full_names.specs.ExtModel.NodeNames.{is_word}
+use Rattle.full_names.specs.ExtModel.Lawful.{IsMeasure, IsLawfulTerm, IsLawfulFet}
+use Rattle.full_names.specs.ExtModel.RecordNames.{node_names}
+use Rattle.tree_records.specs.TechModel.ChannelRoles.{is_terminal}
 use Rattle.tree_records.specs.LayoutModel.LayerTypes.{HasTypesOf}
 use Rattle.tree_records.specs.LayoutModel.Layouts.{Layout, IsMaterial}
 use Rattle.tree_records.specs.LayoutModel.Places.{Place}

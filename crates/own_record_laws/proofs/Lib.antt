@@ -1,4 +1,7 @@
 -- what crates above name of those below
+pub use Rattle.tree_records.proofs.RectContacts as RectContacts
+pub use Rattle.tree_records.proofs.LayoutModel as LayoutModel
+pub use Rattle.tree_records.proofs as TreeRecords
 pub use Rattle.tree_records.proofs.CellNodes as CellNodes
 pub use Rattle.tree_records.proofs.FloodNodes as FloodNodes
 pub use Rattle.tree_records.proofs.Measures as Measures

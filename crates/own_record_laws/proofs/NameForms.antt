@@ -8,24 +8,24 @@ use Rattle.std.specs.Str.{all_ascii_digits}
 use Rattle.std.proofs.lemmas.Bool.{and_parts, and_from, le-leb, leb-true, eq-eqb}
 use Rattle.std.proofs.lemmas.Bool.Decides.{nat_tests}
 use Rattle.std.proofs.lemmas.List.Sums.{sum_by-cons}
-use Rattle.finite_sets.specs.Lists.{In}
-use Rattle.finite_sets.proofs.Members.{In-append_cases, In-get_or}
-use Rattle.finite_sets.proofs.Searches.{list_all-In, All-In}
-use Rattle.text_scan.specs.Decimal.{natural_text, decimal}
-use Rattle.text_scan.specs.PlainNames.{is_plain_byte, is_plain_name}
-use Rattle.text_scan.specs.declared.plain_name.TheConstants.{LONGEST_NAME}
-use Rattle.text_scan.proofs.DecimalLemmas.{all_ascii_digits-natural_text}
-use Rattle.text_scan.proofs.NumberLemmas.{digit_is}
-use Rattle.geo_core.specs.declared.squares.Square.{Square}
-use Rattle.tech_model.specs.declared.limits.TheConstants.{LONGEST_LABEL}
-use Rattle.tech_model.specs.declared.raw.Label.{Label}
-use Rattle.tech_model.specs.declared.raw.RawTech.{RawTech}
-use Rattle.tech_model.specs.Forms.{is_label_byte, is_layer_name, is_naming_label}
-use Rattle.tech_model.specs.Types.{is_type, layer_at, layer_of, first_name}
-use Rattle.tech_model.specs.WellFormed.{IsWellFormed}
-use Rattle.tech_model.proofs.WellFormedLaws.{layer_well_formed}
-use Rattle.ext_model.specs.declared.names.TheConstants.{SLASH}
-use Rattle.ext_model.specs.NodeNames.{is_word_byte, is_word, slashes_in, is_node_name}
+use Rattle.full_names.specs.FiniteSets.Lists.{In}
+use Rattle.full_names.proofs.FiniteSets.Members.{In-append_cases, In-get_or}
+use Rattle.full_names.proofs.FiniteSets.Searches.{list_all-In, All-In}
+use Rattle.full_names.specs.TextScan.Decimal.{natural_text, decimal}
+use Rattle.full_names.specs.TextScan.PlainNames.{is_plain_byte, is_plain_name}
+use Rattle.full_names.specs.TextScan.declared.plain_name.TheConstants.{LONGEST_NAME}
+use Rattle.full_names.proofs.TextScan.DecimalLemmas.{all_ascii_digits-natural_text}
+use Rattle.full_names.proofs.TextScan.NumberLemmas.{digit_is}
+use Rattle.full_names.specs.GeoCore.declared.squares.Square.{Square}
+use Rattle.tree_records.specs.TechModel.declared.limits.TheConstants.{LONGEST_LABEL}
+use Rattle.tree_records.specs.TechModel.declared.raw.Label.{Label}
+use Rattle.tree_records.specs.TechModel.declared.raw.RawTech.{RawTech}
+use Rattle.tree_records.specs.TechModel.Forms.{is_label_byte, is_layer_name, is_naming_label}
+use Rattle.tree_records.specs.TechModel.Types.{is_type, layer_at, layer_of, first_name}
+use Rattle.tree_records.specs.TechModel.WellFormed.{IsWellFormed}
+use Rattle.tree_records.proofs.TechModel.WellFormedLaws.{layer_well_formed}
+use Rattle.full_names.specs.ExtModel.declared.names.TheConstants.{SLASH}
+use Rattle.full_names.specs.ExtModel.NodeNames.{is_word_byte, is_word, slashes_in, is_node_name}
 use Rattle.tree_records.specs.LayoutModel.Layouts.{Layout}
 use Rattle.tree_records.specs.LayoutModel.Places.{Place}
 use Rattle.tree_records.specs.Names.Attachments.{HasText, label_at}

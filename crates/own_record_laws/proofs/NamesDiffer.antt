@@ -1,14 +1,14 @@
 -- No name is in two records of nodes.
 use Rattle.std.proofs.Common.{◌≡◌, ℕ, List, get_or, subst, arith, pos}
 use Rattle.std.specs.List.{flat_map}
-use Rattle.finite_sets.specs.Lists.{In, Distinct}
-use Rattle.finite_sets.proofs.Pairs.{Pairwise, Pairwise-from_AllPairs}
-use Rattle.finite_sets.proofs.Images.{Distinct-flat_map}
-use Rattle.tech_model.specs.declared.raw.Label.{Label}
-use Rattle.tech_model.specs.declared.raw.RawTech.{RawTech}
-use Rattle.tech_model.specs.WellFormed.{IsWellFormed}
-use Rattle.ext_model.specs.declared.records.NodeRec.{NodeRec}
-use Rattle.ext_model.specs.RecordNames.{names_of}
+use Rattle.full_names.specs.FiniteSets.Lists.{In, Distinct}
+use Rattle.full_names.proofs.FiniteSets.Pairs.{Pairwise, Pairwise-from_AllPairs}
+use Rattle.full_names.proofs.FiniteSets.Images.{Distinct-flat_map}
+use Rattle.tree_records.specs.TechModel.declared.raw.Label.{Label}
+use Rattle.tree_records.specs.TechModel.declared.raw.RawTech.{RawTech}
+use Rattle.tree_records.specs.TechModel.WellFormed.{IsWellFormed}
+use Rattle.full_names.specs.ExtModel.declared.records.NodeRec.{NodeRec}
+use Rattle.full_names.specs.ExtModel.RecordNames.{names_of}
 use Rattle.tree_records.specs.LayoutModel.LayerTypes.{HasTypesOf}
 use Rattle.tree_records.specs.LayoutModel.Layouts.{Layout}
 use Rattle.tree_records.specs.LayoutModel.Places.{Place, IsBefore}

@@ -2,9 +2,9 @@
 use Rattle.std.proofs.Common.{◌≡◌, ◌⊎◌, ℕ, Bool, true, false, cond, List, [], ◌∷◌, length, inl, inr, refl, sym, ap, subst, eq-eqb}
 use Rattle.std.specs.Prelude.{Option, Some, None}
 use Rattle.std.specs.Option.{option_or}
-use Rattle.ext_model.specs.declared.records.NodeRec.{NodeRec}
-use Rattle.ext_model.specs.declared.records.FetRec.{FetRec}
-use Rattle.ext_model.specs.declared.records.CellExt.{CellExt}
+use Rattle.full_names.specs.ExtModel.declared.records.NodeRec.{NodeRec}
+use Rattle.full_names.specs.ExtModel.declared.records.FetRec.{FetRec}
+use Rattle.full_names.specs.ExtModel.declared.records.CellExt.{CellExt}
 use Rattle.full_names.specs.CircuitModel.declared.faults.FlatFault.{FlatFault}
 use Rattle.full_names.specs.CircuitModel.declared.faults.FlatFault.TheVariants.{TooMany, Classes}
 use Rattle.full_names.specs.CircuitModel.declared.limits.CircuitLimit.TheVariants.{Nodes, Names}

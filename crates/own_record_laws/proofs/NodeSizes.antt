@@ -5,14 +5,14 @@ use Rattle.std.specs.Int.{w32}
 use Rattle.std.specs.Int.RustNames.{FitsSigned}
 use Rattle.std.proofs.lemmas.Int.{ints}
 use Rattle.std.proofs.lemmas.List.{length-map}
-use Rattle.finite_sets.specs.Lists.{In}
-use Rattle.finite_sets.proofs.Searches.{All-from_In}
-use Rattle.geo_core.specs.Covering.{Covers}
-use Rattle.tech_model.specs.declared.raw.ClassRec.{ClassRec}
-use Rattle.tech_model.specs.declared.raw.RawTech.{RawTech}
-use Rattle.tech_model.specs.WellFormed.{IsWellFormed, IsClass}
-use Rattle.ext_model.specs.declared.limits.TheConstants.{MEASURE_EDGE}
-use Rattle.ext_model.specs.Lawful.{IsMeasure, AreMeasures}
+use Rattle.full_names.specs.FiniteSets.Lists.{In}
+use Rattle.full_names.proofs.FiniteSets.Searches.{All-from_In}
+use Rattle.full_names.specs.GeoCore.Covering.{Covers}
+use Rattle.tree_records.specs.TechModel.declared.raw.ClassRec.{ClassRec}
+use Rattle.tree_records.specs.TechModel.declared.raw.RawTech.{RawTech}
+use Rattle.tree_records.specs.TechModel.WellFormed.{IsWellFormed, IsClass}
+use Rattle.full_names.specs.ExtModel.declared.limits.TheConstants.{MEASURE_EDGE}
+use Rattle.full_names.specs.ExtModel.Lawful.{IsMeasure, AreMeasures}
 use Rattle.tree_records.specs.LayoutModel.LayerTypes.{HasTypesOf}
 use Rattle.tree_records.specs.LayoutModel.Layouts.{Layout, IsMaterial}
 use Rattle.tree_records.specs.LayoutModel.Nodes as layout_nodes

@@ -5,22 +5,22 @@ use Rattle.std.specs.Char.{is_ascii_digit}
 use Rattle.std.specs.Str.{all_ascii_digits}
 use Rattle.std.proofs.lemmas.Bool.{and_parts, cases_eq, cases_lt, false≢true}
 use Rattle.std.proofs.lemmas.List.{append_cancel_right}
-use Rattle.finite_sets.specs.Lists.{In}
-use Rattle.finite_sets.proofs.Chains.{Chain-one, Chain-same, Chain-append}
-use Rattle.finite_sets.proofs.Leasts.{IsLeast-unique}
-use Rattle.finite_sets.proofs.Members.{In-append_right, In-append_cases, In-get_or}
-use Rattle.text_scan.specs.Decimal.{natural_text, decimal}
-use Rattle.text_scan.proofs.DecimalLemmas.{all_ascii_digits-natural_text, decimal-injective}
-use Rattle.text_scan.proofs.NumberLemmas.{digit_is}
-use Rattle.geo_core.specs.declared.squares.Square.{Square}
-use Rattle.geo_core.proofs.SquareLaws.{square_is}
-use Rattle.tech_model.specs.declared.raw.Label.{Label}
-use Rattle.tech_model.specs.declared.raw.RawTech.{RawTech}
-use Rattle.tech_model.specs.Types.{layer_at, layer_of, first_name, no_layer}
-use Rattle.tech_model.specs.WellFormed.{IsWellFormed}
-use Rattle.tech_model.proofs.TypeLaws.{connects_layer}
-use Rattle.tech_model.proofs.WellFormedLaws.{layer_well_formed}
-use Rattle.ext_model.specs.NodeNames.{ends_in, is_naming_text, is_node_name, is_global}
+use Rattle.full_names.specs.FiniteSets.Lists.{In}
+use Rattle.full_names.proofs.FiniteSets.Chains.{Chain-one, Chain-same, Chain-append}
+use Rattle.full_names.proofs.FiniteSets.Leasts.{IsLeast-unique}
+use Rattle.full_names.proofs.FiniteSets.Members.{In-append_right, In-append_cases, In-get_or}
+use Rattle.full_names.specs.TextScan.Decimal.{natural_text, decimal}
+use Rattle.full_names.proofs.TextScan.DecimalLemmas.{all_ascii_digits-natural_text, decimal-injective}
+use Rattle.full_names.proofs.TextScan.NumberLemmas.{digit_is}
+use Rattle.full_names.specs.GeoCore.declared.squares.Square.{Square}
+use Rattle.full_names.proofs.GeoCore.SquareLaws.{square_is}
+use Rattle.tree_records.specs.TechModel.declared.raw.Label.{Label}
+use Rattle.tree_records.specs.TechModel.declared.raw.RawTech.{RawTech}
+use Rattle.tree_records.specs.TechModel.Types.{layer_at, layer_of, first_name, no_layer}
+use Rattle.tree_records.specs.TechModel.WellFormed.{IsWellFormed}
+use Rattle.tree_records.proofs.TechModel.TypeLaws.{connects_layer}
+use Rattle.tree_records.proofs.TechModel.WellFormedLaws.{layer_well_formed}
+use Rattle.full_names.specs.ExtModel.NodeNames.{ends_in, is_naming_text, is_node_name, is_global}
 use Rattle.tree_records.specs.LayoutModel.Places.{Place, IsNoLater}
 use Rattle.tree_records.specs.LayoutModel.LayerTypes.{HasTypesOf}
 use Rattle.tree_records.specs.LayoutModel.Layouts.{Layout, IsMaterial}

@@ -3,9 +3,9 @@ use Rattle.std.proofs.Common.{◌≡◌, ℕ, List, [], ◌∷◌, inl, inr, ap}
 use Rattle.std.specs.Prelude.{Some}
 use Rattle.std.specs.List.{flat_map}
 use Rattle.std.specs.Str.{bytes_eq}
-use Rattle.finite_sets.proofs.Searches.{find-In}
-use Rattle.ext_model.specs.declared.records.UseRec.{UseRec}
-use Rattle.ext_model.specs.declared.records.CellExt.{CellExt}
+use Rattle.full_names.proofs.FiniteSets.Searches.{find-In}
+use Rattle.full_names.specs.ExtModel.declared.records.UseRec.{UseRec}
+use Rattle.full_names.specs.ExtModel.declared.records.CellExt.{CellExt}
 use Rattle.full_names.specs.CircuitModel.Elements.{Element, ext_of, of_option, elements_below, elements_of}
 
 -- the root of a tree with this record

@@ -5,22 +5,22 @@ use Rattle.std.specs.Int.{w32}
 use Rattle.std.specs.Int.RustNames.{FitsSigned}
 use Rattle.std.proofs.lemmas.Int.{ints}
 use Rattle.std.proofs.lemmas.List.{length-map}
-use Rattle.finite_sets.specs.Lists.{In, Distinct}
-use Rattle.finite_sets.proofs.Members.{In-get_or, In-index}
-use Rattle.finite_sets.proofs.Searches.{All-from_In, All-In}
-use Rattle.finite_sets.proofs.Images.{In-flat_map}
-use Rattle.geo_core.specs.Covering.{Covers}
-use Rattle.tech_model.specs.declared.raw.ClassRec.{ClassRec}
-use Rattle.tech_model.specs.declared.raw.Label.{Label}
-use Rattle.tech_model.specs.declared.raw.RawTech.{RawTech}
-use Rattle.tech_model.specs.WellFormed.{IsWellFormed, IsClass}
-use Rattle.ext_model.specs.declared.records.UseRec.{UseRec}
-use Rattle.ext_model.specs.declared.records.NodeRec.{NodeRec}
-use Rattle.ext_model.specs.declared.records.FetRec.{FetRec}
-use Rattle.ext_model.specs.declared.records.CellExt.{CellExt}
-use Rattle.ext_model.specs.NodeNames.{is_word, is_node_name}
-use Rattle.ext_model.specs.Lawful.{IsLawfulUse, IsLawfulNode, IsLawfulFet, IsLawfulMerge, IsLawful}
-use Rattle.ext_model.specs.RecordNames.{names_of, node_names}
+use Rattle.full_names.specs.FiniteSets.Lists.{In, Distinct}
+use Rattle.full_names.proofs.FiniteSets.Members.{In-get_or, In-index}
+use Rattle.full_names.proofs.FiniteSets.Searches.{All-from_In, All-In}
+use Rattle.full_names.proofs.FiniteSets.Images.{In-flat_map}
+use Rattle.full_names.specs.GeoCore.Covering.{Covers}
+use Rattle.tree_records.specs.TechModel.declared.raw.ClassRec.{ClassRec}
+use Rattle.tree_records.specs.TechModel.declared.raw.Label.{Label}
+use Rattle.tree_records.specs.TechModel.declared.raw.RawTech.{RawTech}
+use Rattle.tree_records.specs.TechModel.WellFormed.{IsWellFormed, IsClass}
+use Rattle.full_names.specs.ExtModel.declared.records.UseRec.{UseRec}
+use Rattle.full_names.specs.ExtModel.declared.records.NodeRec.{NodeRec}
+use Rattle.full_names.specs.ExtModel.declared.records.FetRec.{FetRec}
+use Rattle.full_names.specs.ExtModel.declared.records.CellExt.{CellExt}
+use Rattle.full_names.specs.ExtModel.NodeNames.{is_word, is_node_name}
+use Rattle.full_names.specs.ExtModel.Lawful.{IsLawfulUse, IsLawfulNode, IsLawfulFet, IsLawfulMerge, IsLawful}
+use Rattle.full_names.specs.ExtModel.RecordNames.{names_of, node_names}
 use Rattle.tree_records.specs.LayoutModel.LayerTypes.{HasTypesOf}
 use Rattle.tree_records.specs.LayoutModel.Layouts.{Layout, IsMaterial}
 use Rattle.tree_records.specs.LayoutModel.Places.{Place}

@@ -1,19 +1,19 @@
 -- A place's node goes by the preferred name of the record that has the place.
 use Rattle.std.proofs.Common.{◌≡◌, ◌<◌, ℕ, List, [], get_or, inl, inr, refl, sym, subst, pos}
 use Rattle.std.specs.declared.cmp.Ordering.TheVariants.{Less}
-use Rattle.finite_sets.specs.Chain.Chain.{stay}
-use Rattle.finite_sets.specs.Least.{IsLeast}
-use Rattle.finite_sets.specs.Lists.{In}
-use Rattle.finite_sets.proofs.Chains.{Chain-append}
-use Rattle.finite_sets.proofs.Leasts.{IsLeast-unique, IsLeast-iff}
-use Rattle.finite_sets.proofs.Members.{In-get_or, In-index}
-use Rattle.finite_sets.proofs.Pairs.{Pairwise-from_AllPairs}
-use Rattle.tech_model.specs.declared.raw.Label.{Label}
-use Rattle.tech_model.specs.declared.raw.RawTech.{RawTech}
-use Rattle.ext_model.specs.declared.records.NodeRec.{NodeRec}
-use Rattle.ext_model.specs.NameOrder.{name_cmp}
-use Rattle.ext_model.specs.RecordNames.{names_of}
-use Rattle.ext_model.proofs.NameOrders.{name_cmp_total}
+use Rattle.full_names.specs.FiniteSets.Chain.Chain.{stay}
+use Rattle.full_names.specs.FiniteSets.Least.{IsLeast}
+use Rattle.full_names.specs.FiniteSets.Lists.{In}
+use Rattle.full_names.proofs.FiniteSets.Chains.{Chain-append}
+use Rattle.full_names.proofs.FiniteSets.Leasts.{IsLeast-unique, IsLeast-iff}
+use Rattle.full_names.proofs.FiniteSets.Members.{In-get_or, In-index}
+use Rattle.full_names.proofs.FiniteSets.Pairs.{Pairwise-from_AllPairs}
+use Rattle.tree_records.specs.TechModel.declared.raw.Label.{Label}
+use Rattle.tree_records.specs.TechModel.declared.raw.RawTech.{RawTech}
+use Rattle.full_names.specs.ExtModel.declared.records.NodeRec.{NodeRec}
+use Rattle.full_names.specs.ExtModel.NameOrder.{name_cmp}
+use Rattle.full_names.specs.ExtModel.RecordNames.{names_of}
+use Rattle.full_names.proofs.ExtModel.NameOrders.{name_cmp_total}
 use Rattle.tree_records.specs.LayoutModel.Places.{Place, IsNoLater}
 use Rattle.tree_records.specs.LayoutModel.Layouts.{Layout, IsMaterial}
 use Rattle.tree_records.proofs.LayoutModel.PlaceLaws.{IsNoLater-antisym}

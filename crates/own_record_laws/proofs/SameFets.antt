@@ -2,17 +2,17 @@
 use Rattle.std.proofs.Common.{◌≡◌, ◌<◌, ℕ, zero, suc, ℤ, ◌-ℤ◌, List, [], ◌∷◌, map, length, get_or, inl, inr, refl, sym, ◌∙◌, ap, subst, arith}
 use Rattle.std.specs.Prelude.{AllPairs}
 use Rattle.std.proofs.lemmas.Simd.{map-map}
-use Rattle.finite_sets.specs.Lists.{In, Distinct}
-use Rattle.finite_sets.specs.Total.{sum_on}
-use Rattle.finite_sets.proofs.Members.{In-map, In-map_source}
-use Rattle.finite_sets.proofs.Pairs.{AllPairs-from_Pairwise}
-use Rattle.finite_sets.proofs.Searches.{All-from_In}
-use Rattle.finite_sets.proofs.Sums.{sum_on-same_things}
-use Rattle.finite_sets.proofs.Images.{Distinct-unmap}
-use Rattle.tech_model.specs.declared.raw.Label.{Label}
-use Rattle.tech_model.specs.declared.raw.RawTech.{RawTech}
-use Rattle.ext_model.specs.declared.records.TermRec.{TermRec}
-use Rattle.ext_model.specs.declared.records.FetRec.{FetRec}
+use Rattle.full_names.specs.FiniteSets.Lists.{In, Distinct}
+use Rattle.full_names.specs.FiniteSets.Total.{sum_on}
+use Rattle.full_names.proofs.FiniteSets.Members.{In-map, In-map_source}
+use Rattle.full_names.proofs.FiniteSets.Pairs.{AllPairs-from_Pairwise}
+use Rattle.full_names.proofs.FiniteSets.Searches.{All-from_In}
+use Rattle.full_names.proofs.FiniteSets.Sums.{sum_on-same_things}
+use Rattle.full_names.proofs.FiniteSets.Images.{Distinct-unmap}
+use Rattle.tree_records.specs.TechModel.declared.raw.Label.{Label}
+use Rattle.tree_records.specs.TechModel.declared.raw.RawTech.{RawTech}
+use Rattle.full_names.specs.ExtModel.declared.records.TermRec.{TermRec}
+use Rattle.full_names.specs.ExtModel.declared.records.FetRec.{FetRec}
 use Rattle.tree_records.specs.LayoutModel.Places.{Place}
 use Rattle.tree_records.specs.LayoutModel.Layouts.{Layout}
 use Rattle.tree_records.specs.LayoutModel.Transistors.{Transistor, IsTransistor, AreFetsInOrder, AreTransistors, AreOneChannel}

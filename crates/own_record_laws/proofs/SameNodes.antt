@@ -7,16 +7,16 @@ use Rattle.std.proofs.lemmas.Int.{ints}
 use Rattle.std.proofs.lemmas.List.{ext_get_or}
 use Rattle.std.proofs.lemmas.List.Elements.{All-contains}
 use Rattle.std.proofs.lemmas.Slice.Eq.{bytes_eq-Decides}
-use Rattle.finite_sets.specs.Lists.{In}
-use Rattle.finite_sets.specs.Total.{sum_on}
-use Rattle.finite_sets.proofs.Members.{Contains-from_In}
-use Rattle.finite_sets.proofs.Searches.{find-In, find-passes, In-from_list_any, list_any-of_In}
-use Rattle.geo_core.specs.declared.squares.Square.{Square}
-use Rattle.ext_model.specs.declared.records.NodeRec.{NodeRec}
-use Rattle.ext_model.specs.declared.records.MergeRec.{MergeRec}
-use Rattle.ext_model.specs.declared.records.CellExt.{CellExt}
-use Rattle.ext_model.specs.Lawful.{IsLawful, IsLawfulNode}
-use Rattle.ext_model.specs.RecordNames.{names_of}
+use Rattle.full_names.specs.FiniteSets.Lists.{In}
+use Rattle.full_names.specs.FiniteSets.Total.{sum_on}
+use Rattle.full_names.proofs.FiniteSets.Members.{Contains-from_In}
+use Rattle.full_names.proofs.FiniteSets.Searches.{find-In, find-passes, In-from_list_any, list_any-of_In}
+use Rattle.full_names.specs.GeoCore.declared.squares.Square.{Square}
+use Rattle.full_names.specs.ExtModel.declared.records.NodeRec.{NodeRec}
+use Rattle.full_names.specs.ExtModel.declared.records.MergeRec.{MergeRec}
+use Rattle.full_names.specs.ExtModel.declared.records.CellExt.{CellExt}
+use Rattle.full_names.specs.ExtModel.Lawful.{IsLawful, IsLawfulNode}
+use Rattle.full_names.specs.ExtModel.RecordNames.{names_of}
 use Rattle.full_names.specs.CircuitModel.Elements.{Element, placed}
 use Rattle.full_names.specs.CircuitModel.FullNames.{name_in, full_names, AreInNameOrder}
 use Rattle.full_names.specs.CircuitModel.FlatNodes.{is_among, has_name, gives_name, sum_of, measure_of, IsPlaced, IsFlatNode, AreFlatNodes}

@@ -4,16 +4,16 @@ use Rattle.std.specs.Prelude.{Option, Some, None, find}
 use Rattle.std.specs.Str.{bytes_eq}
 use Rattle.std.proofs.lemmas.Bool.{false≢true}
 use Rattle.std.proofs.lemmas.Slice.Eq.{bytes_eq-Decides}
-use Rattle.finite_sets.specs.Lists.{In, Distinct}
-use Rattle.finite_sets.proofs.Members.{In-map, In-map_source}
-use Rattle.finite_sets.proofs.Searches.{find-In, find-passes, find-none, In-from_list_any, list_any-of_In}
-use Rattle.finite_sets.proofs.Images.{Distinct-unmap, one_from_Distinct}
-use Rattle.ext_model.specs.declared.records.NodeRec.{NodeRec}
-use Rattle.ext_model.specs.declared.records.TermRec.{TermRec}
-use Rattle.ext_model.specs.declared.records.FetRec.{FetRec}
-use Rattle.ext_model.specs.declared.records.CellExt.{CellExt}
-use Rattle.ext_model.specs.Lawful.{IsLawful}
-use Rattle.ext_model.specs.RecordNames.{names_of}
+use Rattle.full_names.specs.FiniteSets.Lists.{In, Distinct}
+use Rattle.full_names.proofs.FiniteSets.Members.{In-map, In-map_source}
+use Rattle.full_names.proofs.FiniteSets.Searches.{find-In, find-passes, find-none, In-from_list_any, list_any-of_In}
+use Rattle.full_names.proofs.FiniteSets.Images.{Distinct-unmap, one_from_Distinct}
+use Rattle.full_names.specs.ExtModel.declared.records.NodeRec.{NodeRec}
+use Rattle.full_names.specs.ExtModel.declared.records.TermRec.{TermRec}
+use Rattle.full_names.specs.ExtModel.declared.records.FetRec.{FetRec}
+use Rattle.full_names.specs.ExtModel.declared.records.CellExt.{CellExt}
+use Rattle.full_names.specs.ExtModel.Lawful.{IsLawful}
+use Rattle.full_names.specs.ExtModel.RecordNames.{names_of}
 use Rattle.full_names.specs.CircuitModel.FullNames.{AreInNameOrder}
 use Rattle.full_names.specs.CircuitModel.FlatNodes.{has_name, AreFlatNodes}
 use Rattle.full_names.specs.CircuitModel.FlatFets.{node_name, side_name, IsFlatFet}

@@ -1,12 +1,12 @@
 -- What the record of a cell without uses is held to.
 use Rattle.std.specs.Prelude.{◌≡◌, ◌⊎◌, ℕ, List, [], ◌∷◌, All}
-use Rattle.tech_model.specs.declared.raw.Label.{Label}
-use Rattle.tech_model.specs.declared.raw.RawTech.{RawTech}
-use Rattle.tech_model.specs.Rules.{KeepsRules}
-use Rattle.tech_model.specs.WellFormed.{IsWellFormed}
-use Rattle.ext_model.specs.declared.circuits.Circuit.{Circuit}
-use Rattle.ext_model.specs.declared.records.CellExt.{CellExt}
-use Rattle.ext_model.specs.Lawful.{IsLawful}
+use Rattle.tree_records.specs.TechModel.declared.raw.Label.{Label}
+use Rattle.tree_records.specs.TechModel.declared.raw.RawTech.{RawTech}
+use Rattle.tree_records.specs.TechModel.Rules.{KeepsRules}
+use Rattle.tree_records.specs.TechModel.WellFormed.{IsWellFormed}
+use Rattle.full_names.specs.ExtModel.declared.circuits.Circuit.{Circuit}
+use Rattle.full_names.specs.ExtModel.declared.records.CellExt.{CellExt}
+use Rattle.full_names.specs.ExtModel.Lawful.{IsLawful}
 use Rattle.tree_records.specs.LayoutModel.LayerTypes.{HasTypesOf}
 use Rattle.tree_records.specs.LayoutModel.Layouts.{Layout}
 use Rattle.tree_records.specs.Names.Labels.{IsLabelOf}

@@ -18,6 +18,7 @@
 
 ghost use Rattle.own_record_laws.specs.Laws.{OwnRecordsAreLawful, OwnRecordsHaveNoOtherFault, OwnRecordsMeanTheLayout};
 
+pub use tree_records::cell_nodes;
 /// The record of a cell without uses is lawful, where its paint is sound and of the technology's types.
 pub fn own_records_are_lawful()
     ensures { OwnRecordsAreLawful }

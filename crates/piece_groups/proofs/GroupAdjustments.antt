@@ -8,10 +8,10 @@ use Rattle.geo_core.specs.declared.squares.Square.{Square}
 use Rattle.tech_model.specs.declared.raw.RawTech.{RawTech}
 use Rattle.tech_model.specs.Rules.{KeepsRules}
 use Rattle.tech_model.specs.WellFormed.{IsClass, IsWellFormed}
-use Rattle.layout_model.specs.Places.{Place}
-use Rattle.layout_model.specs.Technologies.{Class, class_of, rules_of}
+use Rattle.group_meetings.specs.LayoutModel.Places.{Place}
+use Rattle.group_meetings.specs.LayoutModel.Technologies.{Class, class_of, rules_of}
 use Rattle.group_meetings.proofs.Measures.MeasureLaws.{space_out}
-use Rattle.offences.specs.Offences.{SetLayout}
+use Rattle.meeting_sums.specs.Offences.Offences.{SetLayout}
 use Rattle.piece_groups.specs.TreeRecords.NamedTrees.{NamedTree}
 use Rattle.piece_groups.specs.TreeRecords.MemberGroups.{IsGroupName}
 use Rattle.piece_groups.specs.TreeRecords.Merges.{AreAdjustments}

@@ -8,7 +8,7 @@ use Rattle.std.proofs.lemmas.List.{append-nil, get_or_default, map-append}
 use Rattle.std.proofs.lemmas.List.Concat.{flat_map-append}
 use Rattle.std.proofs.lemmas.List.Elements.{filter-append}
 use Rattle.finite_sets.proofs.Searches.{range_one_more}
-use Rattle.layout_model.specs.Technologies.{Class}
+use Rattle.group_meetings.specs.LayoutModel.Technologies.{Class}
 use Rattle.ext_model.specs.declared.records.MergeRec.{MergeRec}
 use Rattle.ext_model.specs.declared.arrays.MergeRow.{MergeRow}
 use Rattle.merge_rows.specs.AddedMerges.{AddsToRows}

@@ -1,5 +1,6 @@
 -- what crates above name of those below
-pub use Rattle.full_names.proofs as FullNames
+pub use Rattle.meeting_sums.proofs as MeetingSums
+pub use Rattle.group_meetings.proofs.FullNames as FullNames
 pub use Rattle.meeting_sums.proofs.LowerMeetingLaws as MeetingLaws
 mod PlacesOfPieces
 mod MarkedGroups

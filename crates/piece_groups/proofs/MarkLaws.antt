@@ -12,13 +12,13 @@ use Rattle.finite_sets.proofs.Pairs.{Pairwise, Pairwise-map, Pairwise-filter, Pa
 use Rattle.finite_sets.proofs.Searches.{All-from_In}
 use Rattle.tech_model.proofs.WellFormedLaws.{In-range_with_len, range_bounds}
 use Rattle.tech_model.specs.declared.raw.RawTech.{RawTech}
-use Rattle.layout_model.specs.Technologies.{rules_of}
+use Rattle.group_meetings.specs.LayoutModel.Technologies.{rules_of}
 use Rattle.ext_model.specs.declared.records.MergeRec.{MergeRec}
 use Rattle.ext_model.specs.declared.arrays.MergeRow.{MergeRow}
 use Rattle.ext_model.specs.Rows.{AreRowsOf}
 use Rattle.merge_rows.proofs.AddedRows.{add_same, rows_made}
-use Rattle.circuit_model.specs.FullNames.{AreInNameOrder}
-use Rattle.full_names.proofs.ListOrders.{names_in_order}
+use Rattle.group_meetings.specs.CircuitModel.FullNames.{AreInNameOrder}
+use Rattle.group_meetings.proofs.FullNames.ListOrders.{names_in_order}
 use Rattle.meeting_sums.specs.TreeRecords.FetRecords.{IsNameBefore}
 use Rattle.meeting_sums.specs.TreeRecords.Merges.{MemberGroup, group_name, group_merges, zero_adjustment}
 use Rattle.meeting_sums.specs.declared.sums.MeetingSum.{MeetingSum}

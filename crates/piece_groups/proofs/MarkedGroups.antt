@@ -13,13 +13,13 @@ use Rattle.tech_model.specs.declared.raw.RawTech.{RawTech}
 use Rattle.tech_model.specs.Rules.{KeepsRules}
 use Rattle.tech_model.specs.Types.{connects}
 use Rattle.tech_model.specs.WellFormed.{IsWellFormed}
-use Rattle.layout_model.specs.declared.region_tiles.RegionTile.{RegionTile}
-use Rattle.layout_model.specs.Layouts.{IsMaterial}
-use Rattle.layout_model.specs.Links.{AreOneNode}
-use Rattle.layout_model.specs.Places.{Place}
-use Rattle.layout_model.specs.RegionTiles.{regions_of}
-use Rattle.offences.specs.declared.plane_stacks.PlaneStack.{PlaneStack}
-use Rattle.offences.specs.Offences.{SetLayout}
+use Rattle.group_meetings.specs.LayoutModel.declared.region_tiles.RegionTile.{RegionTile}
+use Rattle.group_meetings.specs.LayoutModel.Layouts.{IsMaterial}
+use Rattle.group_meetings.specs.LayoutModel.Links.{AreOneNode}
+use Rattle.group_meetings.specs.LayoutModel.Places.{Place}
+use Rattle.group_meetings.specs.LayoutModel.RegionTiles.{regions_of}
+use Rattle.meeting_sums.specs.Offences.declared.plane_stacks.PlaneStack.{PlaneStack}
+use Rattle.meeting_sums.specs.Offences.Offences.{SetLayout}
 use Rattle.group_meetings.specs.TreeRecords.NamedTrees.{NamedTree}
 use Rattle.group_meetings.specs.TreeRecords.MemberGroups.{AreOneGroup, IsMemberAt, IsMemberOf}
 use Rattle.group_meetings.proofs.TreeNames.GroupNames.{group_then, members_together}

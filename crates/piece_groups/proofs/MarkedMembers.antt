@@ -8,11 +8,11 @@ use Rattle.geo_core.specs.declared.squares.Square.{Square}
 use Rattle.tech_model.specs.declared.raw.RawTech.{RawTech}
 use Rattle.tech_model.specs.Rules.{KeepsRules}
 use Rattle.tech_model.specs.WellFormed.{IsWellFormed}
-use Rattle.layout_model.specs.declared.region_tiles.RegionTile.{RegionTile}
-use Rattle.layout_model.specs.Places.{Place}
-use Rattle.offences.specs.declared.plane_stacks.PlaneStack.{PlaneStack}
-use Rattle.offences.specs.Offences.{SetLayout}
-use Rattle.circuit_model.specs.FullNames.{AreInNameOrder}
+use Rattle.group_meetings.specs.LayoutModel.declared.region_tiles.RegionTile.{RegionTile}
+use Rattle.group_meetings.specs.LayoutModel.Places.{Place}
+use Rattle.meeting_sums.specs.Offences.declared.plane_stacks.PlaneStack.{PlaneStack}
+use Rattle.meeting_sums.specs.Offences.Offences.{SetLayout}
+use Rattle.group_meetings.specs.CircuitModel.FullNames.{AreInNameOrder}
 use Rattle.piece_groups.proofs.FullNames.ListOrders.{pairwise_names}
 use Rattle.group_meetings.specs.TreeRecords.FetRecords.{IsNoLaterName}
 use Rattle.piece_groups.specs.TreeRecords.NamedTrees.{NamedTree}

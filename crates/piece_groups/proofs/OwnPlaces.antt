@@ -6,15 +6,15 @@ use Rattle.finite_sets.proofs.Members.{In-map}
 use Rattle.finite_sets.proofs.Images.{In-flat_map}
 use Rattle.geo_core.specs.declared.squares.Rect.{Rect}
 use Rattle.geo_core.specs.Covering.{Covers}
-use Rattle.rect_contacts.specs.Squares.{squares_of}
-use Rattle.rect_contacts.proofs.BothWays.{Lists-below}
-use Rattle.rect_contacts.proofs.Leading.{Lists-squares_of}
+use Rattle.meeting_sums.specs.RectContacts.Squares.{squares_of}
+use Rattle.meeting_sums.proofs.RectContacts.BothWays.{Lists-below}
+use Rattle.meeting_sums.proofs.RectContacts.Leading.{Lists-squares_of}
 use Rattle.tech_model.specs.declared.raw.RawTech.{RawTech}
 use Rattle.tech_model.specs.WellFormed.{IsWellFormed}
-use Rattle.layout_model.specs.LayerTypes.{HasTypesOf}
-use Rattle.layout_model.specs.Layouts.{Layout, IsMaterial}
-use Rattle.layout_model.specs.Places.{Place}
-use Rattle.offences.specs.TypedStacks.{on_plane}
+use Rattle.group_meetings.specs.LayoutModel.LayerTypes.{HasTypesOf}
+use Rattle.group_meetings.specs.LayoutModel.Layouts.{Layout, IsMaterial}
+use Rattle.group_meetings.specs.LayoutModel.Places.{Place}
+use Rattle.meeting_sums.specs.Offences.TypedStacks.{on_plane}
 
 -- the places of an area on a plane
 abbrev places_on : Rect → ℕ → List Place

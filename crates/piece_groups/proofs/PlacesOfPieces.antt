@@ -7,16 +7,16 @@ use Rattle.geo_core.specs.declared.squares.Square.{Square}
 use Rattle.geo_core.proofs.CornerLaws.{corner_covers}
 use Rattle.tech_model.specs.declared.raw.RawTech.{RawTech}
 use Rattle.tech_model.specs.Types.{joined}
-use Rattle.layout_model.specs.LayerTypes.{or_space}
-use Rattle.layout_model.specs.Layouts.{Layout, IsMaterial}
-use Rattle.layout_model.specs.Places.{Place}
-use Rattle.layout_model.specs.declared.region_tiles.RegionTile.{RegionTile}
-use Rattle.layout_model.specs.RegionTiles.{LiesIn, AreLayoutTiles}
-use Rattle.offences.specs.declared.plane_stacks.PlaneStack.{PlaneStack}
-use Rattle.offences.specs.Offences.{SetLayout, joined_at}
-use Rattle.offences.specs.PlaneStacks.{ArePlaneStacks}
-use Rattle.offences.specs.TypedStacks.{IsTypedStack, kind_in, on_plane}
-use Rattle.offences.proofs.KindLaws.{kind_is_listed}
+use Rattle.group_meetings.specs.LayoutModel.LayerTypes.{or_space}
+use Rattle.group_meetings.specs.LayoutModel.Layouts.{Layout, IsMaterial}
+use Rattle.group_meetings.specs.LayoutModel.Places.{Place}
+use Rattle.group_meetings.specs.LayoutModel.declared.region_tiles.RegionTile.{RegionTile}
+use Rattle.group_meetings.specs.LayoutModel.RegionTiles.{LiesIn, AreLayoutTiles}
+use Rattle.meeting_sums.specs.Offences.declared.plane_stacks.PlaneStack.{PlaneStack}
+use Rattle.meeting_sums.specs.Offences.Offences.{SetLayout, joined_at}
+use Rattle.meeting_sums.specs.Offences.PlaneStacks.{ArePlaneStacks}
+use Rattle.meeting_sums.specs.Offences.TypedStacks.{IsTypedStack, kind_in, on_plane}
+use Rattle.meeting_sums.proofs.Offences.KindLaws.{kind_is_listed}
 use Rattle.group_meetings.specs.HierarchyModel.Restrictions.{PartStands, IsRestriction}
 use Rattle.group_meetings.specs.MeetingLaws.PartLayouts.{parts_layout}
 use Rattle.group_meetings.proofs.MeetingLaws.LinkLaws.{someone_stands}

@@ -7,10 +7,10 @@ use Rattle.finite_sets.proofs.Totals.{Total-from_list}
 use Rattle.tech_model.specs.declared.raw.RawTech.{RawTech}
 use Rattle.tech_model.specs.Rules.{KeepsRules}
 use Rattle.tech_model.specs.WellFormed.{IsWellFormed}
-use Rattle.layout_model.specs.Layouts.{IsMaterial}
-use Rattle.layout_model.specs.Places.{Place}
-use Rattle.layout_model.specs.CellTrees.{place_back}
-use Rattle.layout_model.specs.FlatSets.{IsTyped, AreTyped}
+use Rattle.group_meetings.specs.LayoutModel.Layouts.{IsMaterial}
+use Rattle.group_meetings.specs.LayoutModel.Places.{Place}
+use Rattle.group_meetings.specs.LayoutModel.CellTrees.{place_back}
+use Rattle.group_meetings.specs.LayoutModel.FlatSets.{IsTyped, AreTyped}
 use Rattle.piece_groups.specs.HierarchyModel.CleanCells.{IsClean, AreClean}
 use Rattle.ext_model.specs.declared.records.CellExt.{CellExt}
 use Rattle.ext_model.specs.declared.records.NodeRec.{NodeRec}

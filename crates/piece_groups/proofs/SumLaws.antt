@@ -3,7 +3,7 @@ use Rattle.std.proofs.Common.{◌≡◌, List, [], ◌∷◌, map, length, refl,
 use Rattle.std.specs.Prelude.{ℤ, pos}
 use Rattle.std.proofs.Math.ListN.{replicate}
 use Rattle.tech_model.specs.declared.raw.ClassRec.{ClassRec}
-use Rattle.layout_model.specs.Technologies.{class_of}
+use Rattle.group_meetings.specs.LayoutModel.Technologies.{class_of}
 use Rattle.meeting_sums.specs.TreeRecords.Merges.{Adjustment, zero_adjustment}
 
 -- zeros, as many as there are classes

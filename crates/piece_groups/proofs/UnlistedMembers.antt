@@ -7,11 +7,11 @@ use Rattle.geo_core.specs.declared.squares.Square.{Square}
 use Rattle.tech_model.specs.declared.raw.RawTech.{RawTech}
 use Rattle.tech_model.specs.Rules.{KeepsRules}
 use Rattle.tech_model.specs.WellFormed.{IsWellFormed}
-use Rattle.layout_model.specs.declared.region_tiles.RegionTile.{RegionTile}
-use Rattle.layout_model.specs.Places.{Place}
-use Rattle.layout_model.specs.Technologies.{Class, rules_of}
-use Rattle.offences.specs.declared.plane_stacks.PlaneStack.{PlaneStack}
-use Rattle.offences.specs.Offences.{SetLayout}
+use Rattle.group_meetings.specs.LayoutModel.declared.region_tiles.RegionTile.{RegionTile}
+use Rattle.group_meetings.specs.LayoutModel.Places.{Place}
+use Rattle.group_meetings.specs.LayoutModel.Technologies.{Class, rules_of}
+use Rattle.meeting_sums.specs.Offences.declared.plane_stacks.PlaneStack.{PlaneStack}
+use Rattle.meeting_sums.specs.Offences.Offences.{SetLayout}
 use Rattle.piece_groups.specs.TreeRecords.NamedTrees.{NamedTree}
 use Rattle.piece_groups.specs.TreeRecords.MemberGroups.{IsGroupName, IsMemberAt, IsMemberOf}
 use Rattle.piece_groups.specs.TreeRecords.Merges.{MemberGroup, IsMemberGroup, is_zero_adjustment, zero_adjustment}

@@ -2,7 +2,7 @@
 use Rattle.std.specs.Prelude.{◌≡◌, ℕ, List}
 use Rattle.std.specs.List.{flat_map}
 use Rattle.tech_model.specs.declared.raw.RawTech.{RawTech}
-use Rattle.layout_model.specs.Technologies.{rules_of}
+use Rattle.group_meetings.specs.LayoutModel.Technologies.{rules_of}
 use Rattle.ext_model.specs.declared.records.MergeRec.{MergeRec}
 use Rattle.meeting_sums.specs.TreeRecords.Merges.{MemberGroup, group_merges}
 use Rattle.meeting_sums.specs.declared.sums.MeetingSum.{MeetingSum}

@@ -1,7 +1,7 @@
 -- Groups of members that have one mark.
 use Rattle.std.specs.Prelude.{◌≡◌, ◌≢◌, ◌↔◌, ℕ, Some, List, [], AllPairs, slice_get, slice_index}
 use Rattle.finite_sets.specs.Lists.{In}
-use Rattle.circuit_model.specs.FullNames.{AreInNameOrder}
+use Rattle.group_meetings.specs.CircuitModel.FullNames.{AreInNameOrder}
 use Rattle.meeting_sums.specs.TreeRecords.FetRecords.{IsNameBefore}
 use Rattle.meeting_sums.specs.TreeRecords.Merges.{Adjustment, MemberGroup, group_name}
 use Rattle.meeting_sums.specs.declared.sums.MeetingSum.{MeetingSum}

@@ -5,12 +5,12 @@ use Rattle.tech_model.specs.declared.raw.RawTech.{RawTech}
 use Rattle.tech_model.specs.Rules.{KeepsRules}
 use Rattle.tech_model.specs.Types.{connects}
 use Rattle.tech_model.specs.WellFormed.{IsWellFormed}
-use Rattle.layout_model.specs.declared.region_tiles.RegionTile.{RegionTile}
-use Rattle.layout_model.specs.Places.{Place}
-use Rattle.layout_model.specs.RegionTiles.{AreRegions, LiesIn}
-use Rattle.offences.specs.declared.plane_stacks.PlaneStack.{PlaneStack}
-use Rattle.offences.specs.Offences.{SetLayout}
-use Rattle.offences.specs.PlaneStacks.{ArePlaneStacks}
+use Rattle.group_meetings.specs.LayoutModel.declared.region_tiles.RegionTile.{RegionTile}
+use Rattle.group_meetings.specs.LayoutModel.Places.{Place}
+use Rattle.group_meetings.specs.LayoutModel.RegionTiles.{AreRegions, LiesIn}
+use Rattle.meeting_sums.specs.Offences.declared.plane_stacks.PlaneStack.{PlaneStack}
+use Rattle.meeting_sums.specs.Offences.Offences.{SetLayout}
+use Rattle.meeting_sums.specs.Offences.PlaneStacks.{ArePlaneStacks}
 use Rattle.group_meetings.specs.TreeRecords.NamedTrees.{NamedTree}
 use Rattle.group_meetings.specs.TreeRecords.MemberGroups.{AreOneGroup, IsMemberAt, IsMemberOf}
 use Rattle.group_meetings.specs.TreeNames.CleanTrees.{IsCleanTree}

@@ -1,8 +1,8 @@
 -- Marks of members and regions: which of them are of one class.
 use Rattle.std.specs.Prelude.{◌≡◌, ◌+◌, ℕ, List, length, map, slice_index}
 use Rattle.partition.specs.Divides.{Divides, IsPair}
-use Rattle.layout_model.specs.declared.region_tiles.RegionTile.{RegionTile}
-use Rattle.layout_model.specs.RegionTiles.{regions_of}
+use Rattle.group_meetings.specs.LayoutModel.declared.region_tiles.RegionTile.{RegionTile}
+use Rattle.group_meetings.specs.LayoutModel.RegionTiles.{regions_of}
 
 -- Where so many members have the first marks and the regions the marks behind: the position of the mark of the region of the tile at an
 -- index.

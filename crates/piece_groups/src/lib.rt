@@ -58,6 +58,7 @@
 ghost use Rattle.piece_groups.specs.Laws.{MarkedGroupsAreRecorded};
 ghost use Rattle.piece_groups.specs.MemberLaws.{ClassesAreGroups};
 
+pub use meeting_sums;
 use tech_model::Tech;
 
 mod links;

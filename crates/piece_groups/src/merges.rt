@@ -3,7 +3,7 @@ ghost use Rattle.std.specs.Prelude.{◌≡◌, ◌<◌, ◌≤◌, ◌&&◌, ◌
 ghost use Rattle.std.specs.List.{list_all};
 ghost use Rattle.std.specs.Ordering.{int_eq};
 ghost use Rattle.finite_sets.specs.Lists.{Distinct};
-ghost use Rattle.layout_model.specs.Technologies.{rules_of};
+ghost use Rattle.group_meetings.specs.LayoutModel.Technologies.{rules_of};
 ghost use Rattle.ext_model.specs.declared.records.MergeRec.{MergeRec};
 ghost use Rattle.ext_model.specs.Rows.{AreRowsOf};
 ghost use Rattle.merge_rows.specs.AddedMerges.{AddsToRows};

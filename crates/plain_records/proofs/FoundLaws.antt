@@ -12,11 +12,11 @@ use Rattle.circuit_model.specs.declared.faults.FlatFault.TheVariants.{TooMany}
 use Rattle.circuit_model.specs.declared.limits.CircuitLimit.TheVariants.{Depth, Elements}
 use Rattle.circuit_model.specs.declared.limits.TheConstants.{LONGEST_CHAIN, MOST_FLAT_ELEMENTS}
 use Rattle.circuit_model.specs.Refusals.{walk_fault}
-use Rattle.element_tree.specs.declared.graph.RecordGraph.{RecordGraph}
-use Rattle.element_tree.specs.Graphs.{IsGraphOf, HasNoWalkFault, IsWalkFaultOf}
-use Rattle.element_tree.specs.Sizes.{value_at, chain_from, size_from, AreMeasuredIn}
-use Rattle.element_tree.specs.Trees.{tree_fault, IsTreeFaultOf}
-use Rattle.element_tree.proofs.Counting.{number_read, depth_fault, elements_fault, no_tree_fault}
+use Rattle.flat_limits.specs.ElementTree.declared.graph.RecordGraph.{RecordGraph}
+use Rattle.flat_limits.specs.ElementTree.Graphs.{IsGraphOf, HasNoWalkFault, IsWalkFaultOf}
+use Rattle.flat_limits.specs.ElementTree.Sizes.{value_at, chain_from, size_from, AreMeasuredIn}
+use Rattle.flat_limits.specs.ElementTree.Trees.{tree_fault, IsTreeFaultOf}
+use Rattle.flat_limits.proofs.ElementTree.Counting.{number_read, depth_fault, elements_fault, no_tree_fault}
 use Rattle.plain_records.specs.Plains.{plains, AreArrayRecords}
 use Rattle.plain_records.specs.Thin.{thin, thins}
 use Rattle.plain_records.specs.Reached.{spreads, spread_graph, AreReached, HasNoReachFault, IsReachFaultOf}

@@ -15,10 +15,10 @@ use Rattle.ext_model.specs.declared.arrays.ArrayExt.{ArrayExt}
 use Rattle.ext_model.specs.Plain.{plain, plain_uses}
 use Rattle.circuit_model.specs.Elements.{ext_of}
 use Rattle.circuit_model.specs.Refusals.{greatest}
-use Rattle.element_tree.specs.declared.graph.RecordGraph.{RecordGraph}
-use Rattle.element_tree.specs.Graphs.{LeadTo, AreDone, IsGraphOf, children_of}
-use Rattle.element_tree.specs.Sizes.{value_at, chain_from, AreMeasured, AreMeasuredIn}
-use Rattle.element_tree.proofs.Rows.{LeadTo-long}
+use Rattle.flat_limits.specs.ElementTree.declared.graph.RecordGraph.{RecordGraph}
+use Rattle.flat_limits.specs.ElementTree.Graphs.{LeadTo, AreDone, IsGraphOf, children_of}
+use Rattle.flat_limits.specs.ElementTree.Sizes.{value_at, chain_from, AreMeasured, AreMeasuredIn}
+use Rattle.flat_limits.proofs.ElementTree.Rows.{LeadTo-long}
 use Rattle.plain_records.specs.Plains.{plains}
 use Rattle.plain_records.specs.Thin.{first_use, thin, thins}
 use Rattle.plain_records.specs.Reached.{spread, spreads, spread_graph}

@@ -1,5 +1,6 @@
 -- what crates above name of those below
-pub use Rattle.element_tree.proofs as ElementTree
+pub use Rattle.flat_limits.proofs as FlatLimits
+pub use Rattle.flat_limits.proofs.ElementTree as ElementTree
 mod CutLaws
 mod StepLaws
 pub mod UseLaws

@@ -29,14 +29,14 @@ use Rattle.circuit_model.specs.FullNames.{full_names}
 use Rattle.circuit_model.specs.Circuits.{IsMeaning, IsCircuitOf}
 use Rattle.circuit_model.specs.Refusals.{first_fault, use_fault, walk_fault, greatest, chain_length, depth_of, once, name_bytes, node_count, merge_count, past}
 use Rattle.circuit_model.specs.Refusals.{class_fault, before_slash, after_slash, leads, path_fault, merge_fault, element_fault, flat_fault}
-use Rattle.element_tree.specs.Graphs.{LeadTo, children_of}
-use Rattle.element_tree.proofs.Cells.{found_cell}
-use Rattle.element_tree.specs.Trees.{tree_fault}
-use Rattle.element_tree.proofs.Counting.{leads_at}
+use Rattle.flat_limits.specs.ElementTree.Graphs.{LeadTo, children_of}
+use Rattle.flat_limits.proofs.ElementTree.Cells.{found_cell}
+use Rattle.flat_limits.specs.ElementTree.Trees.{tree_fault}
+use Rattle.flat_limits.proofs.ElementTree.Counting.{leads_at}
 use Rattle.plain_records.specs.Plains.{plains}
 use Rattle.plain_records.specs.Reached.{reach_fault, with_merges, IsExpandedAt}
 use Rattle.plain_records.proofs.PlaceLaws.{found_at}
-use Rattle.element_tree.proofs.RecordWalks.{at_use}
+use Rattle.flat_limits.proofs.ElementTree.RecordWalks.{at_use}
 
 -- The record is one of those in the order.
 pub record IsReached (records : List CellExt) (order : List ℕ) (ext : CellExt) : Type 0 where

@@ -11,11 +11,11 @@ use Rattle.ext_model.specs.declared.records.UseRec.{UseRec}
 use Rattle.ext_model.specs.declared.arrays.ArrayUse.{ArrayUse}
 use Rattle.ext_model.specs.declared.arrays.ArrayExt.{ArrayExt}
 use Rattle.ext_model.specs.Plain.{plain_uses}
-use Rattle.element_tree.specs.declared.graph.RecordGraph.{RecordGraph}
-use Rattle.element_tree.specs.Graphs.{children_of}
-use Rattle.element_tree.specs.Sizes.{AreMeasured}
-use Rattle.element_tree.proofs.Measures.{IsRead, next_in_order}
-use Rattle.element_tree.proofs.Rows.{LeadTo-long}
+use Rattle.flat_limits.specs.ElementTree.declared.graph.RecordGraph.{RecordGraph}
+use Rattle.flat_limits.specs.ElementTree.Graphs.{children_of}
+use Rattle.flat_limits.specs.ElementTree.Sizes.{AreMeasured}
+use Rattle.flat_limits.proofs.ElementTree.Measures.{IsRead, next_in_order}
+use Rattle.flat_limits.proofs.ElementTree.Rows.{LeadTo-long}
 use Rattle.plain_records.specs.Plains.{plains, AreArrayRecords}
 use Rattle.plain_records.specs.Thin.{first_use, thin, thins}
 use Rattle.plain_records.specs.Reached.{spread, spreads, spread_graph}

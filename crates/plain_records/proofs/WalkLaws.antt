@@ -15,7 +15,7 @@ use Rattle.circuit_model.specs.declared.faults.FlatFault.TheVariants.{Cycle}
 use Rattle.circuit_model.specs.Elements.{ext_of}
 use Rattle.circuit_model.specs.FlatNodes.{is_among}
 use Rattle.circuit_model.specs.Refusals.{first_fault, use_fault, walk_fault}
-use Rattle.element_tree.proofs.RecordWalks.{at_use}
+use Rattle.flat_limits.proofs.ElementTree.RecordWalks.{at_use}
 use Rattle.plain_records.specs.Plains.{plains}
 use Rattle.plain_records.specs.Thin.{first_use, thin, thins}
 use Rattle.plain_records.proofs.UseLaws.{some_uses, uses_cell, first_in}

@@ -9,9 +9,9 @@ use Rattle.ext_model.specs.Plain.{plain, plain_uses}
 use Rattle.circuit_model.specs.declared.faults.FlatFault.{FlatFault}
 use Rattle.circuit_model.specs.Elements.{AreRecords}
 use Rattle.circuit_model.specs.Refusals.{walk_fault}
-use Rattle.element_tree.specs.declared.graph.RecordGraph.{RecordGraph}
-use Rattle.element_tree.specs.Graphs.{IsGraphOf}
-use Rattle.element_tree.specs.Trees.{tree_fault}
+use Rattle.flat_limits.specs.ElementTree.declared.graph.RecordGraph.{RecordGraph}
+use Rattle.flat_limits.specs.ElementTree.Graphs.{IsGraphOf}
+use Rattle.flat_limits.specs.ElementTree.Trees.{tree_fault}
 use Rattle.plain_records.specs.Plains.{plains}
 
 -- ---- the graph of plain records

@@ -21,5 +21,6 @@ mod rows;
 mod uses;
 
 pub use expansion::{expanded, thin_records};
+pub use flat_limits;
 pub use reach::reached_records;
 pub use rows::{check_rows, may_have_too_many};

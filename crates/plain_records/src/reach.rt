@@ -2,15 +2,15 @@
 ghost use Rattle.std.specs.Prelude.{◌≡◌, ◌⊎◌, ◌<◌, ◌≤◌, suc, All, IfOk, IfErr, length, map};
 ghost use Rattle.ext_model.specs.LawfulArrays.{IsArrayUse};
 ghost use Rattle.circuit_model.specs.declared.limits.TheConstants.{MOST_FLAT_ELEMENTS as MOST};
-ghost use Rattle.element_tree.specs.Sizes.{IsSomeGraph, value_at, size_from, AreMeasuredIn};
+ghost use Rattle.flat_limits.specs.ElementTree.Sizes.{IsSomeGraph, value_at, size_from, AreMeasuredIn};
 ghost use Rattle.plain_records.specs.Plains.{plains, AreArrayRecords};
 ghost use Rattle.plain_records.specs.Thin.{thins};
 ghost use Rattle.plain_records.specs.Reached.{spread, spread_graph, AreReached, HasNoReachFault, IsReachFaultOf};
 
 use crate::uses::element_count;
 use circuit_model::{CircuitLimit, FlatFault, LONGEST_CHAIN, MOST_FLAT_ELEMENTS};
-use element_tree::{RecordGraph, chain_lengths, record_graph};
 use ext_model::{ArrayExt, ArrayUse, CellExt};
+use flat_limits::element_tree::{RecordGraph, chain_lengths, record_graph};
 use names_lists::List;
 use std::alloc::{AllocError, Global};
 

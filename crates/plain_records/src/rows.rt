@@ -2,15 +2,15 @@
 ghost use Rattle.std.specs.Prelude.{◌≡◌, ◌⊎◌, ◌<◌, All, IfOk, IfErr, false, length, map};
 ghost use Rattle.std.specs.List.{flat_map};
 ghost use Rattle.ext_model.specs.Plain.{plain_merges};
-ghost use Rattle.element_tree.specs.Trees.{IsTreeOf};
+ghost use Rattle.flat_limits.specs.ElementTree.Trees.{IsTreeOf};
 ghost use Rattle.flat_limits.specs.Counts.{HasNoMergeFault, IsMergeFaultOf};
 ghost use Rattle.plain_records.specs.Plains.{plains, AreArrayRecords};
 ghost use Rattle.plain_records.specs.Reached.{IsExpandedAt};
 ghost use Rattle.plain_records.specs.steps.Rows.{capped, merges_in};
 
 use circuit_model::{CircuitLimit, FlatFault, MOST_MERGES};
-use element_tree::ElementTree;
 use ext_model::{ArrayExt, CellExt, MergeRow};
+use flat_limits::element_tree::ElementTree;
 use flat_limits::is_past;
 use std::alloc::{AllocError, Global};
 

@@ -27,4 +27,5 @@ mod sides;
 
 pub use contacts::{Contact, touching};
 pub use edges::lengths_count_edges;
+pub use geo_strips;
 pub use overlapping::overlaps;

@@ -2,10 +2,10 @@
 use Rattle.std.proofs.Common.{◌≡◌, inl, inr, ℕ, ◌<◌, false, List, [], ◌∷◌, ◌++◌, get_or, map, refl, sym, ◌∙◌, ap, subst}
 use Rattle.std.specs.Prelude.{AllPairs}
 use Rattle.std.specs.List.{list_any}
-use Rattle.finite_sets.specs.Lists.{In}
-use Rattle.finite_sets.proofs.Members.{In-append_left, In-append_right, In-append_cases, In-map, In-map_source, In-push, In-push_cases, In-some}
-use Rattle.finite_sets.proofs.Pairs.{Pairwise, Pairwise-append, Pairwise-map, AllPairs-from_Pairwise, Pairwise-from_AllPairs, AllPairs-push, Pairwise-unmap}
-use Rattle.finite_sets.proofs.Searches.{list_any-In}
+use Rattle.geo_core.specs.FiniteSets.Lists.{In}
+use Rattle.geo_core.proofs.FiniteSets.Members.{In-append_left, In-append_right, In-append_cases, In-map, In-map_source, In-push, In-push_cases, In-some}
+use Rattle.geo_core.proofs.FiniteSets.Pairs.{Pairwise, Pairwise-append, Pairwise-map, AllPairs-from_Pairwise, Pairwise-from_AllPairs, AllPairs-push, Pairwise-unmap}
+use Rattle.geo_core.proofs.FiniteSets.Searches.{list_any-In}
 use Rattle.geo_core.specs.declared.squares.Square.{Square}
 use Rattle.geo_core.specs.declared.squares.Rect.{Rect}
 use Rattle.geo_core.specs.Areas.{common_rect, AreDisjoint}

@@ -2,7 +2,7 @@
 use Rattle.std.proofs.Common.{◌≡◌, ◌⊎◌, inl, inr, true, false, ◌≤ℤ◌, ◌<ℤ◌, arith}
 use Rattle.std.proofs.lemmas.Int.{ints, clamps}
 use Rattle.std.specs.Cmp.{both_ways}
-use Rattle.finite_sets.proofs.Orders.{at_most_or_greater}
+use Rattle.geo_core.proofs.FiniteSets.Orders.{at_most_or_greater}
 use Rattle.geo_core.specs.declared.squares.Square.{Square}
 use Rattle.geo_core.specs.declared.squares.Rect.{Rect}
 use Rattle.geo_core.specs.Areas.{common_rect, AreDisjoint}

@@ -1,3 +1,5 @@
+-- what crates above name of those below
+pub use Rattle.rect_contacts.proofs as RectContacts
 mod Apart
 mod Begin
 mod Halves

@@ -7,10 +7,10 @@ use Rattle.std.proofs.Math.Seq.{drop-append_seam, take-append_seam}
 use Rattle.std.proofs.lemmas.List.{length-append}
 use Rattle.std.proofs.lemmas.List.Elements.{filter-append}
 use Rattle.std.proofs.lemmas.List.FromFn.{length-range_with_len, get_or-range_with_len}
-use Rattle.finite_sets.specs.Lists.{In}
-use Rattle.finite_sets.proofs.Members.{In-append_left, In-push}
-use Rattle.finite_sets.proofs.Pairs.{Pairwise, AllPairs-from_Pairwise, Pairwise-from_AllPairs}
-use Rattle.finite_sets.proofs.Searches.{find-In, find-passes, find-none, All-In}
+use Rattle.geo_core.specs.FiniteSets.Lists.{In}
+use Rattle.geo_core.proofs.FiniteSets.Members.{In-append_left, In-push}
+use Rattle.geo_core.proofs.FiniteSets.Pairs.{Pairwise, AllPairs-from_Pairwise, Pairwise-from_AllPairs}
+use Rattle.geo_core.proofs.FiniteSets.Searches.{find-In, find-passes, find-none, All-In}
 use Rattle.geo_core.specs.declared.squares.Rect.{Rect}
 use Rattle.rect_overlays.specs.steps.Regions.{AllMeet, AllGoRound, meets_at, goes_round_at}
 

@@ -5,9 +5,9 @@ use Rattle.std.specs.Prelude.{AllPairs, filter}
 use Rattle.std.proofs.lemmas.Int.{ints}
 use Rattle.std.proofs.lemmas.List.Kept.{AllPairs-filter}
 use Rattle.std.proofs.lemmas.Option.{slice_get-get_or, slice_get_within, get_or_from_slice_get}
-use Rattle.finite_sets.specs.Lists.{In}
-use Rattle.finite_sets.proofs.Members.{In-append_left, In-push, In-push_cases, In-filter, In-filter_source, In-filter_passes}
-use Rattle.finite_sets.proofs.Pairs.{AllPairs-push}
+use Rattle.geo_core.specs.FiniteSets.Lists.{In}
+use Rattle.geo_core.proofs.FiniteSets.Members.{In-append_left, In-push, In-push_cases, In-filter, In-filter_source, In-filter_passes}
+use Rattle.geo_core.proofs.FiniteSets.Pairs.{AllPairs-push}
 use Rattle.geo_core.specs.declared.squares.Square.{Square}
 use Rattle.geo_core.specs.declared.squares.Rect.{Rect}
 use Rattle.geo_core.specs.Areas.{common_rect, joined_rect, AreDisjoint, LiesWithin}

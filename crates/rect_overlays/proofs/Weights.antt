@@ -5,8 +5,8 @@ use Rattle.std.proofs.lemmas.Int.{ints}
 use Rattle.std.proofs.lemmas.List.{map-append}
 use Rattle.std.proofs.lemmas.List.Sums.{sum_by-append, sum_by-cons}
 use Rattle.std.proofs.lemmas.Nat.{mul-le}
-use Rattle.finite_sets.specs.Range.{extent}
-use Rattle.finite_sets.proofs.Ranges.{extent_up}
+use Rattle.geo_core.specs.FiniteSets.Range.{extent}
+use Rattle.geo_core.proofs.FiniteSets.Ranges.{extent_up}
 use Rattle.geo_core.specs.declared.squares.Rect.{Rect}
 use Rattle.geo_core.specs.Areas.{LiesWithin}
 use Rattle.geo_core.specs.Covering.{IsProper}

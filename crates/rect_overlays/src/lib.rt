@@ -23,4 +23,6 @@ mod regions;
 mod singles;
 mod stacks;
 
+pub use rect_contacts;
+pub use rect_contacts::geo_strips;
 pub use stacks::{Stack, overlay};

@@ -8,12 +8,12 @@ use Rattle.std.proofs.lemmas.Int.{ints, clamps}
 use Rattle.std.proofs.lemmas.Option.{slice_get-get_or, slice_get_within, get_or_from_slice_get}
 use Rattle.std.proofs.lemmas.List.Sorted.{IsPermutation-sym}
 use Rattle.std.proofs.lemmas.Map.Keys.{ge_from_not_lt}
-use Rattle.finite_sets.specs.Lists.{In, Distinct}
-use Rattle.finite_sets.proofs.Members.{In-permutation, In-filter, In-filter_source, In-filter_passes, In-get_or, In-index}
-use Rattle.finite_sets.proofs.Searches.{find-In, find-passes, find-none}
-use Rattle.finite_sets.proofs.Distincts.{Distinct-places, Distinct-filter}
-use Rattle.finite_sets.proofs.Orders.{IsSorted-pairs}
-use Rattle.finite_sets.proofs.Images.{Distinct-permutation}
+use Rattle.geo_core.specs.FiniteSets.Lists.{In, Distinct}
+use Rattle.geo_core.proofs.FiniteSets.Members.{In-permutation, In-filter, In-filter_source, In-filter_passes, In-get_or, In-index}
+use Rattle.geo_core.proofs.FiniteSets.Searches.{find-In, find-passes, find-none}
+use Rattle.geo_core.proofs.FiniteSets.Distincts.{Distinct-places, Distinct-filter}
+use Rattle.geo_core.proofs.FiniteSets.Orders.{IsSorted-pairs}
+use Rattle.geo_core.proofs.FiniteSets.Images.{Distinct-permutation}
 use Rattle.geo_core.specs.declared.squares.Rect.{Rect}
 use Rattle.geo_core.specs.Areas.{common_rect}
 use Rattle.geo_core.specs.Covering.{IsProper}

@@ -5,10 +5,10 @@ use Rattle.std.specs.Prelude.{All, IsPermutation}
 use Rattle.std.proofs.lemmas.Bool.{false≢true}
 use Rattle.std.proofs.lemmas.List.{map-append, take_all, take-append-drop}
 use Rattle.std.proofs.lemmas.List.Sorted.{IsPermutation-sym, IsPermutation-map}
-use Rattle.finite_sets.specs.Lists.{Distinct, Lists}
-use Rattle.finite_sets.proofs.Members.{In-permutation, In-map, In-get_or}
-use Rattle.finite_sets.proofs.Listings.{Lists-none, Lists-one, Lists-append, Lists-iff}
-use Rattle.finite_sets.proofs.Images.{Distinct-permutation}
+use Rattle.geo_core.specs.FiniteSets.Lists.{Distinct, Lists}
+use Rattle.geo_core.proofs.FiniteSets.Members.{In-permutation, In-map, In-get_or}
+use Rattle.geo_core.proofs.FiniteSets.Listings.{Lists-none, Lists-one, Lists-append, Lists-iff}
+use Rattle.geo_core.proofs.FiniteSets.Images.{Distinct-permutation}
 use Rattle.geo_core.specs.declared.squares.Rect.{Rect}
 use Rattle.geo_core.specs.Areas.{has_square}
 use Rattle.geo_core.specs.Covering.{IsProper}

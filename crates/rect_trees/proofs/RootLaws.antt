@@ -1,6 +1,6 @@
 -- The tree of places of the rectangles that have squares has those rectangles.
 use Rattle.std.proofs.Common.{◌≡◌, List, [], ◌∷◌, Some, None, map, length, sym, subst}
-use Rattle.finite_sets.specs.Lists.{Lists}
+use Rattle.geo_core.specs.FiniteSets.Lists.{Lists}
 use Rattle.geo_core.specs.declared.squares.Rect.{Rect}
 use Rattle.rect_trees.specs.declared.nodes.Node.{Node}
 use Rattle.rect_trees.specs.declared.places.Place.{Place}

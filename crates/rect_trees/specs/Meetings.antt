@@ -1,6 +1,6 @@
 -- Which rectangles of a list have squares in an area.
 use Rattle.std.specs.Prelude.{◌≡◌, ◌<◌, ◌↔◌, ℕ, List, slice_get, Some, AllPairs}
-use Rattle.finite_sets.specs.Lists.{In}
+use Rattle.geo_core.specs.FiniteSets.Lists.{In}
 use Rattle.geo_core.specs.declared.squares.Rect.{Rect}
 use Rattle.geo_core.specs.Areas.{common_rect}
 use Rattle.geo_core.specs.Covering.{IsProper}

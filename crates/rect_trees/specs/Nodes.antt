@@ -1,6 +1,6 @@
 -- Trees of positions in a list of rectangles.
 use Rattle.std.specs.Prelude.{◌≡◌, ℕ, ◌<◌, Option, Some, None, List, [], ◌∷◌, ◌++◌, length}
-use Rattle.finite_sets.specs.Lists.{Lists}
+use Rattle.geo_core.specs.FiniteSets.Lists.{Lists}
 use Rattle.geo_core.specs.declared.squares.Rect.{Rect}
 use Rattle.geo_core.specs.Areas.{joined_rect}
 use Rattle.rect_trees.specs.declared.nodes.Node.{Node, Leaf, Fork'}

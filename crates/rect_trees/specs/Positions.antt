@@ -1,6 +1,6 @@
 -- Positions in a list of rectangles, and places of those that have squares.
 use Rattle.std.specs.Prelude.{ℕ, ◌<◌, pos, Bool, List, length, map, slice_index_or}
-use Rattle.finite_sets.specs.Lists.{Lists}
+use Rattle.geo_core.specs.FiniteSets.Lists.{Lists}
 use Rattle.geo_core.specs.declared.squares.Rect.{Rect}
 use Rattle.geo_core.specs.Areas.{common_rect, has_square}
 use Rattle.geo_core.specs.Covering.{IsProper}

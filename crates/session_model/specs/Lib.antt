@@ -1,3 +1,5 @@
+-- what crates above name of those below
+pub use Rattle.outside_io.specs as OutsideIo
 pub mod Causes
 pub mod Counted
 pub mod Effects

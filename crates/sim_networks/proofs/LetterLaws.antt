@@ -5,7 +5,7 @@ use Rattle.std.specs.Prelude.{All, filter_map, codes}
 use Rattle.std.specs.Str.{bytes_eq}
 use Rattle.text_scan.specs.Lines.{lines_of}
 use Rattle.text_scan.specs.Words.{words_of}
-use Rattle.text_form.specs.SaidLines.{and_then, AreSaid}
+use Rattle.sim_text.specs.TextForm.SaidLines.{and_then, AreSaid}
 use Rattle.sim_text.specs.declared.faults.SimFault.{SimFault}
 use Rattle.sim_text.specs.declared.faults.SimFault.TheVariants.{BadLine, Letter}
 use Rattle.sim_text.specs.declared.files.SimFet.{SimFet}

@@ -1,3 +1,5 @@
+-- what crates above name of those below
+pub use Rattle.text_form.specs as TextForm
 pub mod Parts
 pub mod LineForms
 pub mod SimTexts

@@ -14,10 +14,10 @@ use Rattle.tech_model.proofs.GeoCore.FiniteSets.Members.{In-map, In-map_source}
 use Rattle.tech_model.proofs.GeoCore.FiniteSets.Ranges.{Lists-integer_range, Lists-pairs_of}
 use Rattle.tech_model.proofs.GeoCore.ImageLaws.{image-moved}
 use Rattle.tech_model.proofs.GeoCore.SquareLaws.{square_is}
-use Rattle.cell_library.specs.LayoutModel.CellTrees.{place_back}
-use Rattle.cell_library.specs.LayoutModel.FlatSets.{flat_sets, sets_below}
-use Rattle.cell_library.specs.LayoutModel.Places.{Place}
-use Rattle.cell_library.specs.LayoutTrees.{element_transform}
+use Rattle.library_trees.specs.CellLibrary.LayoutModel.CellTrees.{place_back}
+use Rattle.library_trees.specs.CellLibrary.LayoutModel.FlatSets.{flat_sets, sets_below}
+use Rattle.library_trees.specs.CellLibrary.LayoutModel.Places.{Place}
+use Rattle.library_trees.specs.CellLibrary.LayoutTrees.{element_transform}
 use Rattle.ext_model.specs.Paths.{path_text}
 use Rattle.library_trees.specs.ElementNames.{UseElement, array_element, use_elements}
 use Rattle.library_trees.specs.NamedCells.{named_elements_at}

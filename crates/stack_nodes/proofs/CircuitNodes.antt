@@ -9,8 +9,8 @@ use Rattle.tech_model.specs.declared.raw.RawTech.{RawTech}
 use Rattle.tech_model.specs.Types.{has_name, layer_named}
 use Rattle.tech_model.proofs.GeoCore.FiniteSets.Images.{In-flat_map, In-flat_map_source}
 use Rattle.tech_model.proofs.GeoCore.FiniteSets.Searches.{In-from_list_any, absent-from_list_any, position_from-below}
-use Rattle.cell_library.specs.LayoutModel.Places.{Place}
-use Rattle.cell_library.specs.Views.{LibraryView}
+use Rattle.library_trees.specs.CellLibrary.LayoutModel.Places.{Place}
+use Rattle.library_trees.specs.CellLibrary.Views.{LibraryView}
 use Rattle.ext_model.specs.declared.circuits.Circuit.{Circuit}
 use Rattle.ext_model.specs.declared.records.NodeRec.{NodeRec}
 use Rattle.ext_model.specs.NodeNames.{is_global, slashes_in}

@@ -19,8 +19,8 @@ use Rattle.tech_model.specs.WellFormed.{IsWellFormed}
 use Rattle.tech_model.proofs.GeoCore.FiniteSets.Searches.{find-In, find-passes}
 use Rattle.tech_model.proofs.WellFormedLaws.{type_bounds}
 use Rattle.tech_model.proofs.WholeLaws.{brushed_column-whole}
-use Rattle.cell_library.specs.LayoutModel.Layouts.{Layout}
-use Rattle.cell_library.specs.LayoutModel.Places.{Place}
+use Rattle.library_trees.specs.CellLibrary.LayoutModel.Layouts.{Layout}
+use Rattle.library_trees.specs.CellLibrary.LayoutModel.Places.{Place}
 use Rattle.cell_paint.specs.Painting.{column_at, place_at, with_paint}
 use Rattle.cell_paint.proofs.AgainLaws.{found_image, image_type}
 use Rattle.cell_paint.proofs.ColumnsLaws.{column_type}

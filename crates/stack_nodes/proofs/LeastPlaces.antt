@@ -4,7 +4,7 @@ use Rattle.std.proofs.lemmas.Bool.{cases_Bool}
 use Rattle.std.proofs.lemmas.Int.{ints}
 use Rattle.tech_model.specs.GeoCore.FiniteSets.Least.{IsLeast}
 use Rattle.tech_model.specs.GeoCore.FiniteSets.Range.{nonnegative_part}
-use Rattle.cell_library.specs.LayoutModel.Places.{Place, IsBefore, IsNoLater}
+use Rattle.library_trees.specs.CellLibrary.LayoutModel.Places.{Place, IsBefore, IsNoLater}
 use Rattle.library_trees.specs.Names.declared.attaching.Attachment.{Attachment}
 use Rattle.library_trees.specs.Names.steps.TakenLabels.{stands_earlier}
 use Rattle.library_trees.proofs.TreeNames.Names.PlaceOrders.{stands_earlier-false, stands_earlier-true}

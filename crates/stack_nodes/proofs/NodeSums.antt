@@ -14,10 +14,10 @@ use Rattle.tech_model.specs.GeoCore.declared.transforms.Transform.{Transform}
 use Rattle.tech_model.specs.declared.raw.RawTech.{RawTech}
 use Rattle.tech_model.proofs.GeoCore.FiniteSets.Chains.{Chain-carries}
 use Rattle.tech_model.proofs.GeoCore.FiniteSets.Members.{In-map}
-use Rattle.cell_library.specs.LayoutModel.Layouts.{IsMaterial}
-use Rattle.cell_library.specs.LayoutModel.Places.{Place}
-use Rattle.cell_library.specs.LayoutModel.Technologies.{class_of, rules_of}
-use Rattle.cell_library.specs.Views.{LibraryView}
+use Rattle.library_trees.specs.CellLibrary.LayoutModel.Layouts.{IsMaterial}
+use Rattle.library_trees.specs.CellLibrary.LayoutModel.Places.{Place}
+use Rattle.library_trees.specs.CellLibrary.LayoutModel.Technologies.{class_of, rules_of}
+use Rattle.library_trees.specs.CellLibrary.Views.{LibraryView}
 use Rattle.ext_model.specs.declared.circuits.Circuit.{Circuit}
 use Rattle.ext_model.specs.declared.records.NodeRec.{NodeRec}
 use Rattle.ext_model.specs.NodeNames.{is_global}

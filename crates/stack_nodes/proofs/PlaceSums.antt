@@ -11,11 +11,11 @@ use Rattle.tech_model.specs.declared.limits.TheConstants.{MOST_PLANES}
 use Rattle.tech_model.proofs.GeoCore.FiniteSets.Distincts.{Distinct-map}
 use Rattle.tech_model.proofs.GeoCore.FiniteSets.Members.{In-map_source}
 use Rattle.tech_model.proofs.GeoCore.FiniteSets.Sums.{sum_on-count, sum_on-le, sum_on-scale, sum_on-zero}
-use Rattle.cell_library.specs.LayoutModel.Layouts.{Layout}
-use Rattle.cell_library.specs.LayoutModel.Measures.{area_at, perimeter_at}
-use Rattle.cell_library.specs.LayoutModel.Nodes.{AreMeasures}
-use Rattle.cell_library.specs.LayoutModel.Places.{Place, neighbours}
-use Rattle.cell_library.specs.LayoutModel.Technologies.{Class}
+use Rattle.library_trees.specs.CellLibrary.LayoutModel.Layouts.{Layout}
+use Rattle.library_trees.specs.CellLibrary.LayoutModel.Measures.{area_at, perimeter_at}
+use Rattle.library_trees.specs.CellLibrary.LayoutModel.Nodes.{AreMeasures}
+use Rattle.library_trees.specs.CellLibrary.LayoutModel.Places.{Place, neighbours}
+use Rattle.library_trees.specs.CellLibrary.LayoutModel.Technologies.{Class}
 use Rattle.sim_networks.proofs.CountLaws.{few_below}
 use Rattle.stack_nodes.proofs.Arrays.{same_place}
 use Rattle.stack_nodes.proofs.LeastPlaces.{part_of}

@@ -5,9 +5,9 @@ use Rattle.std.proofs.lemmas.Int.{ints}
 use Rattle.tech_model.specs.GeoCore.FiniteSets.Lists.{In}
 use Rattle.tech_model.specs.GeoCore.Elements.{element_of, indices, nth_index}
 use Rattle.tech_model.specs.GeoCore.Images.{identity}
-use Rattle.cell_library.specs.LayoutModel.CellTrees.{place_back}
-use Rattle.cell_library.specs.LayoutModel.Places.{Place}
-use Rattle.cell_library.specs.LayoutTrees.{element_transform}
+use Rattle.library_trees.specs.CellLibrary.LayoutModel.CellTrees.{place_back}
+use Rattle.library_trees.specs.CellLibrary.LayoutModel.Places.{Place}
+use Rattle.library_trees.specs.CellLibrary.LayoutTrees.{element_transform}
 use Rattle.ext_model.specs.ElementNames.{indexed_name}
 use Rattle.layout_gen.specs.Generated.{row_grid, stack_grid}
 use Rattle.library_trees.specs.ElementNames.{UseElement, array_element, use_elements}

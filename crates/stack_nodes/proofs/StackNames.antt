@@ -6,8 +6,8 @@ use Rattle.tech_model.specs.GeoCore.Images.{identity}
 use Rattle.tech_model.specs.declared.raw.RawTech.{RawTech}
 use Rattle.tech_model.specs.Rules.{HaveOwnSets}
 use Rattle.tech_model.specs.WellFormed.{IsWellFormed}
-use Rattle.cell_library.specs.LayoutModel.Layouts.{IsMaterial}
-use Rattle.cell_library.specs.LayoutModel.Places.{Place}
+use Rattle.library_trees.specs.CellLibrary.LayoutModel.Layouts.{IsMaterial}
+use Rattle.library_trees.specs.CellLibrary.LayoutModel.Places.{Place}
 use Rattle.ext_model.specs.ElementNames.{indexed_name}
 use Rattle.ext_model.specs.NodeNames.{is_global, slashes_in}
 use Rattle.ext_model.specs.Paths.{full_name, path_text}

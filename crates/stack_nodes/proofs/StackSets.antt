@@ -15,12 +15,12 @@ use Rattle.tech_model.proofs.GeoCore.CoveringLaws.{Covers-is_covered, is_covered
 use Rattle.tech_model.proofs.GeoCore.FiniteSets.Orders.{less_equal_or_greater}
 use Rattle.tech_model.proofs.JoinedLaws.{joined-found, joined-type}
 use Rattle.tech_model.proofs.SetLaws.{set_not_empty}
-use Rattle.cell_library.specs.LayoutModel.CellTrees.{place_back}
-use Rattle.cell_library.specs.LayoutModel.FlatSets.{flat_sets}
-use Rattle.cell_library.specs.LayoutModel.LayerTypes.{or_space}
-use Rattle.cell_library.specs.LayoutModel.Layouts.{IsMaterial}
-use Rattle.cell_library.specs.LayoutModel.Places.{Place}
-use Rattle.cell_library.specs.LayoutTrees.{element_transform}
+use Rattle.library_trees.specs.CellLibrary.LayoutModel.CellTrees.{place_back}
+use Rattle.library_trees.specs.CellLibrary.LayoutModel.FlatSets.{flat_sets}
+use Rattle.library_trees.specs.CellLibrary.LayoutModel.LayerTypes.{or_space}
+use Rattle.library_trees.specs.CellLibrary.LayoutModel.Layouts.{IsMaterial}
+use Rattle.library_trees.specs.CellLibrary.LayoutModel.Places.{Place}
+use Rattle.library_trees.specs.CellLibrary.LayoutTrees.{element_transform}
 use Rattle.layout_gen.specs.Generated.{row_grid, stack_grid, tile_layout}
 use Rattle.layout_gen.proofs.Sizes.{area_to}
 use Rattle.library_trees.specs.ElementNames.{UseElement, use_elements}

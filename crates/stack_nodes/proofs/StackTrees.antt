@@ -4,8 +4,8 @@ use Rattle.std.specs.Prelude.{Some, codes}
 use Rattle.std.proofs.lemmas.List.{get_or-append-add}
 use Rattle.tech_model.specs.GeoCore.Images.{identity}
 use Rattle.tech_model.specs.declared.raw.RawTech.{RawTech}
-use Rattle.cell_library.specs.CellTree.declared.limits.TheConstants.{MOST_DEPTH}
-use Rattle.cell_library.specs.Views.{CellView, LibraryView, no_cell, view_at}
+use Rattle.library_trees.specs.CellLibrary.CellTree.declared.limits.TheConstants.{MOST_DEPTH}
+use Rattle.library_trees.specs.CellLibrary.Views.{CellView, LibraryView, no_cell, view_at}
 use Rattle.layout_gen.specs.Generated.{array_cell, no_paint, row_grid, row_name, stack_grid, stack_name, tile_cell, tile_name, with_generated}
 use Rattle.library_trees.specs.ElementNames.{use_elements}
 use Rattle.library_trees.specs.NamedCells.{body_of, named_elements_at, named_elements_from, named_tree_at, named_tree_to}

@@ -14,8 +14,8 @@ use Rattle.tech_model.specs.Types.{image_on, images_of, is_within, layer_number,
 use Rattle.tech_model.specs.WellFormed.{IsWellFormed}
 use Rattle.tech_model.proofs.GeoCore.FiniteSets.Members.{In-get_or}
 use Rattle.tech_model.proofs.TypeLaws.{within_self}
-use Rattle.cell_library.specs.LayoutModel.Layouts.{IsMaterial}
-use Rattle.cell_library.specs.LayoutModel.Places.{Place}
+use Rattle.library_trees.specs.CellLibrary.LayoutModel.Layouts.{IsMaterial}
+use Rattle.library_trees.specs.CellLibrary.LayoutModel.Places.{Place}
 use Rattle.cell_paint.specs.Painting.{place_at}
 use Rattle.cell_paint.proofs.AgainLaws.{found_image}
 use Rattle.ext_model.specs.NodeNames.{is_naming_text}

@@ -12,8 +12,8 @@ use Rattle.tech_model.specs.Rules.{HaveOwnSets}
 use Rattle.tech_model.specs.Types.{images_of, plane_of}
 use Rattle.tech_model.specs.WellFormed.{IsWellFormed}
 use Rattle.tech_model.proofs.GeoCore.CoveringLaws.{Covers-is_covered}
-use Rattle.cell_library.specs.LayoutModel.Layouts.{IsMaterial, Layout}
-use Rattle.cell_library.specs.LayoutModel.Places.{Place}
+use Rattle.library_trees.specs.CellLibrary.LayoutModel.Layouts.{IsMaterial, Layout}
+use Rattle.library_trees.specs.CellLibrary.LayoutModel.Places.{Place}
 use Rattle.cell_paint.specs.Painting.{place_at, with_paint}
 use Rattle.cell_paint.proofs.PaintLaws.{changed_outside}
 use Rattle.layout_gen.specs.Generated.{diff_area, no_paint, poly_area, tile_layout}

@@ -3,7 +3,7 @@ use Rattle.std.specs.Prelude.{◌≤◌, ◌<◌, ◌^◌, ◌≤ℤ◌, ℕ, �
 use Rattle.std.specs.Int.RustNames.{unsigned_abs}
 use Rattle.tech_model.specs.GeoCore.FiniteSets.Lists.{In}
 use Rattle.tech_model.specs.GeoCore.FiniteSets.Total.{sum_on}
-use Rattle.cell_library.specs.Views.{LibraryView}
+use Rattle.library_trees.specs.CellLibrary.Views.{LibraryView}
 use Rattle.ext_model.specs.declared.circuits.Circuit.{Circuit}
 use Rattle.ext_model.specs.declared.records.NodeRec.{NodeRec}
 use Rattle.layout_gen.specs.declared.limits.TheConstants.{MOST_TILES}

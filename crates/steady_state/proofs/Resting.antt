@@ -3,8 +3,8 @@ use Rattle.std.proofs.Common.{◌≡◌, ◌≢◌, ℕ, ◌<◌, List, [], ◌�
 use Rattle.std.proofs.Common.{slice_index, slice_index_or, slice_set, get_or-set_other}
 use Rattle.std.specs.Prelude.{Contains}
 use Rattle.std.proofs.lemmas.Bool.{cases_Bool, cases_eq}
-use Rattle.finite_sets.specs.Lists.{In}
-use Rattle.finite_sets.proofs.Members.{In-append_left, In-index, In-push}
+use Rattle.switch_net.specs.FiniteSets.Lists.{In}
+use Rattle.switch_net.proofs.FiniteSets.Members.{In-append_left, In-index, In-push}
 use Rattle.switch_net.specs.declared.switches.Level.{Level}
 use Rattle.switch_net.specs.declared.switches.Level.TheVariants.{X}
 use Rattle.switch_net.specs.declared.switches.Switch.{Switch}

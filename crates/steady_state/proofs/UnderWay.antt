@@ -19,7 +19,7 @@ use Rattle.switch_net.specs.Terminals.{near_end, far_end}
 use Rattle.switch_net.specs.Sets.{IsInside}
 use Rattle.switch_net.proofs.Paths.{NotOvercome, unblocked-hop}
 use Rattle.switch_net.proofs.Ranges.{closed_or_more}
-use Rattle.finite_sets.specs.Lists.{In}
+use Rattle.switch_net.specs.FiniteSets.Lists.{In}
 
 pub joins : (side : Side) (w : Switch) → Joins w (near_end side w) (far_end side w)
 joins Left w = inl (refl, refl)

@@ -1,6 +1,6 @@
 -- Marked nodes.
 use Rattle.std.specs.Prelude.{◌≡◌, ℕ, ◌<◌, ◌≤◌, List, Bool, true, Option, IfSome, slice_index, slice_index_or, length}
-use Rattle.finite_sets.specs.Lists.{In}
+use Rattle.switch_net.specs.FiniteSets.Lists.{In}
 use Rattle.switch_net.specs.declared.node_set.NodeSet.{NodeSet}
 use Rattle.switch_net.specs.declared.switches.Level.{Level}
 use Rattle.switch_net.specs.declared.switches.Switch.{Switch}

@@ -1,3 +1,5 @@
+-- what crates above name of those below
+pub use Rattle.finite_sets.specs as FiniteSets
 pub mod Network
 pub mod Names
 pub mod Terminals

@@ -1,4 +1,5 @@
 -- what crates above name of those below
+pub use Rattle.geo_core.proofs.FiniteSets as FiniteSets
 pub use Rattle.geo_core.proofs as GeoCore
 mod LayerWordLaws
 mod PairTableLaws

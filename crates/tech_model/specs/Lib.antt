@@ -1,4 +1,5 @@
 -- what crates above name of those below
+pub use Rattle.geo_core.specs.FiniteSets as FiniteSets
 pub use Rattle.geo_core.specs as GeoCore
 pub mod ChannelRoles
 pub mod ColumnForms

@@ -12,20 +12,20 @@ use Rattle.ext_model.specs.Paths.{path_text}
 use Rattle.ext_model.specs.Plain.{plain}
 use Rattle.ext_model.specs.Tables.{Table, ext_of}
 use Rattle.layout_model.specs.CellTrees.{CellTree, Standing, place_back, standings, under}
-use Rattle.cell_library.specs.LayoutTrees.{own_cell, tree_at}
-use Rattle.cell_library.specs.Libraries.{LibraryParts, IsLawfulLibrary, seen}
-use Rattle.cell_library.specs.Views.{view_at}
-use Rattle.cell_library.proofs.LayoutTreeLaws.{tree_unfolds}
-use Rattle.cell_library.proofs.PlacedRects.{back_on, identity_back}
-use Rattle.library_trees.specs.TreeRecords.FetRecords.{IsOfNode}
-use Rattle.library_trees.specs.TreeRecords.MemberGroups.{IsGroupName}
-use Rattle.library_trees.specs.TreeRecords.NamedTrees.{NamedTree}
+use Rattle.element_paths.specs.CellLibrary.LayoutTrees.{own_cell, tree_at}
+use Rattle.element_paths.specs.CellLibrary.Libraries.{LibraryParts, IsLawfulLibrary, seen}
+use Rattle.element_paths.specs.CellLibrary.Views.{view_at}
+use Rattle.element_paths.proofs.CellLibrary.LayoutTreeLaws.{tree_unfolds}
+use Rattle.element_paths.proofs.CellLibrary.PlacedRects.{back_on, identity_back}
+use Rattle.element_paths.specs.LibraryTrees.TreeRecords.FetRecords.{IsOfNode}
+use Rattle.element_paths.specs.LibraryTrees.TreeRecords.MemberGroups.{IsGroupName}
+use Rattle.element_paths.specs.LibraryTrees.TreeRecords.NamedTrees.{NamedTree}
 use Rattle.tile_members.specs.GroupMeetings.Members.{IsMemberOfPart}
 use Rattle.tile_members.proofs.GroupMeetings.PartMembers.{member_at_part}
-use Rattle.library_trees.specs.NamedCells.{named_tree_at}
-use Rattle.library_trees.proofs.LayoutLaws.{layouts_of_cell}
-use Rattle.library_trees.proofs.WholeTrees.{named_tree_unfolds}
-use Rattle.library_trees.specs.KeptRecords.{HasKeptRecord}
+use Rattle.element_paths.specs.LibraryTrees.NamedCells.{named_tree_at}
+use Rattle.element_paths.proofs.LibraryTrees.LayoutLaws.{layouts_of_cell}
+use Rattle.element_paths.proofs.LibraryTrees.WholeTrees.{named_tree_unfolds}
+use Rattle.element_paths.specs.LibraryTrees.KeptRecords.{HasKeptRecord}
 use Rattle.element_paths.specs.declared.steps.Step.{Step}
 use Rattle.element_paths.specs.ElementPaths.{AreStepsTo, LeadsDown, NamedElement}
 use Rattle.tile_members.specs.GroupLaws.{RecordsTellGroups}

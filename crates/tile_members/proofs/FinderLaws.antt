@@ -3,10 +3,10 @@ use Rattle.std.proofs.Common.{◌≡◌, ◌+◌, ℕ, List, [], ◌∷◌, ◌+
 use Rattle.std.specs.Prelude.{slice_get}
 use Rattle.ext_model.specs.declared.tables.CellKey.{CellKey}
 use Rattle.ext_model.specs.Tables.{Table}
-use Rattle.cell_library.specs.declared.part_tiles.PartTile.{PartTile}
-use Rattle.cell_library.specs.LayoutTrees.{tree_at}
-use Rattle.cell_library.specs.Libraries.{LibraryParts, seen}
-use Rattle.library_trees.specs.NamedCells.{named_tree_at}
+use Rattle.element_paths.specs.CellLibrary.declared.part_tiles.PartTile.{PartTile}
+use Rattle.element_paths.specs.CellLibrary.LayoutTrees.{tree_at}
+use Rattle.element_paths.specs.CellLibrary.Libraries.{LibraryParts, seen}
+use Rattle.element_paths.specs.LibraryTrees.NamedCells.{named_tree_at}
 use Rattle.tile_members.specs.declared.finding.MemberFinder.{MemberFinder}
 use Rattle.tile_members.specs.declared.opened_cells.OpenedCells.{OpenedCells}
 use Rattle.tile_members.specs.steps.Finding.{HasMembers, IsFinderOf}

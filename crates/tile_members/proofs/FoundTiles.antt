@@ -12,16 +12,16 @@ use Rattle.ext_model.specs.declared.records.NodeRec.{NodeRec}
 use Rattle.ext_model.specs.Tables.{Table}
 use Rattle.tech_model.specs.declared.raw.RawTech.{RawTech}
 use Rattle.layout_model.specs.CellTrees.{CellTree, Standing, place_back, standings}
-use Rattle.cell_library.specs.declared.part_tiles.PartTile.{PartTile}
-use Rattle.cell_library.specs.LayoutTrees.{tree_at}
-use Rattle.cell_library.specs.Libraries.{LibraryParts, IsLawfulLibrary, seen}
-use Rattle.cell_library.specs.PartTiles.{IsPartTileIn}
-use Rattle.cell_library.specs.Views.{view_at}
-use Rattle.library_trees.specs.TreeRecords.FetRecords.{IsOfNode}
-use Rattle.library_trees.specs.TreeRecords.NamedTrees.{NamedTree, layouts_of}
+use Rattle.element_paths.specs.CellLibrary.declared.part_tiles.PartTile.{PartTile}
+use Rattle.element_paths.specs.CellLibrary.LayoutTrees.{tree_at}
+use Rattle.element_paths.specs.CellLibrary.Libraries.{LibraryParts, IsLawfulLibrary, seen}
+use Rattle.element_paths.specs.CellLibrary.PartTiles.{IsPartTileIn}
+use Rattle.element_paths.specs.CellLibrary.Views.{view_at}
+use Rattle.element_paths.specs.LibraryTrees.TreeRecords.FetRecords.{IsOfNode}
+use Rattle.element_paths.specs.LibraryTrees.TreeRecords.NamedTrees.{NamedTree, layouts_of}
 use Rattle.tile_members.specs.GroupMeetings.Members.{IsMemberOfPart}
-use Rattle.library_trees.specs.NamedCells.{named_tree_at}
-use Rattle.library_trees.proofs.LayoutLaws.{layouts_of_cell}
+use Rattle.element_paths.specs.LibraryTrees.NamedCells.{named_tree_at}
+use Rattle.element_paths.proofs.LibraryTrees.LayoutLaws.{layouts_of_cell}
 use Rattle.tile_members.specs.TileLaws.{MembersHaveWholeTiles}
 use Rattle.tile_members.specs.declared.opened_cells.OpenedCell.{OpenedCell}
 use Rattle.tile_members.specs.declared.opened_cells.OpenedCells.{OpenedCells}

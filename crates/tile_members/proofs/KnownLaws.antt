@@ -4,7 +4,7 @@ use Rattle.std.specs.Prelude.{slice_get}
 use Rattle.std.specs.HashMap.{get}
 use Rattle.std.proofs.lemmas.Bool.{cases_Bool, eqb-true}
 use Rattle.finite_sets.proofs.Places.{slice_get-append_left}
-use Rattle.cell_library.specs.Views.{LibraryView}
+use Rattle.element_paths.specs.CellLibrary.Views.{LibraryView}
 use Rattle.tile_members.specs.declared.known_members.KnownMembers.{KnownMembers}
 use Rattle.tile_members.specs.declared.opened_cells.OpenedCells.{OpenedCells}
 use Rattle.tile_members.specs.steps.KnownMembers.{AddsName, AddsNameOrNone, AreKnown, IsOfMember, same_key}

@@ -1,4 +1,5 @@
 -- what crates above name of those below
+pub use Rattle.element_paths.proofs as ElementPaths
 pub use Rattle.group_meetings.proofs as GroupMeetings
 mod StandingTypes
 mod WholeTiles

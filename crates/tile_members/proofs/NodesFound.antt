@@ -14,13 +14,13 @@ use Rattle.layout_model.specs.declared.region_tiles.RegionTile.{RegionTile}
 use Rattle.layout_model.specs.Layouts.{IsMaterial}
 use Rattle.layout_model.specs.Places.{Place, IsNoLater}
 use Rattle.layout_model.specs.RegionTiles.{IsInRegion}
-use Rattle.names.specs.NamedNodes.{AreOneNamedNode}
-use Rattle.cell_nodes.proofs.NodePlaces.{AreOneNamedNode-sym}
+use Rattle.group_meetings.specs.Names.NamedNodes.{AreOneNamedNode}
+use Rattle.group_meetings.proofs.CellNodes.NodePlaces.{AreOneNamedNode-sym}
 use Rattle.layout_model.specs.CellTrees.{place_back}
-use Rattle.cell_library.specs.declared.part_tiles.PartTile.{PartTile}
-use Rattle.cell_library.specs.Libraries.{LibraryParts, seen}
-use Rattle.cell_library.specs.Views.{LibraryView, view_at}
-use Rattle.library_trees.proofs.OwnRecordLaws.PreferredNames.{preferred_is_first}
+use Rattle.element_paths.specs.CellLibrary.declared.part_tiles.PartTile.{PartTile}
+use Rattle.element_paths.specs.CellLibrary.Libraries.{LibraryParts, seen}
+use Rattle.element_paths.specs.CellLibrary.Views.{LibraryView, view_at}
+use Rattle.element_paths.proofs.LibraryTrees.OwnRecordLaws.PreferredNames.{preferred_is_first}
 use Rattle.tile_members.specs.declared.opened_cells.OpenedCell.{OpenedCell}
 use Rattle.tile_members.specs.declared.opened_cells.OpenedCells.{OpenedCells}
 use Rattle.tile_members.specs.steps.OpenedCells.{AreOpened, HasNodeAt, HasOpenNode, HasOwnCorner, HasTileAt, IsNumberAt, IsOpened, corner_place}

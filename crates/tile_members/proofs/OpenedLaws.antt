@@ -19,7 +19,7 @@ use Rattle.layout_model.specs.declared.region_tiles.RegionTile.{RegionTile}
 use Rattle.layout_model.specs.Places.{Place}
 use Rattle.layout_model.specs.RegionTiles.{LiesIn}
 use Rattle.rect_trees.specs.Meetings.{AreMeeting}
-use Rattle.cell_library.specs.Views.{LibraryView}
+use Rattle.element_paths.specs.CellLibrary.Views.{LibraryView}
 use Rattle.tile_members.specs.declared.opened_cells.OpenedCell.{OpenedCell}
 use Rattle.tile_members.specs.declared.opened_cells.OpenedCells.{OpenedCells}
 use Rattle.tile_members.specs.steps.OpenedCells.{AreOpened, HasTileAt, IsNumberAt, IsOpened, IsSearchable, unit_at}

@@ -8,20 +8,20 @@ use Rattle.geo_core.specs.declared.transforms.Transform.{Transform}
 use Rattle.geo_core.specs.Images.{composed, identity}
 use Rattle.geo_core.specs.Reach.{MovesInReach}
 use Rattle.layout_model.specs.CellTrees.{CellTree, Elements, Standing, standings}
-use Rattle.cell_tree.specs.declared.limits.TheConstants.{MOST_DEPTH}
-use Rattle.cell_tree.specs.declared.use_tables.UseBody.{UseBody}
-use Rattle.cell_tree.specs.Trees.{cell_at}
-use Rattle.cell_tree.specs.Uses.{displacements, IsLawfulUse}
-use Rattle.cell_library.specs.LayoutTrees.{element_transform, elements_at, elements_from, own_cell, tree_at, tree_to}
-use Rattle.cell_library.specs.Libraries.{LibraryParts, IsLawfulLibrary, seen}
-use Rattle.cell_library.specs.Spots.{HasRoomToMove}
-use Rattle.cell_library.specs.Views.{view_at}
-use Rattle.cell_library.specs.steps.VisitedTiles.{placed_below, placed_cells}
-use Rattle.cell_library.proofs.GridSpots.{element_moves, room_below, room_in_reach}
-use Rattle.cell_library.proofs.LayoutTreeLaws.{children_are_cells, uses_seen, state_is}
-use Rattle.cell_library.proofs.PlacedCells.{standings_placed}
-use Rattle.cell_library.proofs.VisitLaws.{top_can_be_visited}
-use Rattle.library_trees.proofs.WholeTrees.{UsesWithIds}
+use Rattle.element_paths.specs.CellTree.declared.limits.TheConstants.{MOST_DEPTH}
+use Rattle.element_paths.specs.CellTree.declared.use_tables.UseBody.{UseBody}
+use Rattle.element_paths.specs.CellTree.Trees.{cell_at}
+use Rattle.element_paths.specs.CellTree.Uses.{displacements, IsLawfulUse}
+use Rattle.element_paths.specs.CellLibrary.LayoutTrees.{element_transform, elements_at, elements_from, own_cell, tree_at, tree_to}
+use Rattle.element_paths.specs.CellLibrary.Libraries.{LibraryParts, IsLawfulLibrary, seen}
+use Rattle.element_paths.specs.CellLibrary.Spots.{HasRoomToMove}
+use Rattle.element_paths.specs.CellLibrary.Views.{view_at}
+use Rattle.element_paths.specs.CellLibrary.steps.VisitedTiles.{placed_below, placed_cells}
+use Rattle.element_paths.proofs.CellLibrary.GridSpots.{element_moves, room_below, room_in_reach}
+use Rattle.element_paths.proofs.CellLibrary.LayoutTreeLaws.{children_are_cells, uses_seen, state_is}
+use Rattle.element_paths.proofs.CellLibrary.PlacedCells.{standings_placed}
+use Rattle.element_paths.proofs.CellLibrary.VisitLaws.{top_can_be_visited}
+use Rattle.element_paths.proofs.LibraryTrees.WholeTrees.{UsesWithIds}
 
 -- The cell that stands there is one of the library, and moved in reach.
 pub record IsStandingCell (library : LibraryParts) (standing : Standing) : Type 0 where

@@ -21,7 +21,7 @@ use Rattle.group_meetings.specs.Offences.Offences.{SetLayout, joined_at}
 use Rattle.group_meetings.specs.HierarchyModel.CleanCells.{IsClean, AreClean}
 use Rattle.group_meetings.proofs.HierarchyModel.CleanLaws.{own_within}
 use Rattle.group_meetings.proofs.HierarchyModel.KindLaws.{type_in_layout}
-use Rattle.cell_library.proofs.PlacedRects.{back_on, identity_back}
+use Rattle.element_paths.proofs.CellLibrary.PlacedRects.{back_on, identity_back}
 
 -- the own type of a standing cell at a place of the cell above
 abbrev pub type_there : Standing → Place → ℕ

@@ -15,18 +15,18 @@ use Rattle.geo_core.proofs.CoveringLaws.{corner_covered}
 use Rattle.layout_model.specs.Layouts.{Layout, IsMaterial}
 use Rattle.layout_model.specs.Places.{Place}
 use Rattle.layout_model.specs.CellTrees.{Standing, place_back, standings}
-use Rattle.cell_tree.specs.declared.limits.TheConstants.{MOST_DEPTH}
-use Rattle.cell_tree.specs.Hulls.{SpansInRange}
-use Rattle.cell_library.specs.declared.part_tiles.PartTile.{PartTile}
-use Rattle.cell_library.specs.LayoutTrees.{tree_at, tree_to}
-use Rattle.cell_library.specs.Libraries.{LibraryParts, IsLawfulLibrary, seen}
-use Rattle.cell_library.specs.steps.VisitedTiles.{HasThere, IsCutOf, placed_cells}
-use Rattle.cell_library.specs.Views.{view_at}
-use Rattle.cell_library.proofs.HullsHoldMaterial.{hull_holds_material}
-use Rattle.cell_library.proofs.PlacedCells.{placed_has, standings_placed}
-use Rattle.cell_library.proofs.PlacedRects.{identity_back}
-use Rattle.cell_library.proofs.ToldTiles.{cut_type}
-use Rattle.cell_library.proofs.VisitLaws.{hull_spans}
+use Rattle.element_paths.specs.CellTree.declared.limits.TheConstants.{MOST_DEPTH}
+use Rattle.element_paths.specs.CellTree.Hulls.{SpansInRange}
+use Rattle.element_paths.specs.CellLibrary.declared.part_tiles.PartTile.{PartTile}
+use Rattle.element_paths.specs.CellLibrary.LayoutTrees.{tree_at, tree_to}
+use Rattle.element_paths.specs.CellLibrary.Libraries.{LibraryParts, IsLawfulLibrary, seen}
+use Rattle.element_paths.specs.CellLibrary.steps.VisitedTiles.{HasThere, IsCutOf, placed_cells}
+use Rattle.element_paths.specs.CellLibrary.Views.{view_at}
+use Rattle.element_paths.proofs.CellLibrary.HullsHoldMaterial.{hull_holds_material}
+use Rattle.element_paths.proofs.CellLibrary.PlacedCells.{placed_has, standings_placed}
+use Rattle.element_paths.proofs.CellLibrary.PlacedRects.{identity_back}
+use Rattle.element_paths.proofs.CellLibrary.ToldTiles.{cut_type}
+use Rattle.element_paths.proofs.CellLibrary.VisitLaws.{hull_spans}
 use Rattle.tile_members.specs.TileLaws.{LiesInPartTile}
 use Rattle.tile_members.specs.steps.OpenedCells.{HasOwnCorner, corner_place}
 use Rattle.tile_members.specs.TileMembers.{IsPartTile}

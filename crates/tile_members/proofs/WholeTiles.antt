@@ -25,8 +25,8 @@ use Rattle.group_meetings.specs.Offences.Offences.{SetLayout}
 use Rattle.group_meetings.proofs.FloodNodes.Walks.{StepsIn, walk}
 use Rattle.group_meetings.specs.TreeRecords.NamedTrees.{NamedTree, layouts_of}
 use Rattle.group_meetings.specs.TreeNames.CleanTrees.{IsCleanTree}
-use Rattle.cell_library.specs.declared.part_tiles.PartTile.{PartTile}
-use Rattle.cell_library.specs.PartTiles.{IsPartTileIn}
+use Rattle.element_paths.specs.CellLibrary.declared.part_tiles.PartTile.{PartTile}
+use Rattle.element_paths.specs.CellLibrary.PartTiles.{IsPartTileIn}
 use Rattle.group_meetings.specs.MeetingLaws.PartLayouts.{part_layout}
 use Rattle.group_meetings.specs.Members.{tree_parts, IsMemberOfPart}
 use Rattle.group_meetings.proofs.MemberSteps.{member_along_link}

@@ -1,4 +1,6 @@
 -- what crates above name of those below
+pub use Rattle.element_paths.specs as ElementPaths
+pub use Rattle.element_paths.specs.LibraryTrees as LibraryTrees
 pub use Rattle.group_meetings.specs as GroupMeetings
 pub mod TileLaws
 pub mod MergedMembers

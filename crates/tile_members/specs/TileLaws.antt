@@ -9,8 +9,8 @@ use Rattle.layout_model.specs.Places.{Place}
 use Rattle.group_meetings.specs.TreeRecords.NamedTrees.{NamedTree, layouts_of}
 use Rattle.group_meetings.specs.Members.{IsMemberOfPart}
 use Rattle.group_meetings.specs.TreeNames.CleanTrees.{IsCleanTree}
-use Rattle.cell_library.specs.declared.part_tiles.PartTile.{PartTile}
-use Rattle.cell_library.specs.PartTiles.{IsPartTileIn}
+use Rattle.element_paths.specs.CellLibrary.declared.part_tiles.PartTile.{PartTile}
+use Rattle.element_paths.specs.CellLibrary.PartTiles.{IsPartTileIn}
 
 -- The place lies in the tile.
 pub record LiesInPartTile (tile : PartTile) (place : Place) : Type 0 where

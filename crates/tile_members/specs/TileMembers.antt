@@ -5,9 +5,9 @@ use Rattle.geo_core.specs.declared.squares.Rect.{Rect}
 use Rattle.tech_model.specs.declared.raw.RawTech.{RawTech}
 use Rattle.layout_model.specs.Places.{Place}
 use Rattle.layout_model.specs.CellTrees.{CellTree}
-use Rattle.cell_library.specs.declared.part_tiles.PartTile.{PartTile}
-use Rattle.cell_library.specs.PartTiles.{IsPartTileIn}
-use Rattle.library_trees.specs.TreeRecords.NamedTrees.{NamedTree}
+use Rattle.element_paths.specs.CellLibrary.declared.part_tiles.PartTile.{PartTile}
+use Rattle.element_paths.specs.CellLibrary.PartTiles.{IsPartTileIn}
+use Rattle.element_paths.specs.LibraryTrees.TreeRecords.NamedTrees.{NamedTree}
 use Rattle.tile_members.specs.GroupMeetings.Members.{IsMemberOfPart}
 use Rattle.tile_members.specs.TileLaws.{LiesInPartTile}
 

@@ -1,9 +1,9 @@
 //! Finding the members that have tiles.
 ghost use Rattle.std.specs.Prelude.{◌≡◌, ◌+◌, ◌≤◌, [], IfOk};
 ghost use Rattle.finite_sets.specs.Lists.{Distinct};
-ghost use Rattle.cell_library.specs.LayoutTrees.{tree_at};
-ghost use Rattle.cell_library.specs.Libraries.{seen};
-ghost use Rattle.library_trees.specs.NamedCells.{named_tree_at};
+ghost use Rattle.element_paths.specs.CellLibrary.LayoutTrees.{tree_at};
+ghost use Rattle.element_paths.specs.CellLibrary.Libraries.{seen};
+ghost use Rattle.element_paths.specs.LibraryTrees.NamedCells.{named_tree_at};
 ghost use Rattle.tile_members.specs.steps.Finding.{HasMembers, IsFinderOf};
 ghost use Rattle.tile_members.specs.steps.KnownMembers.{AddsNameOrNone, IsOfMember};
 ghost use Rattle.tile_members.specs.steps.OpenedCells.{HasOpenNode};
@@ -13,7 +13,7 @@ use crate::known_members::KnownMembers;
 use crate::member_names::MemberNames;
 use crate::members_have_whole_tiles;
 use crate::opened_cells::OpenedCells;
-use cell_library::{Opened, PartTile, Reader};
+use element_paths::cell_library::{Opened, PartTile, Reader};
 use ext_model::{CellKey, ExtTable};
 use names_lists::Name;
 use std::alloc::{AllocError, Global};

@@ -46,6 +46,9 @@
 ghost use Rattle.tile_members.specs.GroupLaws.{RecordsTellGroups};
 ghost use Rattle.tile_members.specs.TileLaws.{MembersHaveWholeTiles};
 
+pub use element_paths;
+pub use element_paths::library_trees;
+pub use group_meetings;
 use tech_model::Tech;
 
 mod finding;

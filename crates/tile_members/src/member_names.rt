@@ -2,15 +2,15 @@
 ghost use Rattle.std.specs.Prelude.{◌≡◌, ◌<◌, [], ℕ, All, IfOk, IsSome, length};
 ghost use Rattle.layout_model.specs.CellTrees.{standings};
 ghost use Rattle.ext_model.specs.Tables.{ext_of};
-ghost use Rattle.cell_library.specs.LayoutTrees.{tree_at};
-ghost use Rattle.cell_library.specs.Libraries.{seen};
+ghost use Rattle.element_paths.specs.CellLibrary.LayoutTrees.{tree_at};
+ghost use Rattle.element_paths.specs.CellLibrary.Libraries.{seen};
 ghost use Rattle.element_paths.specs.ElementPaths.{AreStepsTo};
 ghost use Rattle.tile_members.specs.steps.Finding.{HasMembers};
 ghost use Rattle.tile_members.specs.steps.MemberNames.{kept_in, AreGroupsOf, LeadsToMember};
 
 use crate::group_tables::GroupTable;
 use crate::records_tell_groups;
-use cell_library::Reader;
+use element_paths::cell_library::Reader;
 use element_paths::{ElementPaths, Step};
 use ext_model::{CellKey, ExtTable};
 use names_lists::Name;

@@ -1,17 +1,17 @@
 //! The members that have tiles of the parts of a cell.
 ghost use Rattle.std.specs.Prelude.{◌≤◌, ◌+◌, ◌<◌, All, IfOk, length};
-ghost use Rattle.library_trees.specs.HierarchyModel.CleanCells.{IsClean};
+ghost use Rattle.element_paths.specs.LibraryTrees.HierarchyModel.CleanCells.{IsClean};
 ghost use Rattle.ext_model.specs.Tables.{ext_of};
-ghost use Rattle.cell_library.specs.LayoutTrees.{tree_at};
-ghost use Rattle.cell_library.specs.Libraries.{seen};
-ghost use Rattle.library_trees.specs.NamedCells.{named_tree_at};
-ghost use Rattle.library_trees.specs.KeptRecords.{HaveKeptRecordsBelow};
+ghost use Rattle.element_paths.specs.CellLibrary.LayoutTrees.{tree_at};
+ghost use Rattle.element_paths.specs.CellLibrary.Libraries.{seen};
+ghost use Rattle.element_paths.specs.LibraryTrees.NamedCells.{named_tree_at};
+ghost use Rattle.element_paths.specs.LibraryTrees.KeptRecords.{HaveKeptRecordsBelow};
 ghost use Rattle.tile_members.specs.TileMembers.{AreTileMembers, IsPartTile};
 
 use crate::finding::MemberFinder;
-use cell_library::{Opened, PartTile, Reader};
+use element_paths::cell_library::{Opened, PartTile, Reader};
+use element_paths::library_trees::clean_cell_has_clean_tree;
 use ext_model::{CellKey, ExtTable};
-use library_trees::clean_cell_has_clean_tree;
 use names_lists::Name;
 use std::alloc::{AllocError, Global};
 use std::sync::ledger::Ledger;

@@ -2,17 +2,17 @@
 ghost use Rattle.std.specs.Prelude.{◌≡◌, ◌+◌, ◌<◌, ◌≤◌, [], length, map, nat_eq, slice_get, IfOk, IsSome, OnOk, Some};
 ghost use Rattle.std.specs.HashMap.{get as entry_at};
 ghost use Rattle.std.specs.Option.{option_map};
-ghost use Rattle.cell_library.specs.Libraries.{seen};
+ghost use Rattle.element_paths.specs.CellLibrary.Libraries.{seen};
 ghost use Rattle.geo_core.specs.Areas.{corner_of};
 ghost use Rattle.geo_core.specs.Images.{image, inverted};
 ghost use Rattle.geo_core.specs.Reach.{LiesInReach, MovesInReach};
 ghost use Rattle.tile_members.specs.steps.OpenedCells.{unit_at, AreOpened, HasOpenNode, HasOwnCorner, HasTileAt, IsNumberAt, IsOpened, IsSearchable};
 ghost use Rattle.tile_members.specs.steps.OpenedCells.{KeepOpened};
 
-use cell_library::{Opened, PartTile, Reader};
-use cell_nodes::{CellRegions, cell_regions};
+use element_paths::cell_library::{Opened, PartTile, Reader};
 use ext_model::CellKey;
 use geo_core::{Rect, Square};
+use group_meetings::cell_nodes::{CellRegions, cell_regions};
 use layout_model::RegionTile;
 use names_lists::Name;
 use rect_trees::RectTree;

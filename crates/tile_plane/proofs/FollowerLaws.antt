@@ -7,11 +7,11 @@ use Rattle.std.specs.Int.{int_min}
 use Rattle.std.specs.Slice.{IsItemAt}
 use Rattle.std.proofs.lemmas.Int.{ints, clamps, by_lt_z}
 use Rattle.std.proofs.lemmas.List.{append-nil, append_assoc}
-use Rattle.finite_sets.specs.Lists.{In, Lists}
-use Rattle.finite_sets.specs.Range.{extent}
-use Rattle.finite_sets.proofs.Distincts.{Distinct-push}
-use Rattle.finite_sets.proofs.Listings.{Lists-none}
-use Rattle.finite_sets.proofs.Members.{In-append_left, In-push, In-push_cases}
+use Rattle.geo_core.specs.FiniteSets.Lists.{In, Lists}
+use Rattle.geo_core.specs.FiniteSets.Range.{extent}
+use Rattle.geo_core.proofs.FiniteSets.Distincts.{Distinct-push}
+use Rattle.geo_core.proofs.FiniteSets.Listings.{Lists-none}
+use Rattle.geo_core.proofs.FiniteSets.Members.{In-append_left, In-push, In-push_cases}
 use Rattle.geo_core.specs.declared.squares.Rect.{Rect}
 use Rattle.geo_core.specs.Areas.{corner_of, IsNear, LiesWithin}
 use Rattle.geo_core.specs.Covering.{Covers, IsProper}

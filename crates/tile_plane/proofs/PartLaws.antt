@@ -6,11 +6,11 @@ use Rattle.std.specs.List.Sorted.{IsSortedByKey}
 use Rattle.std.proofs.lemmas.Int.{ints}
 use Rattle.std.proofs.lemmas.List.{map-append, take_more, take_all, get_or-take, length-take-le}
 use Rattle.std.proofs.lemmas.List.Sorted.{IsPermutation-sym}
-use Rattle.finite_sets.specs.Lists.{In, Distinct, Lists}
-use Rattle.finite_sets.proofs.Members.{In-append_left, In-append_right, In-append_cases, In-push_cases, In-push, In-map, In-map_source, In-filter}
-use Rattle.finite_sets.proofs.Members.{In-filter_source, In-filter_passes, In-get_or, In-index, In-permutation}
-use Rattle.finite_sets.proofs.Pairs.{Pairwise, Pairwise-append, Pairwise-filter, Pairwise-map, AllPairs-from_Pairwise, AllPairs-permutation}
-use Rattle.finite_sets.proofs.Searches.{All-from_In}
+use Rattle.geo_core.specs.FiniteSets.Lists.{In, Distinct, Lists}
+use Rattle.geo_core.proofs.FiniteSets.Members.{In-append_left, In-append_right, In-append_cases, In-push_cases, In-push, In-map, In-map_source, In-filter}
+use Rattle.geo_core.proofs.FiniteSets.Members.{In-filter_source, In-filter_passes, In-get_or, In-index, In-permutation}
+use Rattle.geo_core.proofs.FiniteSets.Pairs.{Pairwise, Pairwise-append, Pairwise-filter, Pairwise-map, AllPairs-from_Pairwise, AllPairs-permutation}
+use Rattle.geo_core.proofs.FiniteSets.Searches.{All-from_In}
 use Rattle.geo_core.specs.declared.squares.Square.{Square}
 use Rattle.geo_core.specs.declared.squares.Rect.{Rect}
 use Rattle.geo_core.specs.declared.squares.Piece.{Piece}

@@ -3,10 +3,10 @@ use Rattle.std.proofs.Common.{◌≡◌, ◌⊎◌, inl, inr, ℕ, zero, suc, �
 use Rattle.std.proofs.Common.{◌∙◌, subst, arith}
 use Rattle.std.proofs.lemmas.Int.{ints, clamps, by_lt_z}
 use Rattle.std.proofs.lemmas.List.{get_or_default, take_all, take-append-le, take_more, get_or-take, length-take-le}
-use Rattle.finite_sets.specs.Lists.{In, Distinct, Lists}
-use Rattle.finite_sets.specs.Range.{extent}
-use Rattle.finite_sets.proofs.Distincts.{Distinct-append, Distinct-places}
-use Rattle.finite_sets.proofs.Members.{In-append_left, In-append_right, In-append_cases, In-push_cases, In-index}
+use Rattle.geo_core.specs.FiniteSets.Lists.{In, Distinct, Lists}
+use Rattle.geo_core.specs.FiniteSets.Range.{extent}
+use Rattle.geo_core.proofs.FiniteSets.Distincts.{Distinct-append, Distinct-places}
+use Rattle.geo_core.proofs.FiniteSets.Members.{In-append_left, In-append_right, In-append_cases, In-push_cases, In-index}
 use Rattle.geo_core.specs.declared.squares.Rect.{Rect}
 use Rattle.geo_core.specs.Areas.{LiesWithin}
 use Rattle.geo_core.specs.Planes.{plane_range}

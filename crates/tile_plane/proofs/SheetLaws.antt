@@ -3,7 +3,7 @@ use Rattle.std.proofs.Common.{◌≡◌, inl, inr, ℕ, ◌+◌, ◌<◌, List, 
 use Rattle.std.proofs.Common.{arith}
 use Rattle.std.specs.Prelude.{AllPairs, IfSome}
 use Rattle.std.proofs.lemmas.List.{take_more, get_or-take, length-take-le}
-use Rattle.finite_sets.proofs.Members.{In-index}
+use Rattle.geo_core.proofs.FiniteSets.Members.{In-index}
 use Rattle.geo_core.specs.declared.squares.Square.{Square}
 use Rattle.geo_core.specs.declared.squares.Piece.{Piece}
 use Rattle.geo_core.specs.Areas.{AreDisjoint, IsNear}

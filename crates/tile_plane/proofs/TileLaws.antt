@@ -8,7 +8,7 @@ use Rattle.std.specs.Ordering.{nat_cmp, eq_by_cmp}
 use Rattle.std.specs.Cmp.{nat_cmp_total, unsigned_tied}
 use Rattle.std.specs.FinMap as fin_map
 use Rattle.tile_arena.proofs.LiveLaws.{tied_other}
-use Rattle.finite_sets.specs.Lists.{In}
+use Rattle.geo_core.specs.FiniteSets.Lists.{In}
 use Rattle.geo_core.specs.declared.squares.Square.{Square}
 use Rattle.geo_core.specs.Covering.{IsProper}
 use Rattle.tile_plane.specs.declared.tiles.Tile.{Tile}

@@ -1,8 +1,8 @@
 -- Walks from tile to tile: each step is nearer to the end, and a walk along the side of a tile keeps to it.
 use Rattle.std.proofs.Common.{◌≡◌, ℕ, ◌<◌, ℤ, pos, ◌+ℤ◌, ◌-ℤ◌, ◌≤ℤ◌, ◌<ℤ◌, FitsSigned, w64, to_z, of_z, refl, ap, subst, arith}
 use Rattle.std.proofs.lemmas.Int.{ints, by_lt_z, to_z-of_z}
-use Rattle.finite_sets.specs.Range.{extent}
-use Rattle.finite_sets.proofs.Ranges.{extent_up, extent_none}
+use Rattle.geo_core.specs.FiniteSets.Range.{extent}
+use Rattle.geo_core.proofs.FiniteSets.Ranges.{extent_up, extent_none}
 use Rattle.geo_core.specs.declared.squares.Rect.{Rect}
 use Rattle.geo_core.specs.Areas.{LiesWithin}
 use Rattle.geo_core.specs.Covering.{Covers, IsProper}

@@ -8,9 +8,9 @@ use Rattle.std.proofs.lemmas.Bool.{cases_lt, cases_eq}
 use Rattle.std.proofs.lemmas.Int.{ints}
 use Rattle.std.proofs.lemmas.List.{get_or-map, length-map, map-append}
 use Rattle.std.proofs.lemmas.List.Sorted.{IsPermutation-sym}
-use Rattle.finite_sets.specs.Lists.{In, Lists}
-use Rattle.finite_sets.proofs.Members.{In-map, In-map_source, In-get_or, In-permutation}
-use Rattle.finite_sets.proofs.Pairs.{AllPairs-from_Pairwise, AllPairs-permutation}
+use Rattle.geo_core.specs.FiniteSets.Lists.{In, Lists}
+use Rattle.geo_core.proofs.FiniteSets.Members.{In-map, In-map_source, In-get_or, In-permutation}
+use Rattle.geo_core.proofs.FiniteSets.Pairs.{AllPairs-from_Pairwise, AllPairs-permutation}
 use Rattle.geo_core.specs.declared.squares.Square.{Square}
 use Rattle.geo_core.specs.declared.squares.Rect.{Rect}
 use Rattle.geo_core.specs.declared.squares.Piece.{Piece}

@@ -1,7 +1,7 @@
 -- Lists of tiles, and of their parts in given areas.
 use Rattle.std.specs.Prelude.{◌≡◌, ℕ, ℤ, pos, ◌-ℤ◌, ◌≤ℤ◌, ◌<ℤ◌, List, ◌++◌, map, All, AllPairs}
 use Rattle.std.specs.Int.{int_max}
-use Rattle.finite_sets.specs.Lists.{In, Lists}
+use Rattle.geo_core.specs.FiniteSets.Lists.{In, Lists}
 use Rattle.geo_core.specs.declared.squares.Square.{Square}
 use Rattle.geo_core.specs.declared.squares.Rect.{Rect}
 use Rattle.geo_core.specs.declared.squares.Piece.{Piece}

@@ -1,6 +1,6 @@
 //! Lists of tiles.
 ghost use Rattle.std.specs.Prelude.{◌≡◌, ◌≢◌, pos, ◌-ℤ◌, ◌≤ℤ◌, ◌<ℤ◌, All, AllPairs, IfOk, OnOk, IfSome, MatchOption};
-ghost use Rattle.finite_sets.specs.Lists.{Lists};
+ghost use Rattle.geo_core.specs.FiniteSets.Lists.{Lists};
 ghost use Rattle.geo_core.specs.declared.squares.Square.{Square as OneSquare};
 ghost use Rattle.geo_core.specs.Areas.{corner_of, AreDisjoint, IsNear};
 ghost use Rattle.geo_core.specs.Covering.{IsProper};

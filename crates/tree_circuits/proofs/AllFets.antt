@@ -6,19 +6,19 @@ use Rattle.finite_sets.proofs.Members.{In-append_cases, In-append_left, In-appen
 use Rattle.finite_sets.proofs.Pairs.{AllPairs-from_Pairwise, Pairwise, Pairwise-append}
 use Rattle.finite_sets.proofs.OneForOne.{AreOneForOne-append, AreOneForOne-length}
 use Rattle.finite_sets.specs.OneForOne.{AreOneForOne}
-use Rattle.tech_model.specs.declared.raw.RawTech.{RawTech}
-use Rattle.tech_model.specs.ChannelRoles.{is_channel}
-use Rattle.tech_model.specs.WellFormed.{IsWellFormed}
-use Rattle.ext_model.specs.declared.records.FetRec.{FetRec}
-use Rattle.ext_model.specs.declared.records.NodeRec.{NodeRec}
-use Rattle.layout_model.specs.Places.{Place}
-use Rattle.layout_model.specs.Transistors.{AreOneChannel}
-use Rattle.layout_model.specs.CellTrees.{place_back}
-use Rattle.circuit_model.specs.Elements.{Element}
-use Rattle.circuit_model.specs.FlatFets.{AreFlatFets, fets_in, fets_of}
-use Rattle.tree_records.specs.FlatLayouts.{flat_layout}
-use Rattle.tree_records.specs.NamedTrees.{NamedTree, NamedStanding, named_standings, place_forth}
-use Rattle.tree_records.proofs.MoveLaws.{above_from_back}
+use Rattle.tree_names.specs.TechModel.declared.raw.RawTech.{RawTech}
+use Rattle.tree_names.specs.TechModel.ChannelRoles.{is_channel}
+use Rattle.tree_names.specs.TechModel.WellFormed.{IsWellFormed}
+use Rattle.tree_names.specs.ExtModel.declared.records.FetRec.{FetRec}
+use Rattle.tree_names.specs.ExtModel.declared.records.NodeRec.{NodeRec}
+use Rattle.tree_names.specs.LayoutModel.Places.{Place}
+use Rattle.tree_names.specs.LayoutModel.Transistors.{AreOneChannel}
+use Rattle.tree_names.specs.LayoutModel.CellTrees.{place_back}
+use Rattle.tree_names.specs.CircuitModel.Elements.{Element}
+use Rattle.tree_names.specs.CircuitModel.FlatFets.{AreFlatFets, fets_in, fets_of}
+use Rattle.tree_names.specs.TreeRecords.FlatLayouts.{flat_layout}
+use Rattle.tree_names.specs.TreeRecords.NamedTrees.{NamedTree, NamedStanding, named_standings, place_forth}
+use Rattle.tree_names.proofs.TreeRecords.MoveLaws.{above_from_back}
 use Rattle.tree_names.specs.TreeRecords.TreeCircuits.{AreFlatFetRecords, IsFetBefore, IsFlatFetRecord, IsOwnedFet, OwnedFet}
 use Rattle.tree_circuits.specs.Channels.{OwnsItsChannels}
 use Rattle.tree_circuits.proofs.FetElements.{GiveFlatNames, HasFetsOf}

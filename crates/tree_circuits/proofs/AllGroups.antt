@@ -13,11 +13,11 @@ use Rattle.finite_sets.proofs.Members.{In-append_cases, In-append_left, In-appen
 use Rattle.finite_sets.proofs.Pairs.{Pairwise, Pairwise-from_AllPairs}
 use Rattle.finite_sets.proofs.Sums.{sum_on-append, sum_on-nothing}
 use Rattle.finite_sets.proofs.Images.{In-flat_map, In-flat_map_source}
-use Rattle.tech_model.specs.declared.raw.RawTech.{RawTech}
-use Rattle.ext_model.specs.declared.records.MergeRec.{MergeRec}
-use Rattle.layout_model.specs.Layouts.{IsMaterial}
-use Rattle.layout_model.specs.Places.{Place}
-use Rattle.layout_model.specs.Technologies.{rules_of}
+use Rattle.tree_names.specs.TechModel.declared.raw.RawTech.{RawTech}
+use Rattle.tree_names.specs.ExtModel.declared.records.MergeRec.{MergeRec}
+use Rattle.tree_names.specs.LayoutModel.Layouts.{IsMaterial}
+use Rattle.tree_names.specs.LayoutModel.Places.{Place}
+use Rattle.tree_names.specs.LayoutModel.Technologies.{rules_of}
 use Rattle.tree_names.specs.TreeRecords.FetRecords.{IsNameBefore}
 use Rattle.tree_names.specs.TreeRecords.FlatLayouts.{flat_layout}
 use Rattle.tree_names.specs.TreeRecords.MemberGroups.{AreOneGroup, IsGroupName, IsMemberAt}

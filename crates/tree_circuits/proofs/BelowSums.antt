@@ -6,13 +6,13 @@ use Rattle.finite_sets.proofs.Distincts.{Distinct-append}
 use Rattle.finite_sets.proofs.Members.{In-append_cases, In-append_left, In-append_right, In-map, In-map_source}
 use Rattle.finite_sets.proofs.Sums.{sum_on-append, sum_on-map}
 use Rattle.finite_sets.proofs.Totals.{Total-unique}
-use Rattle.tech_model.specs.declared.raw.RawTech.{RawTech}
-use Rattle.ext_model.specs.NodeNames.{slashes_in}
-use Rattle.ext_model.specs.Paths.{path_text}
-use Rattle.ext_model.specs.declared.records.CellExt.{CellExt}
+use Rattle.tree_names.specs.TechModel.declared.raw.RawTech.{RawTech}
+use Rattle.tree_names.specs.ExtModel.NodeNames.{slashes_in}
+use Rattle.tree_names.specs.ExtModel.Paths.{path_text}
+use Rattle.tree_names.specs.ExtModel.declared.records.CellExt.{CellExt}
 use Rattle.geo_core.specs.declared.transforms.Transform.{Transform}
-use Rattle.layout_model.specs.Places.{Place}
-use Rattle.layout_model.specs.CellTrees.{place_back}
+use Rattle.tree_names.specs.LayoutModel.Places.{Place}
+use Rattle.tree_names.specs.LayoutModel.CellTrees.{place_back}
 use Rattle.tree_names.specs.TreeRecords.FlatLayouts.{flat_layout}
 use Rattle.tree_names.specs.TreeRecords.MemberGroups.{IsGroupName, IsMemberBelow}
 use Rattle.tree_names.specs.TreeRecords.NamedTrees.{NamedTree, NamedElements, place_forth}

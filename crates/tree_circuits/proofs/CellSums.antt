@@ -9,12 +9,12 @@ use Rattle.finite_sets.proofs.Distincts.{Distinct-append}
 use Rattle.finite_sets.proofs.Members.{In-append_cases, In-append_left, In-append_right, In-map, In-map_source}
 use Rattle.finite_sets.proofs.Sums.{sum_on-append, sum_on-map}
 use Rattle.finite_sets.proofs.Images.{In-flat_map, In-flat_map_source}
-use Rattle.tech_model.specs.declared.raw.RawTech.{RawTech}
-use Rattle.tech_model.specs.Rules.{KeepsRules}
-use Rattle.tech_model.specs.WellFormed.{IsWellFormed}
-use Rattle.ext_model.specs.declared.records.CellExt.{CellExt}
-use Rattle.ext_model.specs.declared.records.NodeRec.{NodeRec}
-use Rattle.layout_model.specs.Places.{Place}
+use Rattle.tree_names.specs.TechModel.declared.raw.RawTech.{RawTech}
+use Rattle.tree_names.specs.TechModel.Rules.{KeepsRules}
+use Rattle.tree_names.specs.TechModel.WellFormed.{IsWellFormed}
+use Rattle.tree_names.specs.ExtModel.declared.records.CellExt.{CellExt}
+use Rattle.tree_names.specs.ExtModel.declared.records.NodeRec.{NodeRec}
+use Rattle.tree_names.specs.LayoutModel.Places.{Place}
 use Rattle.tree_names.specs.TreeRecords.FetRecords.{IsOfNode}
 use Rattle.tree_names.specs.TreeRecords.MemberGroups.{IsGroupName, IsMemberAt, IsMemberBelow}
 use Rattle.tree_names.specs.TreeRecords.NamedTrees.{NamedTree, NamedElements, OwnBody}

@@ -6,18 +6,18 @@ use Rattle.finite_sets.specs.Total.{Total}
 use Rattle.finite_sets.proofs.Chains.{Chain-append, Chain-back}
 use Rattle.finite_sets.proofs.Leasts.{IsLeast-iff}
 use Rattle.finite_sets.proofs.Totals.{Total-iff}
-use Rattle.tech_model.specs.declared.raw.RawTech.{RawTech}
-use Rattle.tech_model.specs.ChannelRoles.{is_channel}
+use Rattle.tree_names.specs.TechModel.declared.raw.RawTech.{RawTech}
+use Rattle.tree_names.specs.TechModel.ChannelRoles.{is_channel}
 use Rattle.geo_core.specs.declared.transforms.Transform.{Transform}
-use Rattle.layout_model.specs.EdgeCounts.{IsEdgeCount}
-use Rattle.layout_model.specs.Layouts.{Layout}
-use Rattle.layout_model.specs.Places.{Place, IsNoLater}
-use Rattle.layout_model.specs.Transistors.{AreOneChannel}
-use Rattle.layout_model.proofs.PlaceLaws.{AreNeighbours-sym}
-use Rattle.layout_model.specs.CellTrees.{place_back}
-use Rattle.tree_records.specs.FlatLayouts.{flat_layout}
-use Rattle.tree_records.specs.NamedTrees.{NamedTree, NamedStanding, named_standings, place_forth}
-use Rattle.tree_records.proofs.MoveLaws.{above_from_back, back_from_above}
+use Rattle.tree_names.specs.LayoutModel.EdgeCounts.{IsEdgeCount}
+use Rattle.tree_names.specs.LayoutModel.Layouts.{Layout}
+use Rattle.tree_names.specs.LayoutModel.Places.{Place, IsNoLater}
+use Rattle.tree_names.specs.LayoutModel.Transistors.{AreOneChannel}
+use Rattle.tree_names.proofs.LayoutModel.PlaceLaws.{AreNeighbours-sym}
+use Rattle.tree_names.specs.LayoutModel.CellTrees.{place_back}
+use Rattle.tree_names.specs.TreeRecords.FlatLayouts.{flat_layout}
+use Rattle.tree_names.specs.TreeRecords.NamedTrees.{NamedTree, NamedStanding, named_standings, place_forth}
+use Rattle.tree_names.proofs.TreeRecords.MoveLaws.{above_from_back, back_from_above}
 use Rattle.tree_circuits.specs.Channels.{ChannelSet, GoesTo, HasSetAbove, HasSetBelow, IsChannelPerimeter}
 use Rattle.tree_circuits.specs.Channels.{IsChannelSet, KeepsChannels, OwnsItsChannels}
 use Rattle.tree_circuits.proofs.LeastPlaces.{least_place}

@@ -2,10 +2,10 @@
 use Rattle.std.proofs.Common.{◌≡◌, ℕ, ℤ, Bool, List, subst, sym}
 use Rattle.finite_sets.specs.Lists.{Distinct}
 use Rattle.finite_sets.proofs.Totals.{Total-unique}
-use Rattle.tech_model.specs.declared.raw.RawTech.{RawTech}
-use Rattle.tech_model.specs.Rules.{KeepsRules}
-use Rattle.tech_model.specs.WellFormed.{IsWellFormed}
-use Rattle.ext_model.specs.declared.records.CellExt.{CellExt}
+use Rattle.tree_names.specs.TechModel.declared.raw.RawTech.{RawTech}
+use Rattle.tree_names.specs.TechModel.Rules.{KeepsRules}
+use Rattle.tree_names.specs.TechModel.WellFormed.{IsWellFormed}
+use Rattle.tree_names.specs.ExtModel.declared.records.CellExt.{CellExt}
 use Rattle.tree_names.specs.TreeRecords.FlatLayouts.{flat_layout}
 use Rattle.tree_names.specs.TreeRecords.MemberGroups.{IsGroupName}
 use Rattle.tree_names.specs.TreeRecords.NamedTrees.{NamedTree, NamedElements}

@@ -2,13 +2,13 @@
 use Rattle.std.specs.Prelude.{◌≡◌, ℕ, List, Some, slice_get}
 use Rattle.geo_core.specs.declared.squares.Square.{Square}
 use Rattle.geo_core.specs.Images.{image}
-use Rattle.tech_model.specs.declared.raw.RawTech.{RawTech}
-use Rattle.ext_model.specs.declared.records.NodeRec.{NodeRec}
-use Rattle.ext_model.specs.Paths.{full_name}
-use Rattle.circuit_model.specs.Elements.{Element, ids_of, placed}
-use Rattle.circuit_model.specs.FlatFets.{node_name}
-use Rattle.tree_records.specs.FetRecords.{AreFetRecords, IsNodeBefore}
-use Rattle.tree_records.specs.NamedTrees.{NamedTree, NamedStanding, named_standings}
+use Rattle.tree_names.specs.TechModel.declared.raw.RawTech.{RawTech}
+use Rattle.tree_names.specs.ExtModel.declared.records.NodeRec.{NodeRec}
+use Rattle.tree_names.specs.ExtModel.Paths.{full_name}
+use Rattle.tree_names.specs.CircuitModel.Elements.{Element, ids_of, placed}
+use Rattle.tree_names.specs.CircuitModel.FlatFets.{node_name}
+use Rattle.tree_names.specs.TreeRecords.FetRecords.{AreFetRecords, IsNodeBefore}
+use Rattle.tree_names.specs.TreeRecords.NamedTrees.{NamedTree, NamedStanding, named_standings}
 use Rattle.tree_circuits.specs.Terminals.{GivesFlatNames}
 
 -- The element is the cell as it stands: the same names lead to it, its uses move squares as the cell's transform does, and its record has

@@ -4,22 +4,22 @@ use Rattle.std.proofs.lemmas.List.{length-map}
 use Rattle.std.proofs.lemmas.Option.{slice_get_within}
 use Rattle.finite_sets.specs.Lists.{In}
 use Rattle.finite_sets.proofs.Totals.{Total-at}
-use Rattle.tech_model.specs.declared.raw.ClassRec.{ClassRec}
-use Rattle.tech_model.specs.declared.raw.RawTech.{RawTech}
-use Rattle.tech_model.specs.Rules.{KeepsRules}
-use Rattle.tech_model.specs.WellFormed.{IsWellFormed}
-use Rattle.ext_model.specs.Paths.{full_name}
-use Rattle.ext_model.specs.RecordNames.{names_of}
-use Rattle.ext_model.specs.declared.records.CellExt.{CellExt}
-use Rattle.ext_model.specs.declared.records.NodeRec.{NodeRec}
-use Rattle.layout_model.specs.Layouts.{Layout}
-use Rattle.layout_model.specs.Measures.{IsArea, IsPerimeter}
-use Rattle.layout_model.specs.Nodes.{AreMeasures}
-use Rattle.layout_model.specs.Places.{Place}
-use Rattle.layout_model.specs.Technologies.{Class, class_of, rules_of}
-use Rattle.circuit_model.specs.declared.limits.TheConstants.{LONGEST_CHAIN}
-use Rattle.circuit_model.specs.Elements.{elements_of, ext_of}
-use Rattle.circuit_model.specs.FlatNodes.{IsFlatNode, measure_of}
+use Rattle.tree_names.specs.TechModel.declared.raw.ClassRec.{ClassRec}
+use Rattle.tree_names.specs.TechModel.declared.raw.RawTech.{RawTech}
+use Rattle.tree_names.specs.TechModel.Rules.{KeepsRules}
+use Rattle.tree_names.specs.TechModel.WellFormed.{IsWellFormed}
+use Rattle.tree_names.specs.ExtModel.Paths.{full_name}
+use Rattle.tree_names.specs.ExtModel.RecordNames.{names_of}
+use Rattle.tree_names.specs.ExtModel.declared.records.CellExt.{CellExt}
+use Rattle.tree_names.specs.ExtModel.declared.records.NodeRec.{NodeRec}
+use Rattle.tree_names.specs.LayoutModel.Layouts.{Layout}
+use Rattle.tree_names.specs.LayoutModel.Measures.{IsArea, IsPerimeter}
+use Rattle.tree_names.specs.LayoutModel.Nodes.{AreMeasures}
+use Rattle.tree_names.specs.LayoutModel.Places.{Place}
+use Rattle.tree_names.specs.LayoutModel.Technologies.{Class, class_of, rules_of}
+use Rattle.tree_names.specs.CircuitModel.declared.limits.TheConstants.{LONGEST_CHAIN}
+use Rattle.tree_names.specs.CircuitModel.Elements.{elements_of, ext_of}
+use Rattle.tree_names.specs.CircuitModel.FlatNodes.{IsFlatNode, measure_of}
 use Rattle.tree_names.specs.TreeRecords.FlatLayouts.{AreOneFlatNode, HasNodePath, flat_layout}
 use Rattle.tree_names.specs.TreeRecords.NamedTrees.{NamedTree, own_body}
 use Rattle.tree_names.specs.TreeRecords.TreeRecords.{HasTreeRecords}

@@ -3,16 +3,16 @@ use Rattle.std.proofs.Common.{◌≡◌, ◌≤◌, List, [], refl, length}
 use Rattle.std.specs.Prelude.{Some}
 use Rattle.finite_sets.specs.Chain.Chain.{stay}
 use Rattle.finite_sets.specs.Lists.{In}
-use Rattle.tech_model.specs.declared.raw.RawTech.{RawTech}
-use Rattle.tech_model.specs.Rules.{KeepsRules}
-use Rattle.tech_model.specs.WellFormed.{IsWellFormed}
-use Rattle.ext_model.specs.Paths.{full_name}
-use Rattle.ext_model.specs.declared.records.CellExt.{CellExt}
-use Rattle.ext_model.specs.declared.records.NodeRec.{NodeRec}
-use Rattle.layout_model.specs.Places.{Place}
-use Rattle.circuit_model.specs.declared.limits.TheConstants.{LONGEST_CHAIN}
-use Rattle.circuit_model.specs.Elements.{elements_of, ext_of}
-use Rattle.circuit_model.specs.FlatNodes.{AreFlatNodes}
+use Rattle.tree_names.specs.TechModel.declared.raw.RawTech.{RawTech}
+use Rattle.tree_names.specs.TechModel.Rules.{KeepsRules}
+use Rattle.tree_names.specs.TechModel.WellFormed.{IsWellFormed}
+use Rattle.tree_names.specs.ExtModel.Paths.{full_name}
+use Rattle.tree_names.specs.ExtModel.declared.records.CellExt.{CellExt}
+use Rattle.tree_names.specs.ExtModel.declared.records.NodeRec.{NodeRec}
+use Rattle.tree_names.specs.LayoutModel.Places.{Place}
+use Rattle.tree_names.specs.CircuitModel.declared.limits.TheConstants.{LONGEST_CHAIN}
+use Rattle.tree_names.specs.CircuitModel.Elements.{elements_of, ext_of}
+use Rattle.tree_names.specs.CircuitModel.FlatNodes.{AreFlatNodes}
 use Rattle.tree_names.specs.TreeRecords.NamedTrees.{NamedTree, own_body}
 use Rattle.tree_names.specs.TreeRecords.TreeCircuits.{IsFlatNodeRecord}
 use Rattle.tree_names.specs.TreeRecords.TreeRecords.{HasTreeRecords}

@@ -8,22 +8,22 @@ use Rattle.finite_sets.specs.Total.{sum_on}
 use Rattle.finite_sets.proofs.Leasts.{IsLeast-iff}
 use Rattle.finite_sets.proofs.Members.{In-map_source}
 use Rattle.finite_sets.proofs.Sums.{sum_on-map}
-use Rattle.tech_model.specs.declared.raw.RawTech.{RawTech}
-use Rattle.tech_model.specs.WellFormed.{IsWellFormed}
-use Rattle.ext_model.specs.declared.records.FetRec.{FetRec}
-use Rattle.ext_model.specs.declared.records.NodeRec.{NodeRec}
-use Rattle.ext_model.specs.declared.records.TermRec.{TermRec}
-use Rattle.ext_model.specs.Paths.{full_name}
-use Rattle.layout_model.specs.Places.{Place, IsNoLater}
-use Rattle.layout_model.specs.Transistors.{AreOneChannel, IsTransistor, gate_length}
-use Rattle.layout_model.specs.CellTrees.{place_back}
-use Rattle.circuit_model.specs.Elements.{Element, ids_of, placed}
-use Rattle.circuit_model.specs.FlatFets.{IsFlatFet, node_name, side_name}
+use Rattle.tree_names.specs.TechModel.declared.raw.RawTech.{RawTech}
+use Rattle.tree_names.specs.TechModel.WellFormed.{IsWellFormed}
+use Rattle.tree_names.specs.ExtModel.declared.records.FetRec.{FetRec}
+use Rattle.tree_names.specs.ExtModel.declared.records.NodeRec.{NodeRec}
+use Rattle.tree_names.specs.ExtModel.declared.records.TermRec.{TermRec}
+use Rattle.tree_names.specs.ExtModel.Paths.{full_name}
+use Rattle.tree_names.specs.LayoutModel.Places.{Place, IsNoLater}
+use Rattle.tree_names.specs.LayoutModel.Transistors.{AreOneChannel, IsTransistor, gate_length}
+use Rattle.tree_names.specs.LayoutModel.CellTrees.{place_back}
+use Rattle.tree_names.specs.CircuitModel.Elements.{Element, ids_of, placed}
+use Rattle.tree_names.specs.CircuitModel.FlatFets.{IsFlatFet, node_name, side_name}
 use Rattle.tree_names.proofs.FullNames.ListOrders.{Distinct-names, pairwise_names}
-use Rattle.tree_records.specs.FetRecords.{IsFetRecord, IsOfNode}
-use Rattle.tree_records.specs.FlatLayouts.{IsOfFlatNode, flat_layout}
-use Rattle.tree_records.specs.NamedTrees.{NamedTree, NamedStanding, named_standings, place_forth}
-use Rattle.tree_records.proofs.MoveLaws.{above_from_back}
+use Rattle.tree_names.specs.TreeRecords.FetRecords.{IsFetRecord, IsOfNode}
+use Rattle.tree_names.specs.TreeRecords.FlatLayouts.{IsOfFlatNode, flat_layout}
+use Rattle.tree_names.specs.TreeRecords.NamedTrees.{NamedTree, NamedStanding, named_standings, place_forth}
+use Rattle.tree_names.proofs.TreeRecords.MoveLaws.{above_from_back}
 use Rattle.tree_names.specs.TreeRecords.TreeCircuits.{IsFlatFetRecord, IsOwnedFet, OwnedFet}
 use Rattle.tree_circuits.specs.Channels.{OwnsItsChannels}
 use Rattle.tree_circuits.proofs.FetElements.{GiveFlatNames, HasFetsOf}

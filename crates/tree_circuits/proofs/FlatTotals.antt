@@ -12,17 +12,17 @@ use Rattle.finite_sets.proofs.Members.{In-map, In-map_source}
 use Rattle.finite_sets.proofs.Totals.{Total-at, Total-iff, Total-none, Total-union}
 use Rattle.finite_sets.proofs.Searches.{In-from_list_any, list_any-of_In}
 use Rattle.finite_sets.specs.OneForOne.{AreOneForOne}
-use Rattle.tech_model.specs.declared.raw.RawTech.{RawTech}
-use Rattle.tech_model.specs.Rules.{KeepsRules}
-use Rattle.tech_model.specs.WellFormed.{IsWellFormed}
-use Rattle.ext_model.specs.Paths.{full_name}
-use Rattle.ext_model.specs.RecordNames.{names_of}
-use Rattle.ext_model.specs.declared.records.CellExt.{CellExt}
-use Rattle.ext_model.specs.declared.records.NodeRec.{NodeRec}
-use Rattle.layout_model.specs.Places.{Place}
-use Rattle.circuit_model.specs.Elements.{Element}
-use Rattle.circuit_model.specs.FullNames.{AreLinked}
-use Rattle.circuit_model.specs.FlatNodes.{IsFlatNode}
+use Rattle.tree_names.specs.TechModel.declared.raw.RawTech.{RawTech}
+use Rattle.tree_names.specs.TechModel.Rules.{KeepsRules}
+use Rattle.tree_names.specs.TechModel.WellFormed.{IsWellFormed}
+use Rattle.tree_names.specs.ExtModel.Paths.{full_name}
+use Rattle.tree_names.specs.ExtModel.RecordNames.{names_of}
+use Rattle.tree_names.specs.ExtModel.declared.records.CellExt.{CellExt}
+use Rattle.tree_names.specs.ExtModel.declared.records.NodeRec.{NodeRec}
+use Rattle.tree_names.specs.LayoutModel.Places.{Place}
+use Rattle.tree_names.specs.CircuitModel.Elements.{Element}
+use Rattle.tree_names.specs.CircuitModel.FullNames.{AreLinked}
+use Rattle.tree_names.specs.CircuitModel.FlatNodes.{IsFlatNode}
 use Rattle.tree_names.specs.TreeRecords.FlatLayouts.{flat_layout, AreOneFlatNode, HasNodePath}
 use Rattle.tree_names.specs.TreeRecords.MemberGroups.{IsGroupName}
 use Rattle.tree_names.specs.TreeRecords.NamedTrees.{NamedTree, named_standings}

@@ -9,19 +9,19 @@ use Rattle.finite_sets.proofs.Chains.{Chain-append}
 use Rattle.finite_sets.proofs.Leasts.{IsLeast-iff}
 use Rattle.finite_sets.proofs.Searches.{find-In, find-none, find-passes, In-from_list_any, absent-from_list_any}
 use Rattle.finite_sets.proofs.Places.{In-slice_get}
-use Rattle.tech_model.specs.declared.raw.RawTech.{RawTech}
-use Rattle.ext_model.specs.declared.records.NodeRec.{NodeRec}
-use Rattle.ext_model.specs.Paths.{full_name, path_text}
-use Rattle.ext_model.specs.RecordNames.{names_of}
-use Rattle.layout_model.specs.Layouts.{IsMaterial}
-use Rattle.layout_model.specs.Places.{Place}
-use Rattle.circuit_model.specs.Elements.{Element}
-use Rattle.circuit_model.specs.FlatFets.{node_name}
-use Rattle.circuit_model.specs.FlatNodes.{has_name}
-use Rattle.circuit_model.specs.FullNames.{AreOneNode}
-use Rattle.tree_records.specs.FetRecords.{IsNoLaterName}
-use Rattle.tree_records.specs.FlatLayouts.{AreOneFlatNode, HasNodePath, IsFlatName, IsOfFlatNode, flat_layout}
-use Rattle.tree_records.specs.NamedTrees.{NamedTree, named_standings, place_forth}
+use Rattle.tree_names.specs.TechModel.declared.raw.RawTech.{RawTech}
+use Rattle.tree_names.specs.ExtModel.declared.records.NodeRec.{NodeRec}
+use Rattle.tree_names.specs.ExtModel.Paths.{full_name, path_text}
+use Rattle.tree_names.specs.ExtModel.RecordNames.{names_of}
+use Rattle.tree_names.specs.LayoutModel.Layouts.{IsMaterial}
+use Rattle.tree_names.specs.LayoutModel.Places.{Place}
+use Rattle.tree_names.specs.CircuitModel.Elements.{Element}
+use Rattle.tree_names.specs.CircuitModel.FlatFets.{node_name}
+use Rattle.tree_names.specs.CircuitModel.FlatNodes.{has_name}
+use Rattle.tree_names.specs.CircuitModel.FullNames.{AreOneNode}
+use Rattle.tree_names.specs.TreeRecords.FetRecords.{IsNoLaterName}
+use Rattle.tree_names.specs.TreeRecords.FlatLayouts.{AreOneFlatNode, HasNodePath, IsFlatName, IsOfFlatNode, flat_layout}
+use Rattle.tree_names.specs.TreeRecords.NamedTrees.{NamedTree, named_standings, place_forth}
 use Rattle.tree_names.specs.CircuitNodes.{NameFlatNodes}
 use Rattle.tree_names.specs.Laws.{NamesTellFlatNodes}
 use Rattle.tree_names.proofs.GroupNodes.{flat_node_back}

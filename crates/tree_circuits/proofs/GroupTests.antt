@@ -7,15 +7,15 @@ use Rattle.finite_sets.specs.Lists.{In}
 use Rattle.finite_sets.proofs.Chains.{Chain-keeps, Chain-push}
 use Rattle.finite_sets.proofs.Searches.{In-from_list_any, absent-from_list_any, list_any-of_In}
 use Rattle.finite_sets.specs.OneForOne.{AreOneForOne}
-use Rattle.tech_model.specs.declared.raw.RawTech.{RawTech}
-use Rattle.tech_model.specs.Rules.{KeepsRules}
-use Rattle.tech_model.specs.WellFormed.{IsWellFormed}
-use Rattle.ext_model.specs.Paths.{full_name, path_text}
-use Rattle.ext_model.specs.RecordNames.{names_of}
-use Rattle.ext_model.specs.declared.records.CellExt.{CellExt}
-use Rattle.ext_model.specs.declared.records.NodeRec.{NodeRec}
-use Rattle.circuit_model.specs.Elements.{Element}
-use Rattle.circuit_model.specs.FlatNodes.{is_among, IsFlatNode}
+use Rattle.tree_names.specs.TechModel.declared.raw.RawTech.{RawTech}
+use Rattle.tree_names.specs.TechModel.Rules.{KeepsRules}
+use Rattle.tree_names.specs.TechModel.WellFormed.{IsWellFormed}
+use Rattle.tree_names.specs.ExtModel.Paths.{full_name, path_text}
+use Rattle.tree_names.specs.ExtModel.RecordNames.{names_of}
+use Rattle.tree_names.specs.ExtModel.declared.records.CellExt.{CellExt}
+use Rattle.tree_names.specs.ExtModel.declared.records.NodeRec.{NodeRec}
+use Rattle.tree_names.specs.CircuitModel.Elements.{Element}
+use Rattle.tree_names.specs.CircuitModel.FlatNodes.{is_among, IsFlatNode}
 use Rattle.tree_names.specs.TreeRecords.NamedTrees.{NamedTree, NamedElements, named_standings}
 use Rattle.tree_names.specs.TreeRecords.NamedTrees.NamedTree.{named_tree}
 use Rattle.tree_names.specs.TreeRecords.NamedTrees.NamedElements.{no_more, element_then}

@@ -5,8 +5,8 @@ use Rattle.finite_sets.specs.Least.{IsLeast}
 use Rattle.finite_sets.specs.Lists.{In}
 use Rattle.finite_sets.specs.Total.{Total}
 use Rattle.finite_sets.proofs.Orders.{less_equal_or_greater}
-use Rattle.layout_model.specs.Places.{Place, IsNoLater}
-use Rattle.tree_records.proofs.Names.PlaceOrders.{IsNoLater-trans, place_at}
+use Rattle.tree_names.specs.LayoutModel.Places.{Place, IsNoLater}
+use Rattle.tree_names.proofs.TreeRecords.Names.PlaceOrders.{IsNoLater-trans, place_at}
 
 -- of two places one is no later than the other, by their parts
 no_later_either : (p q : ℕ) (x y u v : ℤ) → IsNoLater (place_at p x y) (place_at q u v) ⊎ IsNoLater (place_at q u v) (place_at p x y)

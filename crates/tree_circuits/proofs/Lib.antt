@@ -1,5 +1,5 @@
 -- what crates above name of those below
-pub use Rattle.element_tree.proofs as ElementTree
+pub use Rattle.tree_names.proofs.ElementTree as ElementTree
 pub use Rattle.tree_names.proofs.FullNames as FullNames
 pub use Rattle.tree_names.proofs.NameClasses as NameClasses
 pub use Rattle.tree_names.proofs.OwnRecordLaws as OwnRecordLaws

@@ -2,14 +2,14 @@
 use Rattle.std.proofs.Common.{◌≡◌, ◌⊎◌, ℕ, List, inl, inr, refl, sym, ◌∙◌, subst, ap}
 use Rattle.finite_sets.specs.Chain.{Chain}
 use Rattle.finite_sets.specs.Chain.Chain.{stay, go}
-use Rattle.tech_model.specs.declared.raw.RawTech.{RawTech}
-use Rattle.tech_model.specs.Rules.{KeepsRules}
-use Rattle.tech_model.specs.WellFormed.{IsWellFormed}
-use Rattle.layout_model.specs.Layouts.{IsMaterial}
-use Rattle.layout_model.specs.Places.{Place}
-use Rattle.layout_model.specs.CellTrees.{place_back}
-use Rattle.names.specs.NamedNodes.{AreOneNamedNode}
-use Rattle.names.proofs.AttachLaws.{suits_material}
+use Rattle.tree_names.specs.TechModel.declared.raw.RawTech.{RawTech}
+use Rattle.tree_names.specs.TechModel.Rules.{KeepsRules}
+use Rattle.tree_names.specs.TechModel.WellFormed.{IsWellFormed}
+use Rattle.tree_names.specs.LayoutModel.Layouts.{IsMaterial}
+use Rattle.tree_names.specs.LayoutModel.Places.{Place}
+use Rattle.tree_names.specs.LayoutModel.CellTrees.{place_back}
+use Rattle.tree_names.specs.Names.NamedNodes.{AreOneNamedNode}
+use Rattle.tree_names.proofs.Names.AttachLaws.{suits_material}
 use Rattle.tree_names.specs.TreeRecords.FlatLayouts.{flat_layout}
 use Rattle.tree_names.specs.TreeRecords.MemberGroups.{AreOneGroup, AreOneGroupBelow, IsGroupName, IsMemberAt, IsMemberBelow}
 use Rattle.tree_names.specs.TreeRecords.NamedTrees.{NamedTree, NamedElements, OwnBody, place_forth}

@@ -10,16 +10,16 @@ use Rattle.finite_sets.proofs.Distincts.{Distinct-append, length-distinct}
 use Rattle.finite_sets.proofs.Members.{In-append_left, In-append_right, In-map}
 use Rattle.finite_sets.proofs.Pairs.{Pairwise, Pairwise-from_AllPairs}
 use Rattle.finite_sets.proofs.Images.{In-flat_map_source}
-use Rattle.tech_model.specs.declared.raw.RawTech.{RawTech}
-use Rattle.tech_model.specs.WellFormed.{IsWellFormed}
-use Rattle.ext_model.specs.Paths.{path_text}
-use Rattle.ext_model.specs.declared.records.CellExt.{CellExt}
-use Rattle.ext_model.specs.declared.records.MergeRec.{MergeRec}
-use Rattle.ext_model.specs.declared.records.NodeRec.{NodeRec}
-use Rattle.layout_model.specs.Places.{Place}
-use Rattle.layout_model.specs.Technologies.{Class, rules_of}
-use Rattle.layout_model.specs.CellTrees.{place_back}
-use Rattle.circuit_model.specs.Elements.{ext_of}
+use Rattle.tree_names.specs.TechModel.declared.raw.RawTech.{RawTech}
+use Rattle.tree_names.specs.TechModel.WellFormed.{IsWellFormed}
+use Rattle.tree_names.specs.ExtModel.Paths.{path_text}
+use Rattle.tree_names.specs.ExtModel.declared.records.CellExt.{CellExt}
+use Rattle.tree_names.specs.ExtModel.declared.records.MergeRec.{MergeRec}
+use Rattle.tree_names.specs.ExtModel.declared.records.NodeRec.{NodeRec}
+use Rattle.tree_names.specs.LayoutModel.Places.{Place}
+use Rattle.tree_names.specs.LayoutModel.Technologies.{Class, rules_of}
+use Rattle.tree_names.specs.LayoutModel.CellTrees.{place_back}
+use Rattle.tree_names.specs.CircuitModel.Elements.{ext_of}
 use Rattle.tree_circuits.proofs.FullNames.ListOrders.{Distinct-names, not_before_itself, pairwise_names}
 use Rattle.tree_circuits.specs.TreeRecords.FetRecords.{IsNameBefore}
 use Rattle.tree_circuits.proofs.OwnRecordLaws.PreferredNames.{goes_by, in_some}

@@ -12,21 +12,21 @@ use Rattle.finite_sets.proofs.Firsts.{first_some-none}
 use Rattle.finite_sets.proofs.Searches.{list_any-of_In}
 use Rattle.geo_core.specs.declared.transforms.Transform.{Transform}
 use Rattle.geo_core.specs.Images.{six_of}
-use Rattle.tech_model.specs.declared.raw.RawTech.{RawTech}
-use Rattle.tech_model.specs.WellFormed.{IsWellFormed}
-use Rattle.ext_model.specs.declared.names.TheConstants.{SLASH}
-use Rattle.ext_model.specs.declared.records.CellExt.{CellExt}
-use Rattle.ext_model.specs.declared.records.MergeRec.{MergeRec}
-use Rattle.ext_model.specs.declared.records.UseRec.{UseRec}
-use Rattle.ext_model.specs.NodeNames.{slashes_in}
-use Rattle.ext_model.specs.RecordNames.{names_of, node_names}
-use Rattle.layout_model.specs.Places.{Place}
-use Rattle.layout_model.specs.Technologies.{rules_of}
-use Rattle.layout_model.specs.CellTrees.{place_back}
-use Rattle.circuit_model.specs.declared.faults.FlatFault.{FlatFault}
-use Rattle.circuit_model.specs.declared.faults.FlatFault.TheVariants.{NoPath}
-use Rattle.circuit_model.specs.Elements.{ext_of}
-use Rattle.circuit_model.specs.Refusals.{first_fault, leads, merge_fault, path_fault}
+use Rattle.tree_names.specs.TechModel.declared.raw.RawTech.{RawTech}
+use Rattle.tree_names.specs.TechModel.WellFormed.{IsWellFormed}
+use Rattle.tree_names.specs.ExtModel.declared.names.TheConstants.{SLASH}
+use Rattle.tree_names.specs.ExtModel.declared.records.CellExt.{CellExt}
+use Rattle.tree_names.specs.ExtModel.declared.records.MergeRec.{MergeRec}
+use Rattle.tree_names.specs.ExtModel.declared.records.UseRec.{UseRec}
+use Rattle.tree_names.specs.ExtModel.NodeNames.{slashes_in}
+use Rattle.tree_names.specs.ExtModel.RecordNames.{names_of, node_names}
+use Rattle.tree_names.specs.LayoutModel.Places.{Place}
+use Rattle.tree_names.specs.LayoutModel.Technologies.{rules_of}
+use Rattle.tree_names.specs.LayoutModel.CellTrees.{place_back}
+use Rattle.tree_names.specs.CircuitModel.declared.faults.FlatFault.{FlatFault}
+use Rattle.tree_names.specs.CircuitModel.declared.faults.FlatFault.TheVariants.{NoPath}
+use Rattle.tree_names.specs.CircuitModel.Elements.{ext_of}
+use Rattle.tree_names.specs.CircuitModel.Refusals.{first_fault, leads, merge_fault, path_fault}
 use Rattle.tree_circuits.proofs.NameClasses.PathLaws.{leads-name, leads-use}
 use Rattle.tree_circuits.proofs.OwnRecordLaws.PreferredNames.{goes_by, in_some}
 use Rattle.tree_circuits.specs.TreeRecords.MemberGroups.{IsGroupName, IsMemberAt, IsMemberBelow}

@@ -3,11 +3,11 @@ use Rattle.std.proofs.Common.{◌≡◌, ℤ, pos, subst}
 use Rattle.finite_sets.specs.Total.{Total}
 use Rattle.finite_sets.proofs.Totals.{Total-iff, Total-image}
 use Rattle.geo_core.specs.declared.transforms.Transform.{Transform}
-use Rattle.layout_model.specs.EdgeCounts.{IsEdgeCount, LeadsAcross}
-use Rattle.layout_model.specs.Places.{Place, AreNeighbours}
-use Rattle.layout_model.specs.CellTrees.{place_back}
-use Rattle.tree_records.specs.NamedTrees.{place_forth}
-use Rattle.tree_records.proofs.MoveLaws.{above_from_back, back_from_above, neighbours_above, neighbours_back}
+use Rattle.tree_names.specs.LayoutModel.EdgeCounts.{IsEdgeCount, LeadsAcross}
+use Rattle.tree_names.specs.LayoutModel.Places.{Place, AreNeighbours}
+use Rattle.tree_names.specs.LayoutModel.CellTrees.{place_back}
+use Rattle.tree_names.specs.TreeRecords.NamedTrees.{place_forth}
+use Rattle.tree_names.proofs.TreeRecords.MoveLaws.{above_from_back, back_from_above, neighbours_above, neighbours_back}
 
 -- Places go to others and come back, and neighbours stay neighbours both ways.
 pub record AreMoved (go come : Place → Place) : Type 0 where

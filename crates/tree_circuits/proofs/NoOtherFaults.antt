@@ -7,12 +7,12 @@ use Rattle.std.proofs.lemmas.Bool.Decides.{nat_tests}
 use Rattle.tree_circuits.proofs.ElementTree.Counting.{within_limit}
 use Rattle.finite_sets.proofs.Firsts.{first_some-none}
 use Rattle.finite_sets.proofs.OneForOne.{AreOneForOne-source, AreOneForOne-length}
-use Rattle.circuit_model.specs.declared.faults.FlatFault.{FlatFault}
-use Rattle.circuit_model.specs.declared.faults.FlatFault.TheVariants.{Classes, TooMany}
-use Rattle.circuit_model.specs.declared.limits.CircuitLimit.TheVariants.{Depth, Elements, Merges, Names, Nodes}
-use Rattle.circuit_model.specs.declared.limits.TheConstants.{LONGEST_CHAIN, MOST_FLAT_ELEMENTS, MOST_MERGES, MOST_NAME_BYTES, MOST_NODES}
-use Rattle.circuit_model.specs.Elements.{elements_of}
-use Rattle.circuit_model.specs.Refusals.{chain_length, class_fault, element_fault, first_fault, merge_count, name_bytes, node_count}
+use Rattle.tree_names.specs.CircuitModel.declared.faults.FlatFault.{FlatFault}
+use Rattle.tree_names.specs.CircuitModel.declared.faults.FlatFault.TheVariants.{Classes, TooMany}
+use Rattle.tree_names.specs.CircuitModel.declared.limits.CircuitLimit.TheVariants.{Depth, Elements, Merges, Names, Nodes}
+use Rattle.tree_names.specs.CircuitModel.declared.limits.TheConstants.{LONGEST_CHAIN, MOST_FLAT_ELEMENTS, MOST_MERGES, MOST_NAME_BYTES, MOST_NODES}
+use Rattle.tree_names.specs.CircuitModel.Elements.{elements_of}
+use Rattle.tree_names.specs.CircuitModel.Refusals.{chain_length, class_fault, element_fault, first_fault, merge_count, name_bytes, node_count}
 use Rattle.tree_circuits.specs.TreeRecords.NamedTrees.{named_standings}
 use Rattle.tree_circuits.specs.TreeNames.TreeElements.{IsElementFor}
 use Rattle.tree_circuits.proofs.TreeNames.TreeElements.{elements_for, record_is, top_record}

@@ -5,23 +5,23 @@ use Rattle.finite_sets.specs.Chain.Chain.{go, stay}
 use Rattle.finite_sets.proofs.Chains.{Chain-append}
 use Rattle.finite_sets.proofs.Leasts.{IsLeast-iff, IsLeast-unique}
 use Rattle.finite_sets.proofs.Searches.{All-In, list_any-source}
-use Rattle.tech_model.specs.declared.raw.FetRule.{FetRule}
-use Rattle.tech_model.specs.declared.raw.Label.{Label}
-use Rattle.tech_model.specs.declared.raw.RawTech.{RawTech}
-use Rattle.tech_model.specs.ChannelRoles.{is_channel}
-use Rattle.tech_model.specs.Types.{connects, is_type}
-use Rattle.tech_model.specs.WellFormed.{IsFet, IsWellFormed}
-use Rattle.tech_model.proofs.TypeLaws.{connects_self}
-use Rattle.layout_model.specs.Layouts.{Layout, IsMaterial}
-use Rattle.layout_model.specs.Places.{Place, IsNoLater}
-use Rattle.layout_model.specs.Transistors.{AreOneChannel}
-use Rattle.offences.proofs.SpoiledLaws.{channel_is_material}
-use Rattle.tree_records.specs.Names.NamedNodes.{AreOneNamedNode}
-use Rattle.tree_records.proofs.CellNodes.NodePlaces.{AreOneNamedNode-sym}
-use Rattle.tree_records.specs.FetRecords.{IsNoLaterName, IsOfNode}
+use Rattle.tree_names.specs.TechModel.declared.raw.FetRule.{FetRule}
+use Rattle.tree_names.specs.TechModel.declared.raw.Label.{Label}
+use Rattle.tree_names.specs.TechModel.declared.raw.RawTech.{RawTech}
+use Rattle.tree_names.specs.TechModel.ChannelRoles.{is_channel}
+use Rattle.tree_names.specs.TechModel.Types.{connects, is_type}
+use Rattle.tree_names.specs.TechModel.WellFormed.{IsFet, IsWellFormed}
+use Rattle.tree_names.proofs.TechModel.TypeLaws.{connects_self}
+use Rattle.tree_names.specs.LayoutModel.Layouts.{Layout, IsMaterial}
+use Rattle.tree_names.specs.LayoutModel.Places.{Place, IsNoLater}
+use Rattle.tree_names.specs.LayoutModel.Transistors.{AreOneChannel}
+use Rattle.tree_names.proofs.Offences.SpoiledLaws.{channel_is_material}
+use Rattle.tree_names.specs.TreeRecords.Names.NamedNodes.{AreOneNamedNode}
+use Rattle.tree_names.proofs.TreeRecords.CellNodes.NodePlaces.{AreOneNamedNode-sym}
+use Rattle.tree_names.specs.TreeRecords.FetRecords.{IsNoLaterName, IsOfNode}
 use Rattle.tree_names.proofs.OwnRecordLaws.PreferredNames.{later_both_ways}
-use Rattle.tree_records.specs.FlatLayouts.{IsFlatName, IsOfFlatNode}
-use Rattle.tree_records.specs.NamedTrees.{NamedTree}
+use Rattle.tree_names.specs.TreeRecords.FlatLayouts.{IsFlatName, IsOfFlatNode}
+use Rattle.tree_names.specs.TreeRecords.NamedTrees.{NamedTree}
 
 -- the type of a channel is one of the technology
 pub channel_is_type : (raw : RawTech) → IsWellFormed raw → (kind : ℕ) → IsTrue (is_channel raw kind) → IsTrue (is_type raw kind)

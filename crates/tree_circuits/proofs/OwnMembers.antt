@@ -9,13 +9,13 @@ use Rattle.finite_sets.proofs.Leasts.{IsLeast-iff}
 use Rattle.finite_sets.proofs.Members.{In-map, In-map_source}
 use Rattle.finite_sets.proofs.Totals.{Total-iff}
 use Rattle.finite_sets.proofs.Images.{In-flat_map}
-use Rattle.tech_model.specs.declared.raw.RawTech.{RawTech}
-use Rattle.tech_model.specs.WellFormed.{IsWellFormed}
-use Rattle.ext_model.specs.RecordNames.{names_of}
-use Rattle.ext_model.specs.declared.records.NodeRec.{NodeRec}
-use Rattle.layout_model.specs.LayerTypes.{HasTypesOf}
-use Rattle.layout_model.specs.Places.{Place, IsNoLater}
-use Rattle.names.specs.NamedNodes.{AreOneNamedNode}
+use Rattle.tree_names.specs.TechModel.declared.raw.RawTech.{RawTech}
+use Rattle.tree_names.specs.TechModel.WellFormed.{IsWellFormed}
+use Rattle.tree_names.specs.ExtModel.RecordNames.{names_of}
+use Rattle.tree_names.specs.ExtModel.declared.records.NodeRec.{NodeRec}
+use Rattle.tree_names.specs.LayoutModel.LayerTypes.{HasTypesOf}
+use Rattle.tree_names.specs.LayoutModel.Places.{Place, IsNoLater}
+use Rattle.tree_names.specs.Names.NamedNodes.{AreOneNamedNode}
 use Rattle.tree_names.specs.CellNodes.NodeRecords.{IsNodeRecord, AreNodeRecords}
 use Rattle.tree_names.proofs.CellNodes.NodePlaces.{AreOneNamedNode-sym, material_along}
 use Rattle.tree_names.specs.TreeRecords.FetRecords.{IsOfNode}

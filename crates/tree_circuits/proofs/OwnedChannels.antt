@@ -7,23 +7,23 @@ use Rattle.std.proofs.lemmas.Bool.{cases_eq}
 use Rattle.finite_sets.specs.Lists.{In}
 use Rattle.finite_sets.proofs.Members.{In-map}
 use Rattle.finite_sets.proofs.Places.{In-slice_get}
-use Rattle.tech_model.specs.declared.raw.RawTech.{RawTech}
-use Rattle.tech_model.specs.ChannelRoles.{is_channel}
-use Rattle.tech_model.specs.Rules.{KeepsRules}
-use Rattle.tech_model.specs.WellFormed.{IsWellFormed}
-use Rattle.layout_model.specs.LayerTypes.{or_space}
-use Rattle.layout_model.specs.Places.{Place, AreNeighbours}
-use Rattle.layout_model.specs.CellTrees.{own_types}
-use Rattle.layout_model.specs.FlatSets.{IsTyped, flat_sets}
-use Rattle.offences.specs.Offences.{is_exactly, joined_at}
-use Rattle.offences.specs.Roles.{role_of}
+use Rattle.tree_names.specs.TechModel.declared.raw.RawTech.{RawTech}
+use Rattle.tree_names.specs.TechModel.ChannelRoles.{is_channel}
+use Rattle.tree_names.specs.TechModel.Rules.{KeepsRules}
+use Rattle.tree_names.specs.TechModel.WellFormed.{IsWellFormed}
+use Rattle.tree_names.specs.LayoutModel.LayerTypes.{or_space}
+use Rattle.tree_names.specs.LayoutModel.Places.{Place, AreNeighbours}
+use Rattle.tree_names.specs.LayoutModel.CellTrees.{own_types}
+use Rattle.tree_names.specs.LayoutModel.FlatSets.{IsTyped, flat_sets}
+use Rattle.tree_names.specs.Offences.Offences.{is_exactly, joined_at}
+use Rattle.tree_names.specs.Offences.Roles.{role_of}
 use Rattle.tree_names.specs.HierarchyModel.CleanCells.{IsClean}
 use Rattle.tree_names.specs.HierarchyModel.Laws.{own_pairs, times}
 use Rattle.tree_names.proofs.HierarchyModel.CleanLaws.{has_flat_type, own_count}
 use Rattle.tree_names.proofs.HierarchyModel.RoleLaws.{roles_kept}
-use Rattle.tree_records.specs.FlatLayouts.{flat_layout}
-use Rattle.tree_records.specs.NamedTrees.{NamedTree, NamedStanding, layouts_of, named_standings, place_forth}
-use Rattle.tree_records.proofs.MoveLaws.{back_from_above, neighbours_above}
+use Rattle.tree_names.specs.TreeRecords.FlatLayouts.{flat_layout}
+use Rattle.tree_names.specs.TreeRecords.NamedTrees.{NamedTree, NamedStanding, layouts_of, named_standings, place_forth}
+use Rattle.tree_names.proofs.TreeRecords.MoveLaws.{back_from_above, neighbours_above}
 use Rattle.tree_circuits.specs.Channels.{HasOneOwner, OwnsItsChannels}
 use Rattle.tree_circuits.proofs.StandingTypes.{pairs_of_standings, type_at, types_at, types_of_standings}
 

@@ -4,19 +4,19 @@ use Rattle.std.specs.Prelude.{IsTrue, Some, slice_get}
 use Rattle.finite_sets.specs.Lists.{In}
 use Rattle.finite_sets.proofs.Pairs.{Pairwise}
 use Rattle.finite_sets.specs.OneForOne.{AreOneForOne}
-use Rattle.tech_model.specs.declared.raw.RawTech.{RawTech}
-use Rattle.tech_model.specs.ChannelRoles.{is_channel}
-use Rattle.tech_model.specs.WellFormed.{IsWellFormed}
-use Rattle.ext_model.specs.declared.records.FetRec.{FetRec}
-use Rattle.ext_model.specs.declared.records.NodeRec.{NodeRec}
-use Rattle.layout_model.specs.Places.{Place, IsBefore}
-use Rattle.layout_model.specs.Transistors.{AreFetsInOrder, AreOneChannel, IsTransistor}
-use Rattle.layout_model.proofs.PlaceLaws.{IsBefore-trans}
-use Rattle.circuit_model.specs.Elements.{Element}
-use Rattle.circuit_model.specs.FlatFets.{AreFlatFets, fets_in}
-use Rattle.tree_records.specs.FetRecords.{IsFetRecord, IsOfNode}
-use Rattle.tree_records.specs.FlatLayouts.{flat_layout}
-use Rattle.tree_records.specs.NamedTrees.{NamedTree, NamedStanding, named_standings, place_forth}
+use Rattle.tree_names.specs.TechModel.declared.raw.RawTech.{RawTech}
+use Rattle.tree_names.specs.TechModel.ChannelRoles.{is_channel}
+use Rattle.tree_names.specs.TechModel.WellFormed.{IsWellFormed}
+use Rattle.tree_names.specs.ExtModel.declared.records.FetRec.{FetRec}
+use Rattle.tree_names.specs.ExtModel.declared.records.NodeRec.{NodeRec}
+use Rattle.tree_names.specs.LayoutModel.Places.{Place, IsBefore}
+use Rattle.tree_names.specs.LayoutModel.Transistors.{AreFetsInOrder, AreOneChannel, IsTransistor}
+use Rattle.tree_names.proofs.LayoutModel.PlaceLaws.{IsBefore-trans}
+use Rattle.tree_names.specs.CircuitModel.Elements.{Element}
+use Rattle.tree_names.specs.CircuitModel.FlatFets.{AreFlatFets, fets_in}
+use Rattle.tree_names.specs.TreeRecords.FetRecords.{IsFetRecord, IsOfNode}
+use Rattle.tree_names.specs.TreeRecords.FlatLayouts.{flat_layout}
+use Rattle.tree_names.specs.TreeRecords.NamedTrees.{NamedTree, NamedStanding, named_standings, place_forth}
 use Rattle.tree_names.specs.TreeRecords.TreeCircuits.{IsFetBefore, IsFlatFetRecord, IsOwnedFet, OwnedFet}
 use Rattle.tree_circuits.specs.Channels.{OwnsItsChannels}
 use Rattle.tree_circuits.proofs.FetElements.{GiveFlatNames, HasFetsOf}

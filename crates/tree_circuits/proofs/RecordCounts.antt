@@ -5,11 +5,11 @@ use Rattle.std.proofs.lemmas.List.Sums.{sum_by-append, sum_by-cons}
 use Rattle.finite_sets.specs.OneForOne.{AreOneForOne}
 use Rattle.geo_core.specs.declared.transforms.Transform.{Transform}
 use Rattle.geo_core.specs.Images.{identity}
-use Rattle.tech_model.specs.declared.raw.RawTech.{RawTech}
-use Rattle.ext_model.specs.Paths.{path_text}
-use Rattle.ext_model.specs.declared.records.CellExt.{CellExt}
-use Rattle.ext_model.specs.declared.records.NodeRec.{NodeRec}
-use Rattle.circuit_model.specs.Elements.{Element, ext_of}
+use Rattle.tree_names.specs.TechModel.declared.raw.RawTech.{RawTech}
+use Rattle.tree_names.specs.ExtModel.Paths.{path_text}
+use Rattle.tree_names.specs.ExtModel.declared.records.CellExt.{CellExt}
+use Rattle.tree_names.specs.ExtModel.declared.records.NodeRec.{NodeRec}
+use Rattle.tree_names.specs.CircuitModel.Elements.{Element, ext_of}
 use Rattle.tree_circuits.specs.TreeRecords.NamedTrees.{NamedTree, NamedElements, NamedStanding, named_above, named_standings, named_standings_below}
 use Rattle.tree_circuits.specs.TreeRecords.NamedTrees.NamedTree.{named_tree}
 use Rattle.tree_circuits.specs.TreeRecords.NamedTrees.NamedElements.{no_more, element_then}

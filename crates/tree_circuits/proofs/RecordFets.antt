@@ -2,17 +2,17 @@
 use Rattle.std.proofs.Common.{ℕ, List, subst}
 use Rattle.finite_sets.proofs.OneForOne.{AreOneForOne-weaker}
 use Rattle.finite_sets.specs.OneForOne.{AreOneForOne}
-use Rattle.tech_model.specs.declared.raw.RawTech.{RawTech}
-use Rattle.tech_model.specs.Rules.{KeepsRules}
-use Rattle.tech_model.specs.WellFormed.{IsWellFormed}
-use Rattle.ext_model.specs.declared.records.CellExt.{CellExt}
-use Rattle.ext_model.specs.declared.records.FetRec.{FetRec}
-use Rattle.ext_model.specs.declared.records.NodeRec.{NodeRec}
-use Rattle.circuit_model.specs.Elements.{Element}
-use Rattle.circuit_model.specs.FlatFets.{AreFlatFets, fets_of}
-use Rattle.circuit_model.specs.FlatNodes.{AreFlatNodes}
-use Rattle.tree_records.specs.FetRecords.{AreFetRecords, IsNodeBefore}
-use Rattle.tree_records.specs.NamedTrees.{NamedTree, NamedStanding, OwnBody, named_standings}
+use Rattle.tree_names.specs.TechModel.declared.raw.RawTech.{RawTech}
+use Rattle.tree_names.specs.TechModel.Rules.{KeepsRules}
+use Rattle.tree_names.specs.TechModel.WellFormed.{IsWellFormed}
+use Rattle.tree_names.specs.ExtModel.declared.records.CellExt.{CellExt}
+use Rattle.tree_names.specs.ExtModel.declared.records.FetRec.{FetRec}
+use Rattle.tree_names.specs.ExtModel.declared.records.NodeRec.{NodeRec}
+use Rattle.tree_names.specs.CircuitModel.Elements.{Element}
+use Rattle.tree_names.specs.CircuitModel.FlatFets.{AreFlatFets, fets_of}
+use Rattle.tree_names.specs.CircuitModel.FlatNodes.{AreFlatNodes}
+use Rattle.tree_names.specs.TreeRecords.FetRecords.{AreFetRecords, IsNodeBefore}
+use Rattle.tree_names.specs.TreeRecords.NamedTrees.{NamedTree, NamedStanding, OwnBody, named_standings}
 use Rattle.tree_names.specs.TreeRecords.TreeCircuits.{AreFlatFetRecords}
 use Rattle.tree_names.specs.TreeRecords.TreeRecords.{HasTreeRecords}
 use Rattle.tree_names.specs.CleanTrees.{IsCleanTree}

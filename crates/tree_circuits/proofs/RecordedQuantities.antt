@@ -9,17 +9,17 @@ use Rattle.finite_sets.specs.Lists.{Lists}
 use Rattle.finite_sets.specs.Total.{sum_on, Total}
 use Rattle.finite_sets.proofs.Sums.{sum_on-add, sum_on-zero, sum_on-scale_right}
 use Rattle.finite_sets.proofs.Totals.{Total-unique, Total-of_list}
-use Rattle.tech_model.specs.declared.raw.Label.{Label}
-use Rattle.tech_model.specs.declared.raw.RawTech.{RawTech}
-use Rattle.ext_model.specs.declared.records.NodeRec.{NodeRec}
-use Rattle.layout_model.specs.Layouts.{Layout}
-use Rattle.layout_model.specs.Measures.{IsArea, IsPerimeter}
-use Rattle.layout_model.specs.Nodes.{AreMeasures}
-use Rattle.layout_model.specs.Places.{Place}
-use Rattle.layout_model.specs.Technologies.{Class, capacitance, rules_of}
-use Rattle.names.specs.NamedNodes.{AreOneNamedNode}
+use Rattle.tree_names.specs.TechModel.declared.raw.Label.{Label}
+use Rattle.tree_names.specs.TechModel.declared.raw.RawTech.{RawTech}
+use Rattle.tree_names.specs.ExtModel.declared.records.NodeRec.{NodeRec}
+use Rattle.tree_names.specs.LayoutModel.Layouts.{Layout}
+use Rattle.tree_names.specs.LayoutModel.Measures.{IsArea, IsPerimeter}
+use Rattle.tree_names.specs.LayoutModel.Nodes.{AreMeasures}
+use Rattle.tree_names.specs.LayoutModel.Places.{Place}
+use Rattle.tree_names.specs.LayoutModel.Technologies.{Class, capacitance, rules_of}
+use Rattle.tree_names.specs.Names.NamedNodes.{AreOneNamedNode}
 use Rattle.tree_names.specs.CellNodes.NodeRecords.{IsNodeRecord}
-use Rattle.circuit_model.specs.FlatNodes.{measure_of}
+use Rattle.tree_names.specs.CircuitModel.FlatNodes.{measure_of}
 use Rattle.tree_names.specs.TreeRecords.NamedTrees.{NamedTree}
 use Rattle.tree_names.specs.TreeRecords.Merges.{Adjustment, MemberGroup, IsMemberGroup, AreAdjustments, merge_of, zero_adjustment, is_zero_adjustment}
 use Rattle.tree_names.specs.TreeRecords.PlaceWeights.{area_weight, perimeter_weight, capacitance_weight, IsAdjustment}

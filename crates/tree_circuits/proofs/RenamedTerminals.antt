@@ -13,16 +13,16 @@ use Rattle.finite_sets.proofs.Sums.{sum_on-filter}
 use Rattle.finite_sets.proofs.Totals.{Total-unique}
 use Rattle.finite_sets.proofs.Images.{Distinct-map_filter}
 use Rattle.geo_core.specs.declared.transforms.Transform.{Transform}
-use Rattle.tech_model.specs.declared.raw.RawTech.{RawTech}
-use Rattle.tech_model.specs.ChannelRoles.{is_channel, is_terminal}
-use Rattle.layout_model.specs.EdgeCounts.{IsEdgeCount, LeadsAcross}
-use Rattle.layout_model.specs.Layouts.{Layout}
-use Rattle.layout_model.specs.Places.{Place, AreNeighbours}
-use Rattle.layout_model.specs.Transistors.{AreOneChannel, IsTerminalOf, IsTransistor, Transistor, gate_length}
-use Rattle.layout_model.specs.CellTrees.{place_back}
+use Rattle.tree_names.specs.TechModel.declared.raw.RawTech.{RawTech}
+use Rattle.tree_names.specs.TechModel.ChannelRoles.{is_channel, is_terminal}
+use Rattle.tree_names.specs.LayoutModel.EdgeCounts.{IsEdgeCount, LeadsAcross}
+use Rattle.tree_names.specs.LayoutModel.Layouts.{Layout}
+use Rattle.tree_names.specs.LayoutModel.Places.{Place, AreNeighbours}
+use Rattle.tree_names.specs.LayoutModel.Transistors.{AreOneChannel, IsTerminalOf, IsTransistor, Transistor, gate_length}
+use Rattle.tree_names.specs.LayoutModel.CellTrees.{place_back}
 use Rattle.tree_names.proofs.OwnRecordLaws.FetSizes.{edges_to_some, terminals_total}
-use Rattle.tree_records.specs.NamedTrees.{place_forth}
-use Rattle.tree_records.proofs.MoveLaws.{above_from_back, neighbours_back}
+use Rattle.tree_names.specs.TreeRecords.NamedTrees.{place_forth}
+use Rattle.tree_names.proofs.TreeRecords.MoveLaws.{above_from_back, neighbours_back}
 use Rattle.tree_circuits.specs.Channels.{ChannelSet, IsChannelPerimeter, IsChannelSet, KeepsChannels}
 use Rattle.tree_circuits.specs.Terminals.{AreRenamed}
 use Rattle.tree_circuits.proofs.ChannelSets.{flat_set, goes_from, HasSetAt}

@@ -4,15 +4,15 @@ use Rattle.std.specs.Prelude.{IsTrue, Some}
 use Rattle.finite_sets.specs.Chain.Chain.{go, stay}
 use Rattle.finite_sets.proofs.Chains.{Chain-keeps}
 use Rattle.geo_core.specs.declared.transforms.Transform.{Transform}
-use Rattle.tech_model.specs.declared.raw.RawTech.{RawTech}
-use Rattle.tech_model.specs.ChannelRoles.{is_channel, is_terminal}
-use Rattle.layout_model.specs.Layouts.{Layout}
-use Rattle.layout_model.specs.Places.{Place, AreNeighbours}
-use Rattle.layout_model.specs.Transistors.{AreOneChannel}
-use Rattle.layout_model.specs.CellTrees.{place_back}
-use Rattle.offences.specs.Roles.{role_of}
-use Rattle.tree_records.specs.NamedTrees.{place_forth}
-use Rattle.tree_records.proofs.MoveLaws.{above_from_back, back_from_above, neighbours_above, neighbours_back}
+use Rattle.tree_names.specs.TechModel.declared.raw.RawTech.{RawTech}
+use Rattle.tree_names.specs.TechModel.ChannelRoles.{is_channel, is_terminal}
+use Rattle.tree_names.specs.LayoutModel.Layouts.{Layout}
+use Rattle.tree_names.specs.LayoutModel.Places.{Place, AreNeighbours}
+use Rattle.tree_names.specs.LayoutModel.Transistors.{AreOneChannel}
+use Rattle.tree_names.specs.LayoutModel.CellTrees.{place_back}
+use Rattle.tree_names.specs.Offences.Roles.{role_of}
+use Rattle.tree_names.specs.TreeRecords.NamedTrees.{place_forth}
+use Rattle.tree_names.proofs.TreeRecords.MoveLaws.{above_from_back, back_from_above, neighbours_above, neighbours_back}
 use Rattle.tree_circuits.specs.Channels.{IsSameChannel, KeepsChannels}
 use Rattle.tree_circuits.proofs.MovedSets.{edges_moved, moved_back, moved_forth, places_moved}
 use Rattle.tree_circuits.proofs.SameRoles.{same_channel, same_terminal}

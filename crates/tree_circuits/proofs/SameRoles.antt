@@ -2,10 +2,10 @@
 use Rattle.std.proofs.Common.{◌≡◌, ◌==◌, ℕ, Bool, true, false, if◌then◌else◌, inl, inr, refl, sym, ◌∙◌, ap, eq-eqb, eqb-true}
 use Rattle.std.specs.Prelude.{Some}
 use Rattle.std.proofs.lemmas.Bool.{cases_Bool}
-use Rattle.tech_model.specs.declared.raw.RawTech.{RawTech}
-use Rattle.tech_model.specs.ChannelRoles.{is_terminal}
-use Rattle.offences.specs.Roles.{Role, role_of}
-use Rattle.offences.specs.Roles.Role.{Channel, Other, Terminal}
+use Rattle.tree_names.specs.TechModel.declared.raw.RawTech.{RawTech}
+use Rattle.tree_names.specs.TechModel.ChannelRoles.{is_terminal}
+use Rattle.tree_names.specs.Offences.Roles.{Role, role_of}
+use Rattle.tree_names.specs.Offences.Roles.Role.{Channel, Other, Terminal}
 
 -- the role by two tests
 abbrev role_by : Bool → Bool → Role

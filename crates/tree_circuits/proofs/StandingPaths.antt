@@ -6,17 +6,17 @@ use Rattle.geo_core.specs.declared.squares.Square.{Square}
 use Rattle.geo_core.specs.declared.transforms.Transform.{Transform}
 use Rattle.geo_core.specs.Images.{composed, identity}
 use Rattle.geo_core.proofs.ImageLaws.{image-composed}
-use Rattle.element_tree.proofs.Transforms.{image-identity}
-use Rattle.tech_model.specs.declared.raw.RawTech.{RawTech}
-use Rattle.ext_model.specs.Paths.{path_text}
-use Rattle.layout_model.specs.Places.{Place}
-use Rattle.layout_model.specs.CellTrees.{place_back}
-use Rattle.tree_records.specs.FlatLayouts.{HasNodePath, HasNodePathBelow, HasOwnName}
-use Rattle.tree_records.specs.NamedTrees.{NamedTree, NamedElements, NamedStanding, named_above}
-use Rattle.tree_records.specs.NamedTrees.{named_standings, named_standings_below, place_forth}
-use Rattle.tree_records.specs.NamedTrees.NamedTree.{named_tree}
-use Rattle.tree_records.specs.NamedTrees.NamedElements.{no_more, element_then}
-use Rattle.tree_records.proofs.MoveLaws.{back_from_above}
+use Rattle.tree_names.proofs.ElementTree.Transforms.{image-identity}
+use Rattle.tree_names.specs.TechModel.declared.raw.RawTech.{RawTech}
+use Rattle.tree_names.specs.ExtModel.Paths.{path_text}
+use Rattle.tree_names.specs.LayoutModel.Places.{Place}
+use Rattle.tree_names.specs.LayoutModel.CellTrees.{place_back}
+use Rattle.tree_names.specs.TreeRecords.FlatLayouts.{HasNodePath, HasNodePathBelow, HasOwnName}
+use Rattle.tree_names.specs.TreeRecords.NamedTrees.{NamedTree, NamedElements, NamedStanding, named_above}
+use Rattle.tree_names.specs.TreeRecords.NamedTrees.{named_standings, named_standings_below, place_forth}
+use Rattle.tree_names.specs.TreeRecords.NamedTrees.NamedTree.{named_tree}
+use Rattle.tree_names.specs.TreeRecords.NamedTrees.NamedElements.{no_more, element_then}
+use Rattle.tree_names.proofs.TreeRecords.MoveLaws.{back_from_above}
 use Rattle.tree_circuits.proofs.StandingTypes.{with_square}
 
 -- the identity leaves places where they are

@@ -6,15 +6,15 @@ use Rattle.geo_core.specs.declared.squares.Square.{Square}
 use Rattle.geo_core.specs.declared.transforms.Transform.{Transform}
 use Rattle.geo_core.specs.Images.{composed, identity, image, inverted}
 use Rattle.geo_core.proofs.ImageLaws.{image-back, image-composed, image-forth}
-use Rattle.element_tree.proofs.Transforms.{image-identity}
-use Rattle.layout_model.specs.Places.{Place}
-use Rattle.layout_model.specs.CellTrees.{own_types, place_back}
+use Rattle.tree_names.proofs.ElementTree.Transforms.{image-identity}
+use Rattle.tree_names.specs.LayoutModel.Places.{Place}
+use Rattle.tree_names.specs.LayoutModel.CellTrees.{own_types, place_back}
 use Rattle.tree_names.specs.HierarchyModel.Laws.{own_pairs, own_pairs_below}
 use Rattle.tree_names.proofs.HierarchyModel.RoleLaws.{own_pairs_first}
-use Rattle.tree_records.specs.NamedTrees.{NamedTree, NamedElements, NamedStanding, layouts_below, layouts_of, named_above, named_standings}
-use Rattle.tree_records.specs.NamedTrees.{named_standings_below}
-use Rattle.tree_records.specs.NamedTrees.NamedTree.{named_tree}
-use Rattle.tree_records.specs.NamedTrees.NamedElements.{no_more, element_then}
+use Rattle.tree_names.specs.TreeRecords.NamedTrees.{NamedTree, NamedElements, NamedStanding, layouts_below, layouts_of, named_above, named_standings}
+use Rattle.tree_names.specs.TreeRecords.NamedTrees.{named_standings_below}
+use Rattle.tree_names.specs.TreeRecords.NamedTrees.NamedTree.{named_tree}
+use Rattle.tree_names.specs.TreeRecords.NamedTrees.NamedElements.{no_more, element_then}
 
 -- the place on the plane of another with this square
 abbrev pub with_square : Place → Square → Place

@@ -8,14 +8,14 @@ use Rattle.std.proofs.lemmas.Slice.Eq.{bytes_eq-Decides}
 use Rattle.std.specs.Str.{bytes_eq}
 use Rattle.finite_sets.specs.Lists.{In}
 use Rattle.finite_sets.proofs.Searches.{In-from_list_any}
-use Rattle.tech_model.specs.declared.raw.RawTech.{RawTech}
-use Rattle.ext_model.specs.declared.records.CellExt.{CellExt}
-use Rattle.ext_model.specs.declared.records.UseRec.{UseRec}
-use Rattle.circuit_model.specs.declared.faults.FlatFault.{FlatFault}
-use Rattle.circuit_model.specs.declared.faults.FlatFault.TheVariants.{NoCell, Cycle}
-use Rattle.circuit_model.specs.Elements.{ext_of}
-use Rattle.circuit_model.specs.FlatNodes.{is_among}
-use Rattle.circuit_model.specs.Refusals.{chain_length, first_fault, greatest, use_fault, walk_fault}
+use Rattle.tree_names.specs.TechModel.declared.raw.RawTech.{RawTech}
+use Rattle.tree_names.specs.ExtModel.declared.records.CellExt.{CellExt}
+use Rattle.tree_names.specs.ExtModel.declared.records.UseRec.{UseRec}
+use Rattle.tree_names.specs.CircuitModel.declared.faults.FlatFault.{FlatFault}
+use Rattle.tree_names.specs.CircuitModel.declared.faults.FlatFault.TheVariants.{NoCell, Cycle}
+use Rattle.tree_names.specs.CircuitModel.Elements.{ext_of}
+use Rattle.tree_names.specs.CircuitModel.FlatNodes.{is_among}
+use Rattle.tree_names.specs.CircuitModel.Refusals.{chain_length, first_fault, greatest, use_fault, walk_fault}
 use Rattle.tree_circuits.specs.TreeRecords.NamedTrees.{NamedTree, NamedElements, own_body}
 use Rattle.tree_circuits.specs.TreeRecords.NamedTrees.NamedTree.{named_tree}
 use Rattle.tree_circuits.specs.TreeRecords.NamedTrees.NamedElements.{no_more, element_then}

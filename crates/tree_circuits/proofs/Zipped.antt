@@ -3,10 +3,10 @@ use Rattle.std.proofs.Common.{◌≡◌, ◌<◌, ℕ, zero, suc, List, [], ◌�
 use Rattle.std.proofs.lemmas.Option.{get_or_from_slice_get, slice_get_within}
 use Rattle.finite_sets.specs.OneForOne.{AreOneForOne}
 use Rattle.finite_sets.proofs.OneForOne.{AreOneForOne-from_places}
-use Rattle.ext_model.specs.declared.records.FetRec.{FetRec}
-use Rattle.ext_model.specs.declared.records.NodeRec.{NodeRec}
-use Rattle.circuit_model.specs.Elements.{Element}
-use Rattle.circuit_model.specs.FlatFets.{AreFlatFets}
+use Rattle.tree_names.specs.ExtModel.declared.records.FetRec.{FetRec}
+use Rattle.tree_names.specs.ExtModel.declared.records.NodeRec.{NodeRec}
+use Rattle.tree_names.specs.CircuitModel.Elements.{Element}
+use Rattle.tree_names.specs.CircuitModel.FlatFets.{AreFlatFets}
 
 -- what holds at each place
 pub zip_from_places : {X Y : Type 0} (R : X → Y → Type 0) (xs : List X) (ys : List Y) → length ys ≡ length xs

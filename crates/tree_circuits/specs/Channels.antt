@@ -3,16 +3,16 @@ use Rattle.std.specs.Prelude.{◌≡◌, ◌↔◌, ℕ, ℤ, pos, IsTrue, Some,
 use Rattle.finite_sets.specs.Least.{IsLeast}
 use Rattle.finite_sets.specs.Total.{Total}
 use Rattle.geo_core.specs.declared.transforms.Transform.{Transform}
-use Rattle.tech_model.specs.declared.raw.RawTech.{RawTech}
-use Rattle.tech_model.specs.ChannelRoles.{is_channel, is_terminal}
-use Rattle.layout_model.specs.EdgeCounts.{IsEdgeCount}
-use Rattle.layout_model.specs.Layouts.{Layout}
-use Rattle.layout_model.specs.Places.{Place, AreNeighbours, IsNoLater}
-use Rattle.layout_model.specs.Transistors.{AreOneChannel}
-use Rattle.layout_model.specs.CellTrees.{place_back}
-use Rattle.offences.specs.Roles.{role_of}
-use Rattle.tree_records.specs.FlatLayouts.{flat_layout}
-use Rattle.tree_records.specs.NamedTrees.{NamedTree, NamedStanding, named_standings, place_forth}
+use Rattle.tree_names.specs.TechModel.declared.raw.RawTech.{RawTech}
+use Rattle.tree_names.specs.TechModel.ChannelRoles.{is_channel, is_terminal}
+use Rattle.tree_names.specs.LayoutModel.EdgeCounts.{IsEdgeCount}
+use Rattle.tree_names.specs.LayoutModel.Layouts.{Layout}
+use Rattle.tree_names.specs.LayoutModel.Places.{Place, AreNeighbours, IsNoLater}
+use Rattle.tree_names.specs.LayoutModel.Transistors.{AreOneChannel}
+use Rattle.tree_names.specs.LayoutModel.CellTrees.{place_back}
+use Rattle.tree_names.specs.Offences.Roles.{role_of}
+use Rattle.tree_names.specs.TreeRecords.FlatLayouts.{flat_layout}
+use Rattle.tree_names.specs.TreeRecords.NamedTrees.{NamedTree, NamedStanding, named_standings, place_forth}
 
 -- Where a layout stands at a transform in a larger one, its channels are channels of the larger one, and what is beside them has the same
 -- role

@@ -1,23 +1,23 @@
 -- The laws of transistors in cells that use each other, as statements.
 use Rattle.std.specs.Prelude.{◌≡◌, ◌≤◌, ℕ, ℤ, IsTrue, List, Some, slice_get}
-use Rattle.tech_model.specs.declared.raw.RawTech.{RawTech}
-use Rattle.tech_model.specs.ChannelRoles.{is_channel}
-use Rattle.tech_model.specs.Rules.{KeepsRules}
-use Rattle.tech_model.specs.WellFormed.{IsWellFormed}
-use Rattle.ext_model.specs.declared.records.CellExt.{CellExt}
-use Rattle.ext_model.specs.declared.records.FetRec.{FetRec}
-use Rattle.ext_model.specs.declared.records.NodeRec.{NodeRec}
-use Rattle.layout_model.specs.Places.{Place}
-use Rattle.layout_model.specs.Transistors.{IsTransistor, Transistor}
-use Rattle.layout_model.specs.FlatSets.{IsTyped}
+use Rattle.tree_names.specs.TechModel.declared.raw.RawTech.{RawTech}
+use Rattle.tree_names.specs.TechModel.ChannelRoles.{is_channel}
+use Rattle.tree_names.specs.TechModel.Rules.{KeepsRules}
+use Rattle.tree_names.specs.TechModel.WellFormed.{IsWellFormed}
+use Rattle.tree_names.specs.ExtModel.declared.records.CellExt.{CellExt}
+use Rattle.tree_names.specs.ExtModel.declared.records.FetRec.{FetRec}
+use Rattle.tree_names.specs.ExtModel.declared.records.NodeRec.{NodeRec}
+use Rattle.tree_names.specs.LayoutModel.Places.{Place}
+use Rattle.tree_names.specs.LayoutModel.Transistors.{IsTransistor, Transistor}
+use Rattle.tree_names.specs.LayoutModel.FlatSets.{IsTyped}
 use Rattle.tree_names.specs.HierarchyModel.CleanCells.{IsClean}
-use Rattle.circuit_model.specs.declared.limits.TheConstants.{LONGEST_CHAIN}
-use Rattle.circuit_model.specs.Elements.{elements_of, ext_of}
-use Rattle.circuit_model.specs.FlatFets.{AreFlatFets, fets_of}
-use Rattle.circuit_model.specs.FlatNodes.{AreFlatNodes}
-use Rattle.tree_records.specs.FetRecords.{IsOfNode}
-use Rattle.tree_records.specs.FlatLayouts.{flat_layout}
-use Rattle.tree_records.specs.NamedTrees.{NamedTree, NamedStanding, layouts_of, named_standings, own_body}
+use Rattle.tree_names.specs.CircuitModel.declared.limits.TheConstants.{LONGEST_CHAIN}
+use Rattle.tree_names.specs.CircuitModel.Elements.{elements_of, ext_of}
+use Rattle.tree_names.specs.CircuitModel.FlatFets.{AreFlatFets, fets_of}
+use Rattle.tree_names.specs.CircuitModel.FlatNodes.{AreFlatNodes}
+use Rattle.tree_names.specs.TreeRecords.FetRecords.{IsOfNode}
+use Rattle.tree_names.specs.TreeRecords.FlatLayouts.{flat_layout}
+use Rattle.tree_names.specs.TreeRecords.NamedTrees.{NamedTree, NamedStanding, layouts_of, named_standings, own_body}
 use Rattle.tree_circuits.specs.Channels.{ChannelSet, HasSetAbove, HasSetBelow, IsChannelSet, IsSameChannel, OwnsItsChannels}
 use Rattle.tree_names.specs.TreeRecords.TreeCircuits.{AreFlatFetRecords}
 use Rattle.tree_names.specs.TreeRecords.TreeRecords.{HasTreeRecords}

@@ -1,17 +1,17 @@
 -- The laws of circuits of cells that use each other, as statements.
 use Rattle.std.specs.Prelude.{◌≡◌, ◌⊎◌, ◌≤◌, List, Some, length}
-use Rattle.tech_model.specs.declared.raw.RawTech.{RawTech}
-use Rattle.tech_model.specs.Rules.{KeepsRules}
-use Rattle.tech_model.specs.WellFormed.{IsWellFormed}
-use Rattle.ext_model.specs.declared.circuits.Circuit.{Circuit}
-use Rattle.ext_model.specs.declared.records.CellExt.{CellExt}
-use Rattle.circuit_model.specs.declared.faults.FlatFault.{FlatFault}
-use Rattle.circuit_model.specs.declared.faults.FlatFault.TheVariants.{TooMany}
-use Rattle.circuit_model.specs.declared.limits.CircuitLimit.TheVariants.{Names, Nodes}
-use Rattle.circuit_model.specs.declared.limits.TheConstants.{LONGEST_CHAIN, MOST_FLAT_ELEMENTS}
-use Rattle.circuit_model.specs.Circuits.{IsMeaning}
-use Rattle.circuit_model.specs.Elements.{ext_of}
-use Rattle.circuit_model.specs.Refusals.{IsFlatFaultOf}
+use Rattle.tree_names.specs.TechModel.declared.raw.RawTech.{RawTech}
+use Rattle.tree_names.specs.TechModel.Rules.{KeepsRules}
+use Rattle.tree_names.specs.TechModel.WellFormed.{IsWellFormed}
+use Rattle.tree_names.specs.ExtModel.declared.circuits.Circuit.{Circuit}
+use Rattle.tree_names.specs.ExtModel.declared.records.CellExt.{CellExt}
+use Rattle.tree_names.specs.CircuitModel.declared.faults.FlatFault.{FlatFault}
+use Rattle.tree_names.specs.CircuitModel.declared.faults.FlatFault.TheVariants.{TooMany}
+use Rattle.tree_names.specs.CircuitModel.declared.limits.CircuitLimit.TheVariants.{Names, Nodes}
+use Rattle.tree_names.specs.CircuitModel.declared.limits.TheConstants.{LONGEST_CHAIN, MOST_FLAT_ELEMENTS}
+use Rattle.tree_names.specs.CircuitModel.Circuits.{IsMeaning}
+use Rattle.tree_names.specs.CircuitModel.Elements.{ext_of}
+use Rattle.tree_names.specs.CircuitModel.Refusals.{IsFlatFaultOf}
 use Rattle.tree_circuits.specs.TreeRecords.NamedTrees.{NamedTree, named_standings, own_body}
 use Rattle.tree_circuits.specs.TreeRecords.TreeCircuits.{IsFlatCircuit}
 use Rattle.tree_circuits.specs.TreeRecords.TreeRecords.{HasTreeRecords}

@@ -2,21 +2,21 @@
 use Rattle.std.specs.Prelude.{◌≡◌, ◌≤◌, ℕ, ℤ, Some, List, [], Bool, length, map, slice_get}
 use Rattle.finite_sets.specs.Lists.{In}
 use Rattle.finite_sets.specs.Total.{Total}
-use Rattle.tech_model.specs.declared.raw.RawTech.{RawTech}
-use Rattle.tech_model.specs.Rules.{KeepsRules}
-use Rattle.tech_model.specs.WellFormed.{IsWellFormed}
-use Rattle.ext_model.specs.Paths.{full_name}
-use Rattle.ext_model.specs.declared.records.CellExt.{CellExt}
-use Rattle.ext_model.specs.declared.records.NodeRec.{NodeRec}
-use Rattle.ext_model.specs.RecordNames.{names_of}
-use Rattle.layout_model.specs.Layouts.{IsMaterial}
-use Rattle.layout_model.specs.Nodes.{AreMeasures}
-use Rattle.layout_model.specs.Places.{Place}
-use Rattle.layout_model.specs.Technologies.{Class, capacitance, rules_of}
-use Rattle.circuit_model.specs.declared.limits.TheConstants.{LONGEST_CHAIN}
-use Rattle.circuit_model.specs.Elements.{elements_of, ext_of}
-use Rattle.circuit_model.specs.FlatNodes.{AreFlatNodes, IsFlatNode, has_name, sum_of}
-use Rattle.circuit_model.specs.FullNames.{AreInNameOrder}
+use Rattle.tree_names.specs.TechModel.declared.raw.RawTech.{RawTech}
+use Rattle.tree_names.specs.TechModel.Rules.{KeepsRules}
+use Rattle.tree_names.specs.TechModel.WellFormed.{IsWellFormed}
+use Rattle.tree_names.specs.ExtModel.Paths.{full_name}
+use Rattle.tree_names.specs.ExtModel.declared.records.CellExt.{CellExt}
+use Rattle.tree_names.specs.ExtModel.declared.records.NodeRec.{NodeRec}
+use Rattle.tree_names.specs.ExtModel.RecordNames.{names_of}
+use Rattle.tree_names.specs.LayoutModel.Layouts.{IsMaterial}
+use Rattle.tree_names.specs.LayoutModel.Nodes.{AreMeasures}
+use Rattle.tree_names.specs.LayoutModel.Places.{Place}
+use Rattle.tree_names.specs.LayoutModel.Technologies.{Class, capacitance, rules_of}
+use Rattle.tree_names.specs.CircuitModel.declared.limits.TheConstants.{LONGEST_CHAIN}
+use Rattle.tree_names.specs.CircuitModel.Elements.{elements_of, ext_of}
+use Rattle.tree_names.specs.CircuitModel.FlatNodes.{AreFlatNodes, IsFlatNode, has_name, sum_of}
+use Rattle.tree_names.specs.CircuitModel.FullNames.{AreInNameOrder}
 use Rattle.tree_names.specs.TreeRecords.FlatLayouts.{AreOneFlatNode, HasNodePath, flat_layout}
 use Rattle.tree_names.specs.TreeRecords.NamedTrees.{NamedTree, own_body}
 use Rattle.tree_names.specs.TreeRecords.TreeCircuits.{HasNodeRecord, IsFlatNodeRecord}

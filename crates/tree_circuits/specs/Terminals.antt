@@ -3,12 +3,12 @@ use Rattle.std.specs.Prelude.{◌≡◌, ◌↔◌, ℕ, ℤ, pos, if◌then◌e
 use Rattle.std.specs.Str.{bytes_eq}
 use Rattle.finite_sets.specs.Lists.{In, Distinct}
 use Rattle.finite_sets.specs.Total.{sum_on}
-use Rattle.tech_model.specs.declared.raw.RawTech.{RawTech}
-use Rattle.layout_model.specs.Places.{Place}
-use Rattle.layout_model.specs.Transistors.{AreOneChannel, IsTransistor, Transistor, gate_length}
-use Rattle.tree_records.specs.FetRecords.{IsOfNode}
-use Rattle.tree_records.specs.FlatLayouts.{IsOfFlatNode, flat_layout}
-use Rattle.tree_records.specs.NamedTrees.{NamedTree, NamedStanding, place_forth}
+use Rattle.tree_names.specs.TechModel.declared.raw.RawTech.{RawTech}
+use Rattle.tree_names.specs.LayoutModel.Places.{Place}
+use Rattle.tree_names.specs.LayoutModel.Transistors.{AreOneChannel, IsTransistor, Transistor, gate_length}
+use Rattle.tree_names.specs.TreeRecords.FetRecords.{IsOfNode}
+use Rattle.tree_names.specs.TreeRecords.FlatLayouts.{IsOfFlatNode, flat_layout}
+use Rattle.tree_names.specs.TreeRecords.NamedTrees.{NamedTree, NamedStanding, place_forth}
 
 -- The function takes the name of each node of the cell's own layout, as it stands, to that of the flat node in which the node's places lie.
 abbrev pub GivesFlatNames : RawTech → NamedTree → NamedStanding → (List ℕ → List ℕ) → Type 0

@@ -2,15 +2,15 @@
 use Rattle.std.specs.Prelude.{◌≡◌, ℕ, ℤ, pos, ◌+ℤ◌, Bool, if◌then◌else◌, Option, Some, None, List, [], ◌∷◌, map}
 use Rattle.finite_sets.specs.Lists.{In, Lists}
 use Rattle.finite_sets.specs.Total.{sum_on}
-use Rattle.tech_model.specs.declared.raw.RawTech.{RawTech}
-use Rattle.layout_model.specs.Places.{Place}
-use Rattle.layout_model.specs.Technologies.{Class, rules_of}
-use Rattle.ext_model.specs.Paths.{path_text}
-use Rattle.ext_model.specs.declared.records.CellExt.{CellExt}
-use Rattle.ext_model.specs.declared.records.MergeRec.{MergeRec}
-use Rattle.ext_model.specs.declared.records.NodeRec.{NodeRec}
-use Rattle.circuit_model.specs.Elements.{ext_of}
-use Rattle.circuit_model.specs.FlatNodes.{measure_of}
+use Rattle.tree_names.specs.TechModel.declared.raw.RawTech.{RawTech}
+use Rattle.tree_names.specs.LayoutModel.Places.{Place}
+use Rattle.tree_names.specs.LayoutModel.Technologies.{Class, rules_of}
+use Rattle.tree_names.specs.ExtModel.Paths.{path_text}
+use Rattle.tree_names.specs.ExtModel.declared.records.CellExt.{CellExt}
+use Rattle.tree_names.specs.ExtModel.declared.records.MergeRec.{MergeRec}
+use Rattle.tree_names.specs.ExtModel.declared.records.NodeRec.{NodeRec}
+use Rattle.tree_names.specs.CircuitModel.Elements.{ext_of}
+use Rattle.tree_names.specs.CircuitModel.FlatNodes.{measure_of}
 use Rattle.tree_names.specs.TreeRecords.NamedTrees.{NamedTree, NamedElements}
 use Rattle.tree_names.specs.TreeRecords.NamedTrees.NamedTree.{named_tree}
 use Rattle.tree_names.specs.TreeRecords.NamedTrees.NamedElements.{no_more, element_then}

@@ -2,7 +2,7 @@
 use Rattle.std.proofs.Common.{◌≡◌, ◌<◌, ℕ, suc, List, length, Option, Some, None, inl, refl, sym, subst, arith}
 use Rattle.geo_core.specs.declared.squares.Rect.{Rect}
 use Rattle.geo_core.specs.Covering.{Covers}
-use Rattle.rect_contacts.specs.Rects.{no_rect}
+use Rattle.flood_nodes.specs.RectContacts.Rects.{no_rect}
 use Rattle.tech_model.specs.declared.raw.Label.{Label}
 use Rattle.tech_model.specs.declared.raw.RawTech.{RawTech}
 use Rattle.tech_model.specs.Rules.{KeepsRules}
@@ -13,31 +13,31 @@ use Rattle.layout_model.specs.CellTrees.{CellTree}
 use Rattle.layout_model.specs.FlatSets.{parts_in}
 use Rattle.ext_model.specs.declared.records.MergeRec.{MergeRec}
 use Rattle.ext_model.specs.declared.records.NodeRec.{NodeRec}
-use Rattle.group_meetings.specs.CellNodes.NodeRecords.{AreNodeRecords}
+use Rattle.tile_members.specs.GroupMeetings.CellNodes.NodeRecords.{AreNodeRecords}
 use Rattle.flood_nodes.specs.declared.found.Regions.{Regions}
 use Rattle.hierarchy_model.specs.CleanCells.{IsClean}
-use Rattle.meeting_sums.specs.TreeRecords.NamedTrees.{NamedTree, OwnBody, layouts_of, own_body}
-use Rattle.meeting_sums.specs.TreeRecords.Merges.{AreGroupMerges}
-use Rattle.group_meetings.specs.TreeNames.CleanTrees.{IsCleanTree}
-use Rattle.meeting_sums.specs.LowerMeetingLaws.PartLayouts.{HoldsAllMeetings, Passes}
+use Rattle.piece_groups.specs.MeetingSums.TreeRecords.NamedTrees.{NamedTree, OwnBody, layouts_of, own_body}
+use Rattle.piece_groups.specs.MeetingSums.TreeRecords.Merges.{AreGroupMerges}
+use Rattle.tile_members.specs.GroupMeetings.TreeNames.CleanTrees.{IsCleanTree}
+use Rattle.piece_groups.specs.MeetingSums.LowerMeetingLaws.PartLayouts.{HoldsAllMeetings, Passes}
 use Rattle.hierarchy_model.specs.Restrictions.{IsRestriction}
 use Rattle.offences.specs.declared.plane_stacks.PlaneStack.{PlaneStack}
-use Rattle.group_meetings.specs.Laws.{RecordedPartsHaveMembers}
-use Rattle.group_meetings.specs.Members.{PartsHaveMembers}
-use Rattle.cell_tree.specs.Trees.{cell_at}
-use Rattle.cell_library.specs.LayoutTrees.{tree_at}
-use Rattle.cell_library.specs.Libraries.{LibraryParts, IsLawfulLibrary, cells_seen, seen}
-use Rattle.cell_library.specs.OwnBoxes.{OwnBoxIs}
-use Rattle.cell_library.specs.PartCounts.{element_count}
-use Rattle.cell_library.specs.Views.{LibraryView, view_at}
-use Rattle.cell_library.proofs.ElementCounts.{few_elements, part_count}
-use Rattle.cell_library.proofs.ViewLaws.{state_there}
-use Rattle.library_trees.specs.NamedCells.{named_tree_at, own_body_of}
-use Rattle.library_trees.specs.KeptRecords.{HaveKeptRecordsBelow, KeptRecords}
-use Rattle.library_trees.specs.RecordLaws.{KeptRecordsAreOfTheTree}
-use Rattle.cell_library.specs.declared.part_tiles.PartTile.{PartTile}
+use Rattle.tile_members.specs.GroupMeetings.Laws.{RecordedPartsHaveMembers}
+use Rattle.tile_members.specs.GroupMeetings.Members.{PartsHaveMembers}
+use Rattle.hier_merge.specs.CellTree.Trees.{cell_at}
+use Rattle.hier_merge.specs.CellLibrary.LayoutTrees.{tree_at}
+use Rattle.hier_merge.specs.CellLibrary.Libraries.{LibraryParts, IsLawfulLibrary, cells_seen, seen}
+use Rattle.hier_merge.specs.CellLibrary.OwnBoxes.{OwnBoxIs}
+use Rattle.hier_merge.specs.CellLibrary.PartCounts.{element_count}
+use Rattle.hier_merge.specs.CellLibrary.Views.{LibraryView, view_at}
+use Rattle.hier_merge.proofs.CellLibrary.ElementCounts.{few_elements, part_count}
+use Rattle.hier_merge.proofs.CellLibrary.ViewLaws.{state_there}
+use Rattle.tile_members.specs.LibraryTrees.NamedCells.{named_tree_at, own_body_of}
+use Rattle.tile_members.specs.LibraryTrees.KeptRecords.{HaveKeptRecordsBelow, KeptRecords}
+use Rattle.tile_members.specs.LibraryTrees.RecordLaws.{KeptRecordsAreOfTheTree}
+use Rattle.hier_merge.specs.CellLibrary.declared.part_tiles.PartTile.{PartTile}
 use Rattle.hier_merge.specs.MeetingPieces.{AreMeetingPieces}
-use Rattle.meeting_sums.specs.declared.limits.TheConstants.{MOST_PARTS}
+use Rattle.piece_groups.specs.MeetingSums.declared.limits.TheConstants.{MOST_PARTS}
 use Rattle.piece_groups.specs.MemberLaws.{AreMarkedPieces}
 use Rattle.piece_groups.specs.MemberMarks.{AreMemberMarks}
 use Rattle.piece_groups.specs.Laws.{HasRecordsBelow, MarkedGroupsAreRecorded}

@@ -28,13 +28,13 @@ use Rattle.hierarchy_model.specs.CleanCells.{IsClean}
 use Rattle.hierarchy_model.specs.Restrictions.{IsRestriction, PartStands}
 use Rattle.hierarchy_model.proofs.CleanLaws.{flat_defined}
 use Rattle.hierarchy_model.proofs.PartSearch.{flat_of_none, kind_stands}
-use Rattle.meeting_sums.specs.LowerMeetingLaws.PartLayouts.{Passes}
-use Rattle.meeting_sums.proofs.LowerMeetingLaws.RestrictionLaws.{none_elsewhere}
+use Rattle.piece_groups.specs.MeetingSums.LowerMeetingLaws.PartLayouts.{Passes}
+use Rattle.piece_groups.proofs.MeetingSums.LowerMeetingLaws.RestrictionLaws.{none_elsewhere}
 use Rattle.flood_nodes.specs.Stacking.{AreTyped}
 use Rattle.hier_merge.specs.MeetingPieces.{AreMeetingPieces, HasCoveringTiles}
 use Rattle.hier_merge.proofs.MeetingOffences.{places_of_clean}
-use Rattle.meeting_sums.specs.StackTiles.{tile_of, tiles_of}
-use Rattle.cell_library.specs.declared.part_tiles.PartTile.{PartTile}
+use Rattle.piece_groups.specs.MeetingSums.StackTiles.{tile_of, tiles_of}
+use Rattle.hier_merge.specs.CellLibrary.declared.part_tiles.PartTile.{PartTile}
 use Rattle.tree_merges.proofs.PieceTiles.{all_tiles}
 
 -- ---- what all parts have together

@@ -15,11 +15,11 @@ use Rattle.offences.specs.declared.plane_stacks.PlaneStack.{PlaneStack}
 use Rattle.offences.specs.Offences.{SetLayout}
 use Rattle.offences.specs.PlaneStacks.{ArePlaneStacks}
 use Rattle.offences.specs.TypedStacks.{AreByPart}
-use Rattle.meeting_sums.specs.TreeRecords.NamedTrees.{NamedTree}
-use Rattle.cell_library.specs.declared.part_tiles.PartTile.{PartTile}
+use Rattle.piece_groups.specs.MeetingSums.TreeRecords.NamedTrees.{NamedTree}
+use Rattle.hier_merge.specs.CellLibrary.declared.part_tiles.PartTile.{PartTile}
 use Rattle.hier_merge.specs.MeetingPieces.{AreMeetingPieces, HasCoveringTiles}
-use Rattle.meeting_sums.specs.declared.limits.TheConstants.{MOST_PARTS}
-use Rattle.meeting_sums.specs.Sums.{AreMeetingSums}
+use Rattle.piece_groups.specs.MeetingSums.declared.limits.TheConstants.{MOST_PARTS}
+use Rattle.piece_groups.specs.MeetingSums.Sums.{AreMeetingSums}
 use Rattle.piece_groups.specs.MemberMarks.{AreMemberMarks, mark_at}
 use Rattle.piece_groups.specs.Laws.{piece_marks}
 use Rattle.tile_members.specs.declared.members.TileMembers.{TileMembers}

@@ -9,9 +9,9 @@ use Rattle.finite_sets.proofs.Searches.{All-In}
 use Rattle.tech_model.specs.declared.raw.RawTech.{RawTech}
 use Rattle.layout_model.specs.CellTrees.{CellTree}
 use Rattle.offences.specs.declared.plane_stacks.PlaneStack.{PlaneStack}
-use Rattle.meeting_sums.specs.TreeRecords.NamedTrees.{NamedTree}
+use Rattle.piece_groups.specs.MeetingSums.TreeRecords.NamedTrees.{NamedTree}
 use Rattle.hier_merge.specs.MeetingPieces.{AreMeetingPieces, CoversPiece, HasCoveringTiles}
-use Rattle.cell_library.specs.declared.part_tiles.PartTile.{PartTile}
+use Rattle.hier_merge.specs.CellLibrary.declared.part_tiles.PartTile.{PartTile}
 use Rattle.piece_groups.specs.PieceMembers.{AreMembersInPieces, IsNumberedIn}
 use Rattle.tile_members.specs.TileMembers.{AreTileMembers}
 use Rattle.tree_merges.specs.steps.MemberPairs.{member_pairs, pairs_from, piece_pairs}

@@ -9,7 +9,7 @@ use Rattle.finite_sets.proofs.Pairs.{AllPairs-from_Pairwise, Pairwise-from_AllPa
 use Rattle.finite_sets.proofs.Searches.{All-from_In}
 use Rattle.geo_core.specs.Areas.{IsNear}
 use Rattle.geo_core.specs.Covering.{Covers, IsProper}
-use Rattle.rect_contacts.specs.declared.contacts.Contact.{Contact}
+use Rattle.flood_nodes.specs.RectContacts.declared.contacts.Contact.{Contact}
 use Rattle.tech_model.specs.declared.raw.RawTech.{RawTech}
 use Rattle.layout_model.specs.declared.region_tiles.RegionTile.{RegionTile}
 use Rattle.layout_model.specs.Places.{Place}
@@ -22,7 +22,7 @@ use Rattle.offences.specs.declared.plane_stacks.PlaneStack.{PlaneStack}
 use Rattle.offences.specs.Offences.{SetLayout}
 use Rattle.offences.specs.PlaneStacks.{ArePlaneStacks}
 use Rattle.offences.specs.TypedStacks.{no_typed_stack}
-use Rattle.meeting_sums.specs.StackTiles.{tile_of, tiles_of}
+use Rattle.piece_groups.specs.MeetingSums.StackTiles.{tile_of, tiles_of}
 use Rattle.piece_groups.specs.PieceMembers.{LiesInPiece}
 
 -- what holds of each piece as a tile holds of all tiles

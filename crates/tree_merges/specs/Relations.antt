@@ -2,9 +2,9 @@
 use Rattle.std.specs.Prelude.{ℕ, List}
 use Rattle.ext_model.specs.declared.records.NodeRec.{NodeRec}
 use Rattle.ext_model.specs.Tables.{Table, ext_of}
-use Rattle.group_meetings.specs.CellNodes.NodeRecords.{AreNodeRecords}
-use Rattle.cell_library.specs.Views.{LibraryView, view_at}
-use Rattle.library_trees.specs.KeptRecords.{KeptRecords}
+use Rattle.tile_members.specs.GroupMeetings.CellNodes.NodeRecords.{AreNodeRecords}
+use Rattle.hier_merge.specs.CellLibrary.Views.{LibraryView, view_at}
+use Rattle.tile_members.specs.LibraryTrees.KeptRecords.{KeptRecords}
 
 -- the record that a table has of each cell, by the position of the cell
 abbrev pub records_in : Table → KeptRecords

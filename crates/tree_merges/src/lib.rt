@@ -21,4 +21,6 @@ mod merging;
 mod piece_tiles;
 mod relating;
 
+pub use hier_merge::cell_library;
 pub use relating::{Related, relate};
+pub use tile_members::element_paths;

@@ -4,11 +4,11 @@ ghost use Rattle.finite_sets.specs.Lists.{Distinct};
 ghost use Rattle.ext_model.specs.declared.records.MergeRec.{MergeRec};
 ghost use Rattle.ext_model.specs.Rows.{AreRowsOf};
 ghost use Rattle.hierarchy_model.specs.CleanCells.{IsClean};
-ghost use Rattle.cell_library.specs.Libraries.{seen};
-ghost use Rattle.cell_library.specs.LayoutTrees.{tree_at};
-ghost use Rattle.library_trees.specs.NamedCells.{named_tree_at};
-ghost use Rattle.library_trees.specs.KeptRecords.{HaveKeptRecordsBelow};
-ghost use Rattle.meeting_sums.specs.TreeRecords.Merges.{AreGroupMerges};
+ghost use Rattle.hier_merge.specs.CellLibrary.Libraries.{seen};
+ghost use Rattle.hier_merge.specs.CellLibrary.LayoutTrees.{tree_at};
+ghost use Rattle.tile_members.specs.LibraryTrees.NamedCells.{named_tree_at};
+ghost use Rattle.tile_members.specs.LibraryTrees.KeptRecords.{HaveKeptRecordsBelow};
+ghost use Rattle.piece_groups.specs.MeetingSums.TreeRecords.Merges.{AreGroupMerges};
 ghost use Rattle.hier_merge.specs.MeetingPieces.{AreMeetingPieces};
 ghost use Rattle.tile_members.specs.TileMembers.{AreTileMembers, IsPartTile};
 ghost use Rattle.tree_merges.specs.steps.MarkedMerges.{AreMarkedMerges, AreMarkedSums};
@@ -17,19 +17,19 @@ ghost use Rattle.tree_merges.specs.Relations.{HasOwnNodes, records_in};
 
 use crate::marking::{marks_of, marks_of_pieces};
 use crate::piece_tiles::regions_of_pieces;
-use cell_library::{Opened, PartTile, Reader};
 use ext_model::{CellKey, ExtTable, MergeRow};
 use flood_nodes::Regions;
-use group_meetings::recorded_parts_have_members;
-use library_trees::{
-    clean_cell_has_clean_tree, kept_records_are_of_the_tree, named_trees_have_the_layouts,
-};
-use meeting_sums::{MeetingSum, meeting_sums};
+use hier_merge::cell_library::{Opened, PartTile, Reader};
 use offences::PlaneStack;
+use piece_groups::meeting_sums::{MeetingSum, meeting_sums};
 use piece_groups::{marked_groups_are_recorded, merges_of_marks};
 use std::alloc::{AllocError, Global};
 use std::sync::ledger::Ledger;
 use tech_model::Tech;
+use tile_members::group_meetings::recorded_parts_have_members;
+use tile_members::library_trees::{
+    clean_cell_has_clean_tree, kept_records_are_of_the_tree, named_trees_have_the_layouts,
+};
 use tile_members::{TileMembers, tile_members};
 
 /// The marks of members and regions, and for each mark what is to be added to its group.

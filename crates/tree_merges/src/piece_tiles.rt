@@ -1,12 +1,12 @@
 //! The pieces at which the parts of a cell meet, as tiles, and their regions.
 ghost use Rattle.std.specs.Prelude.{◌≡◌, IfOk};
-ghost use Rattle.meeting_sums.specs.StackTiles.{tile_of, tiles_of};
+ghost use Rattle.piece_groups.specs.MeetingSums.StackTiles.{tile_of, tiles_of};
 ghost use Rattle.tree_merges.specs.steps.Pieces.{ArePieceRegions, ArePieces};
 
 use flood_nodes::{Regions, regions_of_tiles};
 use layout_model::RegionTile;
-use meeting_sums::stacks_are_layout_tiles;
 use offences::PlaneStack;
+use piece_groups::meeting_sums::stacks_are_layout_tiles;
 use std::alloc::{AllocError, Global};
 use tech_model::{Tech, TypeId};
 

@@ -4,19 +4,19 @@ ghost use Rattle.ext_model.specs.declared.records.MergeRec.{MergeRec as OneMerge
 ghost use Rattle.ext_model.specs.Rows.{AreRowsOf};
 ghost use Rattle.hierarchy_model.specs.CleanCells.{IsCleanBelow};
 ghost use Rattle.hierarchy_model.specs.Laws.{KeepsWhatItHas};
-ghost use Rattle.cell_library.specs.Libraries.{seen};
-ghost use Rattle.cell_library.specs.LayoutTrees.{tree_at};
-ghost use Rattle.library_trees.specs.NamedCells.{named_tree_at};
-ghost use Rattle.library_trees.specs.KeptRecords.{HaveKeptRecordsBelow};
-ghost use Rattle.meeting_sums.specs.TreeRecords.Merges.{AreGroupMerges};
+ghost use Rattle.hier_merge.specs.CellLibrary.Libraries.{seen};
+ghost use Rattle.hier_merge.specs.CellLibrary.LayoutTrees.{tree_at};
+ghost use Rattle.tile_members.specs.LibraryTrees.NamedCells.{named_tree_at};
+ghost use Rattle.tile_members.specs.LibraryTrees.KeptRecords.{HaveKeptRecordsBelow};
+ghost use Rattle.piece_groups.specs.MeetingSums.TreeRecords.Merges.{AreGroupMerges};
 ghost use Rattle.hier_merge.specs.Interactions.{IsWork};
 ghost use Rattle.tree_merges.specs.Relations.{HasOwnNodes, records_in};
 ghost use Rattle.hier_merge.specs.UncleanCells.{AreOffendingOf, IsCleanCell};
 
 use crate::merging::merges_of;
-use cell_library::{Opened, Reader};
 use ext_model::{CellKey, ExtTable, MergeRow};
 use geo_core::Rect;
+use hier_merge::cell_library::{Opened, Reader};
 use hier_merge::{Meeting, meeting_of};
 use hierarchy_model::clean_cells_keep_what_they_have;
 use names_lists::List;

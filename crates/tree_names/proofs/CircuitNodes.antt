@@ -1,24 +1,24 @@
 -- The nodes that the records mean go by the names of the flat nodes.
 use Rattle.std.proofs.Common.{ℕ, List, [], inl, inr, subst}
 use Rattle.std.specs.Prelude.{◌↔◌}
-use Rattle.finite_sets.specs.Lists.{In}
-use Rattle.finite_sets.proofs.Chains.{Chain-append, Chain-either_back}
-use Rattle.finite_sets.specs.OneForOne.{AreOneForOne}
-use Rattle.tech_model.specs.declared.raw.RawTech.{RawTech}
-use Rattle.tech_model.specs.Rules.{KeepsRules}
-use Rattle.tech_model.specs.WellFormed.{IsWellFormed}
-use Rattle.ext_model.specs.declared.records.CellExt.{CellExt}
-use Rattle.ext_model.specs.declared.records.NodeRec.{NodeRec}
-use Rattle.ext_model.specs.Paths.{full_name}
-use Rattle.ext_model.specs.RecordNames.{names_of}
-use Rattle.layout_model.specs.Places.{Place}
-use Rattle.circuit_model.specs.Elements.{Element}
-use Rattle.circuit_model.specs.FlatNodes.{AreFlatNodes, IsFlatNode}
-use Rattle.circuit_model.specs.FullNames.{AreLinked, AreOneNode}
+use Rattle.name_classes.specs.FiniteSets.Lists.{In}
+use Rattle.name_classes.proofs.FiniteSets.Chains.{Chain-append, Chain-either_back}
+use Rattle.name_classes.specs.FiniteSets.OneForOne.{AreOneForOne}
+use Rattle.hierarchy_model.specs.TechModel.declared.raw.RawTech.{RawTech}
+use Rattle.hierarchy_model.specs.TechModel.Rules.{KeepsRules}
+use Rattle.hierarchy_model.specs.TechModel.WellFormed.{IsWellFormed}
+use Rattle.name_classes.specs.ExtModel.declared.records.CellExt.{CellExt}
+use Rattle.name_classes.specs.ExtModel.declared.records.NodeRec.{NodeRec}
+use Rattle.name_classes.specs.ExtModel.Paths.{full_name}
+use Rattle.name_classes.specs.ExtModel.RecordNames.{names_of}
+use Rattle.own_record_laws.specs.LayoutModel.Places.{Place}
+use Rattle.name_classes.specs.CircuitModel.Elements.{Element}
+use Rattle.name_classes.specs.CircuitModel.FlatNodes.{AreFlatNodes, IsFlatNode}
+use Rattle.name_classes.specs.CircuitModel.FullNames.{AreLinked, AreOneNode}
 use Rattle.name_classes.proofs.FullNames.ListOrders.{pairwise_names}
-use Rattle.tree_records.specs.FlatLayouts.{HasNodePath, IsFlatName}
-use Rattle.tree_records.specs.NamedTrees.{NamedTree, named_standings}
-use Rattle.tree_records.specs.TreeRecords.{HasTreeRecords}
+use Rattle.own_record_laws.specs.TreeRecords.FlatLayouts.{HasNodePath, IsFlatName}
+use Rattle.own_record_laws.specs.TreeRecords.NamedTrees.{NamedTree, named_standings}
+use Rattle.own_record_laws.specs.TreeRecords.TreeRecords.{HasTreeRecords}
 use Rattle.tree_names.specs.CircuitNodes.{IsNamedAsFlatNode, NameFlatNodes}
 use Rattle.tree_names.specs.CleanTrees.{IsCleanTree}
 use Rattle.tree_names.specs.TreeElements.{IsElementFor}

@@ -1,12 +1,12 @@
 -- What stands below a clean tree is clean.
-use Rattle.tech_model.specs.declared.raw.RawTech.{RawTech}
-use Rattle.geo_core.specs.declared.transforms.Transform.{Transform}
+use Rattle.hierarchy_model.specs.TechModel.declared.raw.RawTech.{RawTech}
+use Rattle.name_classes.specs.GeoCore.declared.transforms.Transform.{Transform}
 use Rattle.std.proofs.Common.{ℕ, List}
 use Rattle.hierarchy_model.specs.LayoutModel.FlatSets.{AreTyped}
 use Rattle.hierarchy_model.specs.CleanCells.{AreClean}
-use Rattle.tree_records.specs.NamedTrees.{NamedTree, NamedElements, OwnBody, layouts_below}
-use Rattle.tree_records.specs.NamedTrees.NamedTree.{named_tree}
-use Rattle.tree_records.specs.NamedTrees.NamedElements.{element_then}
+use Rattle.own_record_laws.specs.TreeRecords.NamedTrees.{NamedTree, NamedElements, OwnBody, layouts_below}
+use Rattle.own_record_laws.specs.TreeRecords.NamedTrees.NamedTree.{named_tree}
+use Rattle.own_record_laws.specs.TreeRecords.NamedTrees.NamedElements.{element_then}
 use Rattle.tree_names.specs.CleanTrees.{HaveElementNames, IsCleanTree}
 
 -- The tree of each element is clean.

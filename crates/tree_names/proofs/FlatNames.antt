@@ -1,26 +1,26 @@
 -- The names of a flat node are the full names of records that are of one node with one of its names.
 use Rattle.std.proofs.Common.{◌≡◌, ℕ, List, [], ◌∷◌, map, inl, inr, refl, sym, ◌∙◌, ap, subst}
 use Rattle.std.specs.Prelude.{◌↔◌, Some}
-use Rattle.finite_sets.specs.Lists.{In}
-use Rattle.finite_sets.proofs.Members.{In-map, In-map_source}
-use Rattle.finite_sets.proofs.Images.{In-flat_map, In-flat_map_source}
-use Rattle.finite_sets.proofs.OneForOne.{AreOneForOne-image}
-use Rattle.finite_sets.specs.OneForOne.{AreOneForOne}
-use Rattle.tech_model.specs.declared.raw.RawTech.{RawTech}
-use Rattle.tech_model.specs.Rules.{KeepsRules}
-use Rattle.tech_model.specs.WellFormed.{IsWellFormed}
-use Rattle.ext_model.specs.declared.records.CellExt.{CellExt}
-use Rattle.ext_model.specs.Paths.{full_name, path_text}
-use Rattle.ext_model.specs.RecordNames.{names_of, node_names}
-use Rattle.layout_model.specs.Places.{Place}
+use Rattle.name_classes.specs.FiniteSets.Lists.{In}
+use Rattle.name_classes.proofs.FiniteSets.Members.{In-map, In-map_source}
+use Rattle.name_classes.proofs.FiniteSets.Images.{In-flat_map, In-flat_map_source}
+use Rattle.name_classes.proofs.FiniteSets.OneForOne.{AreOneForOne-image}
+use Rattle.name_classes.specs.FiniteSets.OneForOne.{AreOneForOne}
+use Rattle.hierarchy_model.specs.TechModel.declared.raw.RawTech.{RawTech}
+use Rattle.hierarchy_model.specs.TechModel.Rules.{KeepsRules}
+use Rattle.hierarchy_model.specs.TechModel.WellFormed.{IsWellFormed}
+use Rattle.name_classes.specs.ExtModel.declared.records.CellExt.{CellExt}
+use Rattle.name_classes.specs.ExtModel.Paths.{full_name, path_text}
+use Rattle.name_classes.specs.ExtModel.RecordNames.{names_of, node_names}
+use Rattle.own_record_laws.specs.LayoutModel.Places.{Place}
 use Rattle.hierarchy_model.specs.LayoutModel.CellTrees.{place_back}
-use Rattle.circuit_model.specs.Elements.{Element, ext_of}
-use Rattle.circuit_model.specs.FullNames.{AreOneNode, IsFullName, name_in}
-use Rattle.tree_records.specs.FlatLayouts.{HasNodePath, HasNodePathBelow, IsFlatName}
-use Rattle.tree_records.specs.NamedTrees.{NamedTree, NamedElements, NamedStanding, named_standings, named_standings_below, named_above}
-use Rattle.tree_records.specs.NamedTrees.NamedTree.{named_tree}
-use Rattle.tree_records.specs.NamedTrees.NamedElements.{no_more, element_then}
-use Rattle.tree_records.specs.TreeRecords.{HasTreeRecords, HaveTreeRecords}
+use Rattle.name_classes.specs.CircuitModel.Elements.{Element, ext_of}
+use Rattle.name_classes.specs.CircuitModel.FullNames.{AreOneNode, IsFullName, name_in}
+use Rattle.own_record_laws.specs.TreeRecords.FlatLayouts.{HasNodePath, HasNodePathBelow, IsFlatName}
+use Rattle.own_record_laws.specs.TreeRecords.NamedTrees.{NamedTree, NamedElements, NamedStanding, named_standings, named_standings_below, named_above}
+use Rattle.own_record_laws.specs.TreeRecords.NamedTrees.NamedTree.{named_tree}
+use Rattle.own_record_laws.specs.TreeRecords.NamedTrees.NamedElements.{no_more, element_then}
+use Rattle.own_record_laws.specs.TreeRecords.TreeRecords.{HasTreeRecords, HaveTreeRecords}
 use Rattle.tree_names.specs.CleanTrees.{IsCleanTree}
 use Rattle.tree_names.specs.TreeElements.{IsElementFor}
 use Rattle.tree_names.proofs.ElementLinks.{full_name-cell, link_joined}

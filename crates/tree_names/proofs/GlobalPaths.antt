@@ -2,30 +2,30 @@
 use Rattle.std.proofs.Common.{◌≡◌, not, ℕ, true, IsTrue, List, [], ◌∷◌, ◌++◌, inl, inr, refl, sym, ◌∙◌, ap, subst}
 use Rattle.std.specs.Prelude.{codes}
 use Rattle.std.proofs.lemmas.Bool.{and_parts, false≢true}
-use Rattle.finite_sets.proofs.Chains.{Chain-append}
-use Rattle.tech_model.specs.declared.raw.RawTech.{RawTech}
-use Rattle.tech_model.specs.Rules.{KeepsRules}
-use Rattle.tech_model.specs.Types.{first_name, layer_at, layer_of}
-use Rattle.tech_model.specs.WellFormed.{IsWellFormed}
-use Rattle.ext_model.specs.declared.names.TheConstants.{GENERATED_MARK, GLOBAL_MARK}
-use Rattle.ext_model.specs.declared.records.CellExt.{CellExt}
-use Rattle.ext_model.specs.NodeNames.{ends_in, is_global, is_naming_text, is_node_name, slashes_in}
-use Rattle.ext_model.specs.Paths.{last_name, path_text}
-use Rattle.ext_model.proofs.PathNames.{last_name-behind, last_name-whole}
-use Rattle.ext_model.proofs.RecordNameLaws.{slashes_in-node_name}
-use Rattle.layout_model.specs.Places.{Place}
+use Rattle.name_classes.proofs.FiniteSets.Chains.{Chain-append}
+use Rattle.hierarchy_model.specs.TechModel.declared.raw.RawTech.{RawTech}
+use Rattle.hierarchy_model.specs.TechModel.Rules.{KeepsRules}
+use Rattle.hierarchy_model.specs.TechModel.Types.{first_name, layer_at, layer_of}
+use Rattle.hierarchy_model.specs.TechModel.WellFormed.{IsWellFormed}
+use Rattle.name_classes.specs.ExtModel.declared.names.TheConstants.{GENERATED_MARK, GLOBAL_MARK}
+use Rattle.name_classes.specs.ExtModel.declared.records.CellExt.{CellExt}
+use Rattle.name_classes.specs.ExtModel.NodeNames.{ends_in, is_global, is_naming_text, is_node_name, slashes_in}
+use Rattle.name_classes.specs.ExtModel.Paths.{last_name, path_text}
+use Rattle.name_classes.proofs.ExtModel.PathNames.{last_name-behind, last_name-whole}
+use Rattle.name_classes.proofs.ExtModel.RecordNameLaws.{slashes_in-node_name}
+use Rattle.own_record_laws.specs.LayoutModel.Places.{Place}
 use Rattle.hierarchy_model.specs.LayoutModel.CellTrees.{place_back}
 use Rattle.own_record_laws.specs.Names.Attachments.{HasText, label_at}
 use Rattle.own_record_laws.specs.Names.GeneratedNames.{coordinate_text, generated_name}
 use Rattle.own_record_laws.proofs.Names.AttachLaws.{suits_material}
 use Rattle.own_record_laws.proofs.CellNodes.NodePlaces.{AreOneNamedNode-sym}
 use Rattle.own_record_laws.proofs.NodesByName.{ends_in-mark}
-use Rattle.tree_records.specs.FlatLayouts.{AreOneFlatNode, HasOwnName, HasNodePath, HasNodePathBelow, HasTextBelow, HasTextSomewhere}
-use Rattle.tree_records.specs.NamedTrees.{NamedTree, NamedElements, OwnBody, place_forth}
-use Rattle.tree_records.specs.NamedTrees.NamedTree.{named_tree}
-use Rattle.tree_records.specs.NamedTrees.NamedElements.{no_more, element_then}
-use Rattle.tree_records.proofs.MoveLaws.{above_from_back}
-use Rattle.tree_records.specs.TreeRecords.{HasTreeRecords, HaveTreeRecords}
+use Rattle.own_record_laws.specs.TreeRecords.FlatLayouts.{AreOneFlatNode, HasOwnName, HasNodePath, HasNodePathBelow, HasTextBelow, HasTextSomewhere}
+use Rattle.own_record_laws.specs.TreeRecords.NamedTrees.{NamedTree, NamedElements, OwnBody, place_forth}
+use Rattle.own_record_laws.specs.TreeRecords.NamedTrees.NamedTree.{named_tree}
+use Rattle.own_record_laws.specs.TreeRecords.NamedTrees.NamedElements.{no_more, element_then}
+use Rattle.own_record_laws.proofs.TreeRecords.MoveLaws.{above_from_back}
+use Rattle.own_record_laws.specs.TreeRecords.TreeRecords.{HasTreeRecords, HaveTreeRecords}
 use Rattle.tree_names.specs.CleanTrees.{IsCleanTree}
 use Rattle.tree_names.proofs.CleanTrees.{AreCleanTrees, clean_below, clean_first, clean_rest}
 use Rattle.tree_names.proofs.LiftedLinks.{StandBelow, below_stands, flat_node_up, own_node_up}

@@ -1,25 +1,25 @@
 -- Two paths that a record joins have places of one flat node.
 use Rattle.std.proofs.Common.{ℕ, List, inl, inr, sym, subst}
-use Rattle.finite_sets.specs.Chain.Chain.{stay}
-use Rattle.finite_sets.specs.Lists.{In}
-use Rattle.finite_sets.proofs.Chains.{Chain-append}
-use Rattle.finite_sets.proofs.Images.{In-flat_map_source}
-use Rattle.tech_model.specs.declared.raw.RawTech.{RawTech}
-use Rattle.tech_model.specs.Rules.{KeepsRules}
-use Rattle.tech_model.specs.WellFormed.{IsWellFormed}
-use Rattle.ext_model.specs.declared.records.CellExt.{CellExt}
-use Rattle.ext_model.specs.RecordNames.{names_of}
-use Rattle.layout_model.specs.Places.{Place}
-use Rattle.layout_model.specs.Technologies.{rules_of}
+use Rattle.name_classes.specs.FiniteSets.Chain.Chain.{stay}
+use Rattle.name_classes.specs.FiniteSets.Lists.{In}
+use Rattle.name_classes.proofs.FiniteSets.Chains.{Chain-append}
+use Rattle.name_classes.proofs.FiniteSets.Images.{In-flat_map_source}
+use Rattle.hierarchy_model.specs.TechModel.declared.raw.RawTech.{RawTech}
+use Rattle.hierarchy_model.specs.TechModel.Rules.{KeepsRules}
+use Rattle.hierarchy_model.specs.TechModel.WellFormed.{IsWellFormed}
+use Rattle.name_classes.specs.ExtModel.declared.records.CellExt.{CellExt}
+use Rattle.name_classes.specs.ExtModel.RecordNames.{names_of}
+use Rattle.own_record_laws.specs.LayoutModel.Places.{Place}
+use Rattle.own_record_laws.specs.LayoutModel.Technologies.{rules_of}
 use Rattle.own_record_laws.proofs.PreferredNames.{recorded}
-use Rattle.tree_records.specs.FlatLayouts.{AreOneFlatNode, HasNodePath, HasNodePathBelow}
-use Rattle.tree_records.specs.MemberGroups.{AreOneGroup, IsMemberOf}
-use Rattle.tree_records.specs.NamedTrees.{NamedTree, NamedElements, OwnBody, place_forth}
-use Rattle.tree_records.specs.NamedTrees.NamedTree.{named_tree}
-use Rattle.tree_records.specs.NamedTrees.NamedElements.{no_more, element_then}
-use Rattle.tree_records.proofs.MoveLaws.{back_from_above}
-use Rattle.tree_records.specs.Merges.{group_merges}
-use Rattle.tree_records.specs.TreeRecords.{HasTreeRecords, HaveTreeRecords, IsTreeRecord}
+use Rattle.own_record_laws.specs.TreeRecords.FlatLayouts.{AreOneFlatNode, HasNodePath, HasNodePathBelow}
+use Rattle.own_record_laws.specs.TreeRecords.MemberGroups.{AreOneGroup, IsMemberOf}
+use Rattle.own_record_laws.specs.TreeRecords.NamedTrees.{NamedTree, NamedElements, OwnBody, place_forth}
+use Rattle.own_record_laws.specs.TreeRecords.NamedTrees.NamedTree.{named_tree}
+use Rattle.own_record_laws.specs.TreeRecords.NamedTrees.NamedElements.{no_more, element_then}
+use Rattle.own_record_laws.proofs.TreeRecords.MoveLaws.{back_from_above}
+use Rattle.own_record_laws.specs.TreeRecords.Merges.{group_merges}
+use Rattle.own_record_laws.specs.TreeRecords.TreeRecords.{HasTreeRecords, HaveTreeRecords, IsTreeRecord}
 use Rattle.tree_names.specs.CleanTrees.{IsCleanTree}
 use Rattle.tree_names.specs.PathLinks.{AreMergedIn, AreNamesOfNode, ArePathsJoined, ArePathsJoinedBelow, GroupHasPath, ShareFlatNode}
 use Rattle.tree_names.proofs.CleanTrees.{AreCleanTrees, clean_below, clean_first, clean_rest}

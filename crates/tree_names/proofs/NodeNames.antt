@@ -1,23 +1,23 @@
 -- Full names are of one node exactly where places with their paths are of one flat node.
 use Rattle.std.proofs.Common.{◌≡◌, ℕ, true, false, Bool, if◌then◌else◌, List, [], inl, inr, refl, sym, ◌∙◌, ap, subst}
 use Rattle.std.proofs.lemmas.Bool.{cases_Bool, false≢true}
-use Rattle.finite_sets.specs.Chain.{EitherWay}
-use Rattle.finite_sets.proofs.Chains.{Chain-append, Chain-carries, Chain-either_back, Chain-map, Chain-one}
-use Rattle.finite_sets.specs.OneForOne.{AreOneForOne}
-use Rattle.tech_model.specs.declared.raw.RawTech.{RawTech}
-use Rattle.tech_model.specs.Rules.{KeepsRules}
-use Rattle.tech_model.specs.WellFormed.{IsWellFormed}
-use Rattle.ext_model.specs.declared.records.CellExt.{CellExt}
-use Rattle.ext_model.specs.NodeNames.{is_global}
-use Rattle.ext_model.specs.Paths.{full_name, last_name}
-use Rattle.ext_model.proofs.PathNames.{last_name-whole}
-use Rattle.layout_model.specs.Places.{Place}
-use Rattle.circuit_model.specs.Elements.{Element}
-use Rattle.circuit_model.specs.FullNames.{AreLinked, AreOneNode}
-use Rattle.tree_records.specs.FlatLayouts.{AreFlatLinked, AreOneFlatNode, HasNodePath, HasTextSomewhere}
-use Rattle.tree_records.specs.MemberGroups.{IsGroupName}
-use Rattle.tree_records.specs.NamedTrees.{NamedTree, named_standings}
-use Rattle.tree_records.specs.TreeRecords.{HasTreeRecords}
+use Rattle.name_classes.specs.FiniteSets.Chain.{EitherWay}
+use Rattle.name_classes.proofs.FiniteSets.Chains.{Chain-append, Chain-carries, Chain-either_back, Chain-map, Chain-one}
+use Rattle.name_classes.specs.FiniteSets.OneForOne.{AreOneForOne}
+use Rattle.hierarchy_model.specs.TechModel.declared.raw.RawTech.{RawTech}
+use Rattle.hierarchy_model.specs.TechModel.Rules.{KeepsRules}
+use Rattle.hierarchy_model.specs.TechModel.WellFormed.{IsWellFormed}
+use Rattle.name_classes.specs.ExtModel.declared.records.CellExt.{CellExt}
+use Rattle.name_classes.specs.ExtModel.NodeNames.{is_global}
+use Rattle.name_classes.specs.ExtModel.Paths.{full_name, last_name}
+use Rattle.name_classes.proofs.ExtModel.PathNames.{last_name-whole}
+use Rattle.own_record_laws.specs.LayoutModel.Places.{Place}
+use Rattle.name_classes.specs.CircuitModel.Elements.{Element}
+use Rattle.name_classes.specs.CircuitModel.FullNames.{AreLinked, AreOneNode}
+use Rattle.own_record_laws.specs.TreeRecords.FlatLayouts.{AreFlatLinked, AreOneFlatNode, HasNodePath, HasTextSomewhere}
+use Rattle.own_record_laws.specs.TreeRecords.MemberGroups.{IsGroupName}
+use Rattle.own_record_laws.specs.TreeRecords.NamedTrees.{NamedTree, named_standings}
+use Rattle.own_record_laws.specs.TreeRecords.TreeRecords.{HasTreeRecords}
 use Rattle.tree_names.specs.CleanTrees.{IsCleanTree}
 use Rattle.tree_names.specs.PathLinks.{ArePathsJoined}
 use Rattle.tree_names.specs.TreeElements.{IsElementFor}

@@ -7,37 +7,37 @@ use Rattle.std.proofs.lemmas.List.Sums.{fails_before_first}
 use Rattle.std.proofs.lemmas.Option.{get_or_from_slice_get}
 use Rattle.std.proofs.lemmas.Slice.Eq.{bytes_eq-Decides}
 use Rattle.std.specs.Str.{bytes_eq}
-use Rattle.finite_sets.specs.Lists.{In}
-use Rattle.finite_sets.proofs.Chains.{Chain-one}
-use Rattle.finite_sets.proofs.Members.{In-append_cases, In-map, In-map_source}
-use Rattle.finite_sets.proofs.Searches.{find-In, find-passes, In-from_list_any, absent-from_list_any}
-use Rattle.finite_sets.proofs.Images.{In-flat_map}
-use Rattle.finite_sets.proofs.Places.{In-slice_get}
-use Rattle.finite_sets.proofs.OneForOne.{AreOneForOne-there, AreOneForOne-back}
-use Rattle.finite_sets.specs.OneForOne.{AreOneForOne}
-use Rattle.geo_core.specs.declared.squares.Square.{Square}
-use Rattle.tech_model.specs.declared.raw.RawTech.{RawTech}
-use Rattle.tech_model.specs.WellFormed.{IsWellFormed}
-use Rattle.ext_model.specs.declared.records.CellExt.{CellExt}
-use Rattle.ext_model.specs.declared.records.NodeRec.{NodeRec}
-use Rattle.ext_model.specs.Paths.{full_name}
-use Rattle.ext_model.specs.RecordNames.{names_of, node_names}
-use Rattle.layout_model.specs.LayerTypes.{HasTypesOf}
-use Rattle.layout_model.specs.Places.{Place}
+use Rattle.name_classes.specs.FiniteSets.Lists.{In}
+use Rattle.name_classes.proofs.FiniteSets.Chains.{Chain-one}
+use Rattle.name_classes.proofs.FiniteSets.Members.{In-append_cases, In-map, In-map_source}
+use Rattle.name_classes.proofs.FiniteSets.Searches.{find-In, find-passes, In-from_list_any, absent-from_list_any}
+use Rattle.name_classes.proofs.FiniteSets.Images.{In-flat_map}
+use Rattle.name_classes.proofs.FiniteSets.Places.{In-slice_get}
+use Rattle.name_classes.proofs.FiniteSets.OneForOne.{AreOneForOne-there, AreOneForOne-back}
+use Rattle.name_classes.specs.FiniteSets.OneForOne.{AreOneForOne}
+use Rattle.name_classes.specs.GeoCore.declared.squares.Square.{Square}
+use Rattle.hierarchy_model.specs.TechModel.declared.raw.RawTech.{RawTech}
+use Rattle.hierarchy_model.specs.TechModel.WellFormed.{IsWellFormed}
+use Rattle.name_classes.specs.ExtModel.declared.records.CellExt.{CellExt}
+use Rattle.name_classes.specs.ExtModel.declared.records.NodeRec.{NodeRec}
+use Rattle.name_classes.specs.ExtModel.Paths.{full_name}
+use Rattle.name_classes.specs.ExtModel.RecordNames.{names_of, node_names}
+use Rattle.own_record_laws.specs.LayoutModel.LayerTypes.{HasTypesOf}
+use Rattle.own_record_laws.specs.LayoutModel.Places.{Place}
 use Rattle.hierarchy_model.specs.LayoutModel.FlatSets.{AreTyped, IsTyped}
 use Rattle.own_record_laws.specs.CellNodes.NodeRecords.{AreNodeRecords, IsNodeRecord}
-use Rattle.circuit_model.specs.Elements.{Element, ids_of, placed}
-use Rattle.circuit_model.specs.FlatNodes.{IsFlatNode, gives_name, is_among}
-use Rattle.circuit_model.specs.FullNames.{AreOneNode, full_names, name_in}
+use Rattle.name_classes.specs.CircuitModel.Elements.{Element, ids_of, placed}
+use Rattle.name_classes.specs.CircuitModel.FlatNodes.{IsFlatNode, gives_name, is_among}
+use Rattle.name_classes.specs.CircuitModel.FullNames.{AreOneNode, full_names, name_in}
 use Rattle.name_classes.proofs.FullNames.ListOrders.{pairwise_names}
 use Rattle.own_record_laws.specs.TreeRecords.FetRecords.{IsNoLaterName}
 use Rattle.own_record_laws.proofs.NameForms.{name_form}
 use Rattle.own_record_laws.proofs.PreferredNames.{later_both_ways, preferred_is_first, recorded}
-use Rattle.tree_records.specs.NamedTrees.{NamedTree, NamedElements, OwnBody, NamedStanding, layouts_below, layouts_of, named_standings, named_standings_below}
-use Rattle.tree_records.specs.NamedTrees.{named_above}
-use Rattle.tree_records.specs.NamedTrees.NamedTree.{named_tree}
-use Rattle.tree_records.specs.NamedTrees.NamedElements.{no_more, element_then}
-use Rattle.tree_records.specs.TreeCircuits.{HasNodeNamed, IsPointOf}
+use Rattle.own_record_laws.specs.TreeRecords.NamedTrees.{NamedTree, NamedElements, OwnBody, NamedStanding, layouts_below, layouts_of, named_standings, named_standings_below}
+use Rattle.own_record_laws.specs.TreeRecords.NamedTrees.{named_above}
+use Rattle.own_record_laws.specs.TreeRecords.NamedTrees.NamedTree.{named_tree}
+use Rattle.own_record_laws.specs.TreeRecords.NamedTrees.NamedElements.{no_more, element_then}
+use Rattle.own_record_laws.specs.TreeRecords.TreeCircuits.{HasNodeNamed, IsPointOf}
 use Rattle.tree_names.specs.TreeElements.{IsElementFor}
 use Rattle.tree_names.proofs.FullOrders.{full_no_later}
 use Rattle.tree_names.proofs.RecordedNodes.{record_at}

@@ -1,15 +1,15 @@
 -- Places with one path are of one flat node.
 use Rattle.std.proofs.Common.{ℕ, List, inl, inr, refl, sym, ◌∙◌, subst}
-use Rattle.finite_sets.specs.Lists.{Distinct}
-use Rattle.tech_model.specs.declared.raw.RawTech.{RawTech}
-use Rattle.tech_model.specs.Rules.{KeepsRules}
-use Rattle.tech_model.specs.WellFormed.{IsWellFormed}
-use Rattle.layout_model.specs.Places.{Place}
+use Rattle.name_classes.specs.FiniteSets.Lists.{Distinct}
+use Rattle.hierarchy_model.specs.TechModel.declared.raw.RawTech.{RawTech}
+use Rattle.hierarchy_model.specs.TechModel.Rules.{KeepsRules}
+use Rattle.hierarchy_model.specs.TechModel.WellFormed.{IsWellFormed}
+use Rattle.own_record_laws.specs.LayoutModel.Places.{Place}
 use Rattle.hierarchy_model.specs.LayoutModel.CellTrees.{place_back}
-use Rattle.tree_records.specs.FlatLayouts.{AreOneFlatNode, HasNodePath, HasNodePathBelow}
-use Rattle.tree_records.specs.NamedTrees.{NamedTree, NamedElements}
-use Rattle.tree_records.specs.NamedTrees.NamedTree.{named_tree}
-use Rattle.tree_records.specs.NamedTrees.NamedElements.{no_more, element_then}
+use Rattle.own_record_laws.specs.TreeRecords.FlatLayouts.{AreOneFlatNode, HasNodePath, HasNodePathBelow}
+use Rattle.own_record_laws.specs.TreeRecords.NamedTrees.{NamedTree, NamedElements}
+use Rattle.own_record_laws.specs.TreeRecords.NamedTrees.NamedTree.{named_tree}
+use Rattle.own_record_laws.specs.TreeRecords.NamedTrees.NamedElements.{no_more, element_then}
 use Rattle.tree_names.specs.CleanTrees.{IsCleanTree, ids_in}
 use Rattle.tree_names.proofs.CleanTrees.{AreCleanTrees, clean_below, clean_first, clean_rest}
 use Rattle.tree_names.proofs.GroupNodes.{flat_node_above}

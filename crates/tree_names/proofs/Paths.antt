@@ -1,14 +1,14 @@
 -- Paths cut at their first slash.
 use Rattle.std.proofs.Common.{◌≡◌, ℕ, List, [], ◌∷◌, ◌++◌, inl, inr, sym, ◌∙◌, ap, subst, arith}
-use Rattle.finite_sets.specs.Lists.{In}
-use Rattle.ext_model.specs.declared.names.TheConstants.{SLASH}
-use Rattle.ext_model.specs.NodeNames.{slashes_in}
-use Rattle.ext_model.specs.Paths.{path_text}
-use Rattle.ext_model.proofs.PathOrders.{slashes_in-behind}
-use Rattle.circuit_model.specs.Refusals.{after_slash, before_slash}
+use Rattle.name_classes.specs.FiniteSets.Lists.{In}
+use Rattle.name_classes.specs.ExtModel.declared.names.TheConstants.{SLASH}
+use Rattle.name_classes.specs.ExtModel.NodeNames.{slashes_in}
+use Rattle.name_classes.specs.ExtModel.Paths.{path_text}
+use Rattle.name_classes.proofs.ExtModel.PathOrders.{slashes_in-behind}
+use Rattle.name_classes.specs.CircuitModel.Refusals.{after_slash, before_slash}
 use Rattle.name_classes.proofs.PathLaws.{after-split, before-split}
-use Rattle.tree_records.specs.NamedTrees.{NamedElements}
-use Rattle.tree_records.specs.NamedTrees.NamedElements.{no_more, element_then}
+use Rattle.own_record_laws.specs.TreeRecords.NamedTrees.{NamedElements}
+use Rattle.own_record_laws.specs.TreeRecords.NamedTrees.NamedElements.{no_more, element_then}
 use Rattle.tree_names.specs.CleanTrees.{HaveElementNames, ids_in}
 
 -- the first slash tells an element's name from the path behind it

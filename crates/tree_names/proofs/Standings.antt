@@ -1,13 +1,13 @@
 -- Paths that the records of cells as they stand join.
 use Rattle.std.proofs.Common.{◌≡◌, ℕ, List, [], ◌∷◌, map, inl, inr, refl, ◌∙◌, ap, subst}
-use Rattle.finite_sets.specs.Lists.{In}
-use Rattle.finite_sets.proofs.Members.{In-append_cases, In-append_left, In-append_right, In-map, In-map_source}
-use Rattle.geo_core.specs.declared.transforms.Transform.{Transform}
-use Rattle.ext_model.specs.declared.records.CellExt.{CellExt}
-use Rattle.ext_model.specs.Paths.{path_text}
-use Rattle.tree_records.specs.NamedTrees.{NamedTree, NamedElements, NamedStanding, named_standings, named_standings_below, named_above}
-use Rattle.tree_records.specs.NamedTrees.NamedTree.{named_tree}
-use Rattle.tree_records.specs.NamedTrees.NamedElements.{no_more, element_then}
+use Rattle.name_classes.specs.FiniteSets.Lists.{In}
+use Rattle.name_classes.proofs.FiniteSets.Members.{In-append_cases, In-append_left, In-append_right, In-map, In-map_source}
+use Rattle.name_classes.specs.GeoCore.declared.transforms.Transform.{Transform}
+use Rattle.name_classes.specs.ExtModel.declared.records.CellExt.{CellExt}
+use Rattle.name_classes.specs.ExtModel.Paths.{path_text}
+use Rattle.own_record_laws.specs.TreeRecords.NamedTrees.{NamedTree, NamedElements, NamedStanding, named_standings, named_standings_below, named_above}
+use Rattle.own_record_laws.specs.TreeRecords.NamedTrees.NamedTree.{named_tree}
+use Rattle.own_record_laws.specs.TreeRecords.NamedTrees.NamedElements.{no_more, element_then}
 use Rattle.tree_names.specs.PathLinks.{AreJoinedIn, ArePathsJoined, ArePathsJoinedBelow}
 
 -- The record of a cell among these joins two names or paths, whose paths from the top are these.

@@ -1,20 +1,20 @@
 -- Each path of a place is joined with the name of the place's group.
 use Rattle.std.proofs.Common.{ℕ, List, [], ◌∷◌, inl, inr, refl, sym, subst}
-use Rattle.finite_sets.specs.Chain.{Chain}
-use Rattle.finite_sets.proofs.Chains.{Chain-append, Chain-map, Chain-one, Chain-push, Chain-weaker}
-use Rattle.tech_model.specs.declared.raw.RawTech.{RawTech}
-use Rattle.tech_model.specs.Rules.{KeepsRules}
-use Rattle.tech_model.specs.WellFormed.{IsWellFormed}
-use Rattle.ext_model.specs.declared.records.CellExt.{CellExt}
-use Rattle.ext_model.specs.Paths.{path_text}
-use Rattle.layout_model.specs.Places.{Place}
+use Rattle.name_classes.specs.FiniteSets.Chain.{Chain}
+use Rattle.name_classes.proofs.FiniteSets.Chains.{Chain-append, Chain-map, Chain-one, Chain-push, Chain-weaker}
+use Rattle.hierarchy_model.specs.TechModel.declared.raw.RawTech.{RawTech}
+use Rattle.hierarchy_model.specs.TechModel.Rules.{KeepsRules}
+use Rattle.hierarchy_model.specs.TechModel.WellFormed.{IsWellFormed}
+use Rattle.name_classes.specs.ExtModel.declared.records.CellExt.{CellExt}
+use Rattle.name_classes.specs.ExtModel.Paths.{path_text}
+use Rattle.own_record_laws.specs.LayoutModel.Places.{Place}
 use Rattle.hierarchy_model.specs.LayoutModel.CellTrees.{place_back}
-use Rattle.tree_records.specs.FlatLayouts.{HasNodePath, HasNodePathBelow}
-use Rattle.tree_records.specs.MemberGroups.{IsGroupName, IsMemberBelow}
-use Rattle.tree_records.specs.NamedTrees.{NamedTree, NamedElements}
-use Rattle.tree_records.specs.NamedTrees.NamedTree.{named_tree}
-use Rattle.tree_records.specs.NamedTrees.NamedElements.{no_more, element_then}
-use Rattle.tree_records.specs.TreeRecords.{HasTreeRecords, HaveTreeRecords}
+use Rattle.own_record_laws.specs.TreeRecords.FlatLayouts.{HasNodePath, HasNodePathBelow}
+use Rattle.own_record_laws.specs.TreeRecords.MemberGroups.{IsGroupName, IsMemberBelow}
+use Rattle.own_record_laws.specs.TreeRecords.NamedTrees.{NamedTree, NamedElements}
+use Rattle.own_record_laws.specs.TreeRecords.NamedTrees.NamedTree.{named_tree}
+use Rattle.own_record_laws.specs.TreeRecords.NamedTrees.NamedElements.{no_more, element_then}
+use Rattle.own_record_laws.specs.TreeRecords.TreeRecords.{HasTreeRecords, HaveTreeRecords}
 use Rattle.tree_names.specs.CleanTrees.{IsCleanTree}
 use Rattle.tree_names.specs.PathLinks.{ArePathsJoined, ArePathsJoinedBelow}
 use Rattle.tree_names.proofs.CleanTrees.{AreCleanTrees, clean_below, clean_first, clean_rest}

@@ -2,22 +2,22 @@
 use Rattle.std.proofs.Common.{◌≡◌, ◌≤◌, ℕ, zero, suc, Some, List, [], ◌∷◌, ◌++◌, map, Option, refl, sym, ◌∙◌, ap, subst, arith, append_assoc}
 use Rattle.std.specs.List.{flat_map}
 use Rattle.std.proofs.lemmas.List.{append-nil}
-use Rattle.finite_sets.proofs.OneForOne.{AreOneForOne-append, AreOneForOne-map, AreOneForOne-weaker}
-use Rattle.finite_sets.specs.OneForOne.{AreOneForOne}
-use Rattle.geo_core.specs.declared.squares.Square.{Square}
-use Rattle.geo_core.specs.declared.transforms.Transform.{Transform}
-use Rattle.geo_core.specs.Images.{image, six_of}
-use Rattle.geo_core.proofs.ImageLaws.{image-composed}
-use Rattle.tech_model.specs.declared.raw.RawTech.{RawTech}
-use Rattle.ext_model.specs.declared.records.CellExt.{CellExt}
-use Rattle.ext_model.specs.declared.records.UseRec.{UseRec}
-use Rattle.circuit_model.specs.declared.limits.TheConstants.{LONGEST_CHAIN}
-use Rattle.circuit_model.specs.Elements.{Element, elements_below, elements_of, ext_of, of_option, placed}
+use Rattle.name_classes.proofs.FiniteSets.OneForOne.{AreOneForOne-append, AreOneForOne-map, AreOneForOne-weaker}
+use Rattle.name_classes.specs.FiniteSets.OneForOne.{AreOneForOne}
+use Rattle.name_classes.specs.GeoCore.declared.squares.Square.{Square}
+use Rattle.name_classes.specs.GeoCore.declared.transforms.Transform.{Transform}
+use Rattle.name_classes.specs.GeoCore.Images.{image, six_of}
+use Rattle.name_classes.proofs.GeoCore.ImageLaws.{image-composed}
+use Rattle.hierarchy_model.specs.TechModel.declared.raw.RawTech.{RawTech}
+use Rattle.name_classes.specs.ExtModel.declared.records.CellExt.{CellExt}
+use Rattle.name_classes.specs.ExtModel.declared.records.UseRec.{UseRec}
+use Rattle.name_classes.specs.CircuitModel.declared.limits.TheConstants.{LONGEST_CHAIN}
+use Rattle.name_classes.specs.CircuitModel.Elements.{Element, elements_below, elements_of, ext_of, of_option, placed}
 use Rattle.name_classes.proofs.ElementTree.Transforms.{image-identity, transform_of-six}
-use Rattle.tree_records.specs.NamedTrees.{NamedTree, NamedElements, NamedStanding, named_standings, named_standings_below, own_body, named_above}
-use Rattle.tree_records.specs.NamedTrees.NamedTree.{named_tree}
-use Rattle.tree_records.specs.NamedTrees.NamedElements.{no_more, element_then}
-use Rattle.tree_records.specs.TreeRecords.{HasTreeRecord, HasTreeRecords, HaveTreeRecords, IsTreeRecord, use_records}
+use Rattle.own_record_laws.specs.TreeRecords.NamedTrees.{NamedTree, NamedElements, NamedStanding, named_standings, named_standings_below, own_body, named_above}
+use Rattle.own_record_laws.specs.TreeRecords.NamedTrees.NamedTree.{named_tree}
+use Rattle.own_record_laws.specs.TreeRecords.NamedTrees.NamedElements.{no_more, element_then}
+use Rattle.own_record_laws.specs.TreeRecords.TreeRecords.{HasTreeRecord, HasTreeRecords, HaveTreeRecords, IsTreeRecord, use_records}
 use Rattle.tree_names.specs.CleanTrees.{depth_of, depth_below}
 use Rattle.tree_names.specs.TreeElements.{IsElementFor}
 

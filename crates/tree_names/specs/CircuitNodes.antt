@@ -1,13 +1,13 @@
 -- Nodes of a circuit that go by the names of flat nodes.
 use Rattle.std.specs.Prelude.{◌↔◌, ℕ, List}
-use Rattle.finite_sets.specs.Lists.{In}
-use Rattle.tech_model.specs.declared.raw.RawTech.{RawTech}
-use Rattle.layout_model.specs.Layouts.{IsMaterial}
-use Rattle.layout_model.specs.Places.{Place}
-use Rattle.ext_model.specs.declared.records.NodeRec.{NodeRec}
-use Rattle.ext_model.specs.RecordNames.{names_of}
-use Rattle.tree_records.specs.FlatLayouts.{IsFlatName, IsOfFlatNode, flat_layout}
-use Rattle.tree_records.specs.NamedTrees.{NamedTree}
+use Rattle.name_classes.specs.FiniteSets.Lists.{In}
+use Rattle.hierarchy_model.specs.TechModel.declared.raw.RawTech.{RawTech}
+use Rattle.own_record_laws.specs.LayoutModel.Layouts.{IsMaterial}
+use Rattle.own_record_laws.specs.LayoutModel.Places.{Place}
+use Rattle.name_classes.specs.ExtModel.declared.records.NodeRec.{NodeRec}
+use Rattle.name_classes.specs.ExtModel.RecordNames.{names_of}
+use Rattle.own_record_laws.specs.TreeRecords.FlatLayouts.{IsFlatName, IsOfFlatNode, flat_layout}
+use Rattle.own_record_laws.specs.TreeRecords.NamedTrees.{NamedTree}
 
 -- The names of the node are those of the flat node that contains the place, and its preferred name is the flat node's.
 pub record IsNamedAsFlatNode (raw : RawTech) (tree : NamedTree) (place : Place) (node : NodeRec) : Type 0 where

@@ -1,13 +1,13 @@
 -- Clean trees: what is asked of a cell with all that stands below it, and how deep it is.
 use Rattle.std.specs.Prelude.{◌≡◌, ℕ, suc, max, List, [], ◌∷◌}
-use Rattle.finite_sets.specs.Lists.{Distinct}
-use Rattle.tech_model.specs.declared.raw.RawTech.{RawTech}
-use Rattle.ext_model.specs.NodeNames.{slashes_in}
+use Rattle.name_classes.specs.FiniteSets.Lists.{Distinct}
+use Rattle.hierarchy_model.specs.TechModel.declared.raw.RawTech.{RawTech}
+use Rattle.name_classes.specs.ExtModel.NodeNames.{slashes_in}
 use Rattle.hierarchy_model.specs.LayoutModel.FlatSets.{IsTyped}
 use Rattle.hierarchy_model.specs.CleanCells.{IsClean}
-use Rattle.tree_records.specs.NamedTrees.{NamedTree, NamedElements, layouts_of}
-use Rattle.tree_records.specs.NamedTrees.NamedTree.{named_tree}
-use Rattle.tree_records.specs.NamedTrees.NamedElements.{no_more, element_then}
+use Rattle.own_record_laws.specs.TreeRecords.NamedTrees.{NamedTree, NamedElements, layouts_of}
+use Rattle.own_record_laws.specs.TreeRecords.NamedTrees.NamedTree.{named_tree}
+use Rattle.own_record_laws.specs.TreeRecords.NamedTrees.NamedElements.{no_more, element_then}
 
 -- the names of the elements of a cell
 abbrev pub ids_in : NamedElements → List (List ℕ)

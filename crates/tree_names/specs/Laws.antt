@@ -1,29 +1,29 @@
 -- The laws of names in cells that use each other, as statements.
 use Rattle.std.specs.Prelude.{◌≡◌, ◌≤◌, ◌↔◌, ℕ, Some, List, []}
-use Rattle.finite_sets.specs.Chain.{Chain}
-use Rattle.finite_sets.specs.Lists.{In}
-use Rattle.finite_sets.specs.OneForOne.{AreOneForOne}
-use Rattle.tech_model.specs.declared.raw.RawTech.{RawTech}
-use Rattle.tech_model.specs.Rules.{KeepsRules}
-use Rattle.tech_model.specs.WellFormed.{IsWellFormed}
-use Rattle.layout_model.specs.LayerTypes.{HasTypesOf}
-use Rattle.layout_model.specs.Layouts.{IsMaterial}
-use Rattle.layout_model.specs.Places.{Place}
+use Rattle.name_classes.specs.FiniteSets.Chain.{Chain}
+use Rattle.name_classes.specs.FiniteSets.Lists.{In}
+use Rattle.name_classes.specs.FiniteSets.OneForOne.{AreOneForOne}
+use Rattle.hierarchy_model.specs.TechModel.declared.raw.RawTech.{RawTech}
+use Rattle.hierarchy_model.specs.TechModel.Rules.{KeepsRules}
+use Rattle.hierarchy_model.specs.TechModel.WellFormed.{IsWellFormed}
+use Rattle.own_record_laws.specs.LayoutModel.LayerTypes.{HasTypesOf}
+use Rattle.own_record_laws.specs.LayoutModel.Layouts.{IsMaterial}
+use Rattle.own_record_laws.specs.LayoutModel.Places.{Place}
 use Rattle.hierarchy_model.specs.LayoutModel.FlatSets.{IsTyped}
 use Rattle.own_record_laws.specs.Names.NamedNodes.{AreOneNamedNode}
-use Rattle.ext_model.specs.declared.records.CellExt.{CellExt}
-use Rattle.ext_model.specs.declared.records.NodeRec.{NodeRec}
-use Rattle.circuit_model.specs.declared.limits.TheConstants.{LONGEST_CHAIN}
-use Rattle.circuit_model.specs.Elements.{Element, elements_of, ext_of}
-use Rattle.circuit_model.specs.FlatNodes.{AreFlatNodes}
-use Rattle.circuit_model.specs.FullNames.{AreOneNode, IsFullName}
-use Rattle.ext_model.specs.Paths.{full_name}
+use Rattle.name_classes.specs.ExtModel.declared.records.CellExt.{CellExt}
+use Rattle.name_classes.specs.ExtModel.declared.records.NodeRec.{NodeRec}
+use Rattle.name_classes.specs.CircuitModel.declared.limits.TheConstants.{LONGEST_CHAIN}
+use Rattle.name_classes.specs.CircuitModel.Elements.{Element, elements_of, ext_of}
+use Rattle.name_classes.specs.CircuitModel.FlatNodes.{AreFlatNodes}
+use Rattle.name_classes.specs.CircuitModel.FullNames.{AreOneNode, IsFullName}
+use Rattle.name_classes.specs.ExtModel.Paths.{full_name}
 use Rattle.own_record_laws.specs.TreeRecords.FetRecords.{IsOfNode}
-use Rattle.tree_records.specs.FlatLayouts.{AreOneFlatNode, HasOwnName, HasNodePath, IsFlatName, flat_layout}
-use Rattle.tree_records.specs.MemberGroups.{AreOneGroup, IsGroupName, IsMemberAt}
-use Rattle.tree_records.specs.NamedTrees.{NamedTree, OwnBody, layouts_of, named_standings, own_body}
-use Rattle.tree_records.specs.TreeCircuits.{IsPointOf}
-use Rattle.tree_records.specs.TreeRecords.{HasTreeRecords}
+use Rattle.own_record_laws.specs.TreeRecords.FlatLayouts.{AreOneFlatNode, HasOwnName, HasNodePath, IsFlatName, flat_layout}
+use Rattle.own_record_laws.specs.TreeRecords.MemberGroups.{AreOneGroup, IsGroupName, IsMemberAt}
+use Rattle.own_record_laws.specs.TreeRecords.NamedTrees.{NamedTree, OwnBody, layouts_of, named_standings, own_body}
+use Rattle.own_record_laws.specs.TreeRecords.TreeCircuits.{IsPointOf}
+use Rattle.own_record_laws.specs.TreeRecords.TreeRecords.{HasTreeRecords}
 use Rattle.tree_names.specs.CircuitNodes.{NameFlatNodes}
 use Rattle.tree_names.specs.CleanTrees.{IsCleanTree, depth_of}
 use Rattle.tree_names.specs.PartLinks.{PartsKeepLinks}

@@ -1,12 +1,12 @@
 -- Links of the parts of a cell, as links of a layout of the cell.
-use Rattle.tech_model.specs.declared.raw.RawTech.{RawTech}
-use Rattle.tech_model.specs.Types.{connects}
-use Rattle.layout_model.specs.Layouts.{Layout}
-use Rattle.layout_model.specs.Links.{AreLinked}
-use Rattle.layout_model.specs.Places.{Place}
-use Rattle.tree_records.specs.FlatLayouts.{flat_layout}
-use Rattle.tree_records.specs.NamedTrees.{NamedTree, NamedElements, named_elements_in, own_body, place_forth}
-use Rattle.tree_records.specs.NamedTrees.NamedElements.{no_more, element_then}
+use Rattle.hierarchy_model.specs.TechModel.declared.raw.RawTech.{RawTech}
+use Rattle.hierarchy_model.specs.TechModel.Types.{connects}
+use Rattle.own_record_laws.specs.LayoutModel.Layouts.{Layout}
+use Rattle.own_record_laws.specs.LayoutModel.Links.{AreLinked}
+use Rattle.own_record_laws.specs.LayoutModel.Places.{Place}
+use Rattle.own_record_laws.specs.TreeRecords.FlatLayouts.{flat_layout}
+use Rattle.own_record_laws.specs.TreeRecords.NamedTrees.{NamedTree, NamedElements, named_elements_in, own_body, place_forth}
+use Rattle.own_record_laws.specs.TreeRecords.NamedTrees.NamedElements.{no_more, element_then}
 
 -- The links of the flat layout of each element are links of this layout, where the element's transform takes them.
 abbrev pub LinksGoUp : RawTech → NamedElements → Layout → Type 0

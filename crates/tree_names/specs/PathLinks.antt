@@ -1,19 +1,19 @@
 -- Paths of a tree that its records join.
 use Rattle.std.specs.Prelude.{◌≡◌, ◌⊎◌, ℕ, Some, List, [], ◌∷◌}
-use Rattle.finite_sets.specs.Lists.{In}
-use Rattle.tech_model.specs.declared.raw.RawTech.{RawTech}
-use Rattle.layout_model.specs.Places.{Place}
-use Rattle.ext_model.specs.declared.records.CellExt.{CellExt}
-use Rattle.ext_model.specs.declared.records.MergeRec.{MergeRec}
-use Rattle.ext_model.specs.declared.records.NodeRec.{NodeRec}
-use Rattle.ext_model.specs.Paths.{path_text}
-use Rattle.ext_model.specs.RecordNames.{names_of}
-use Rattle.circuit_model.specs.Elements.{ext_of}
-use Rattle.tree_records.specs.FlatLayouts.{AreOneFlatNode, HasNodePath}
-use Rattle.tree_records.specs.MemberGroups.{AreOneGroup}
-use Rattle.tree_records.specs.NamedTrees.{NamedTree, NamedElements}
-use Rattle.tree_records.specs.NamedTrees.NamedTree.{named_tree}
-use Rattle.tree_records.specs.NamedTrees.NamedElements.{no_more, element_then}
+use Rattle.name_classes.specs.FiniteSets.Lists.{In}
+use Rattle.hierarchy_model.specs.TechModel.declared.raw.RawTech.{RawTech}
+use Rattle.own_record_laws.specs.LayoutModel.Places.{Place}
+use Rattle.name_classes.specs.ExtModel.declared.records.CellExt.{CellExt}
+use Rattle.name_classes.specs.ExtModel.declared.records.MergeRec.{MergeRec}
+use Rattle.name_classes.specs.ExtModel.declared.records.NodeRec.{NodeRec}
+use Rattle.name_classes.specs.ExtModel.Paths.{path_text}
+use Rattle.name_classes.specs.ExtModel.RecordNames.{names_of}
+use Rattle.name_classes.specs.CircuitModel.Elements.{ext_of}
+use Rattle.own_record_laws.specs.TreeRecords.FlatLayouts.{AreOneFlatNode, HasNodePath}
+use Rattle.own_record_laws.specs.TreeRecords.MemberGroups.{AreOneGroup}
+use Rattle.own_record_laws.specs.TreeRecords.NamedTrees.{NamedTree, NamedElements}
+use Rattle.own_record_laws.specs.TreeRecords.NamedTrees.NamedTree.{named_tree}
+use Rattle.own_record_laws.specs.TreeRecords.NamedTrees.NamedElements.{no_more, element_then}
 
 -- The first is the preferred name of a node of the record, and the second one of the node's names.
 pub record AreNamesOfNode (ext : CellExt) (first second : List ℕ) : Type 0 where

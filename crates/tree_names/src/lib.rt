@@ -29,6 +29,7 @@ ghost use Rattle.tree_names.specs.Laws.{GroupNamesArePaths, GroupNamesTellGroups
 ghost use Rattle.tree_names.specs.Laws.{GroupsAreOfOneFlatNode, JoinedPathsShareFlatNodes, OwnNamesTellNodes, PartsKeepTheirLinks};
 ghost use Rattle.tree_names.specs.Laws.{PathsAreWhereMaterialIs, PathsLeadToGroups, RecordsTellFlatNodes};
 
+pub use own_record_laws::cell_nodes;
 /// Links of a part of a clean cell are links of the cell's flat layout.
 pub fn parts_keep_their_links()
     ensures { PartsKeepTheirLinks }

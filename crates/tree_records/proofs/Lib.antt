@@ -1,4 +1,6 @@
 -- what crates above name of those below
+pub use Rattle.cell_nodes.proofs.RectContacts as RectContacts
+pub use Rattle.cell_nodes.proofs.TechModel as TechModel
 pub use Rattle.cell_nodes.proofs as CellNodes
 pub use Rattle.cell_nodes.proofs.FloodNodes as FloodNodes
 pub use Rattle.cell_nodes.proofs.LayoutModel as LayoutModel

@@ -1,4 +1,5 @@
 -- what crates above name of those below
+pub use Rattle.cell_nodes.specs.FloodNodes as FloodNodes
 pub use Rattle.cell_nodes.specs as CellNodes
 pub use Rattle.cell_nodes.specs.CellPaint as CellPaint
 pub use Rattle.cell_nodes.specs.ExtModel as ExtModel

@@ -2,7 +2,7 @@
 use Rattle.std.specs.Prelude.{◌≡◌, ◌⊎◌, ◌↔◌, ◌&&◌, ℕ, ℤ, pos, Bool, true, if◌then◌else◌, List, [], ◌∷◌, map, AllPairs}
 use Rattle.std.specs.List.{flat_map, list_all}
 use Rattle.std.specs.Ordering.{int_eq}
-use Rattle.finite_sets.specs.Lists.{In}
+use Rattle.circuit_model.specs.FiniteSets.Lists.{In}
 use Rattle.tree_records.specs.TechModel.declared.raw.RawTech.{RawTech}
 use Rattle.tree_records.specs.LayoutModel.Layouts.{IsMaterial}
 use Rattle.tree_records.specs.LayoutModel.Places.{Place}

@@ -1,6 +1,6 @@
 -- How places of layouts are weighed, and what the members of groups and whole groups weigh.
 use Rattle.std.specs.Prelude.{◌≡◌, ◌⊎◌, ℕ, ℤ, pos, ◌+ℤ◌, ◌-ℤ◌, ◌*ℤ◌, List, [], ◌∷◌}
-use Rattle.finite_sets.specs.Total.{sum_on, Total}
+use Rattle.circuit_model.specs.FiniteSets.Total.{sum_on, Total}
 use Rattle.tree_records.specs.TechModel.declared.raw.RawTech.{RawTech}
 use Rattle.tree_records.specs.LayoutModel.Layouts.{Layout}
 use Rattle.tree_records.specs.LayoutModel.Measures.{area_at, perimeter_at}

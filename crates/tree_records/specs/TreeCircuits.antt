@@ -1,7 +1,7 @@
 -- The circuit of a cell's flat layout.
 use Rattle.std.specs.Prelude.{◌≡◌, ◌⊎◌, ◌↔◌, ◌<◌, ℕ, IsTrue, List, length, map, AllPairs, Some, slice_get, slice_index_or}
-use Rattle.finite_sets.specs.Least.{IsLeast}
-use Rattle.finite_sets.specs.Lists.{In}
+use Rattle.circuit_model.specs.FiniteSets.Least.{IsLeast}
+use Rattle.circuit_model.specs.FiniteSets.Lists.{In}
 use Rattle.circuit_model.specs.GeoCore.Images.{image}
 use Rattle.tree_records.specs.TechModel.declared.raw.FetRule.{FetRule}
 use Rattle.tree_records.specs.TechModel.declared.raw.RawTech.{RawTech}

@@ -13,3 +13,6 @@
 //! A place of an element goes to a place of the cell above and back (`MoveLaws`), and neighbours, squares upon each other and links
 //! go along.
 #![tactic(auto)]
+
+pub use cell_nodes;
+pub use cell_nodes::measures;

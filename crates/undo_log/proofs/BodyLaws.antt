@@ -14,9 +14,9 @@ use Rattle.geo_core.specs.FiniteSets.Lists.{In, Distinct}
 use Rattle.tech_model.specs.declared.raw.Label.{Label}
 use Rattle.geo_core.specs.declared.grids.Grid.{Grid}
 use Rattle.cell_tree.specs.declared.use_tables.UseBody.{UseBody}
-use Rattle.cell_library.specs.Edits.{moved_use, with_use_changed}
-use Rattle.cell_library.specs.Refusals.{has_id}
-use Rattle.cell_library.proofs.UseLists.{id_same, removed_use, use_in}
+use Rattle.edit_script.specs.CellLibrary.Edits.{moved_use, with_use_changed}
+use Rattle.edit_script.specs.CellLibrary.Refusals.{has_id}
+use Rattle.edit_script.proofs.CellLibrary.UseLists.{id_same, removed_use, use_in}
 
 -- uses with their ids
 abbrev pub Uses : Type 0

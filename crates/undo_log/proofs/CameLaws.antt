@@ -9,12 +9,12 @@ use Rattle.tech_model.specs.declared.raw.RawTech.{RawTech}
 use Rattle.cell_tree.specs.declared.use_tables.UseBody.{UseBody}
 use Rattle.cell_tree.specs.Sizes.{CellState}
 use Rattle.cell_tree.specs.Trees.{cell_at, empty_cell}
-use Rattle.cell_library.specs.Contents.{Held}
-use Rattle.cell_library.specs.Libraries.{IsLawfulLibrary, LibraryParts, cells_seen, seen, uses_in}
-use Rattle.cell_library.specs.LawfulViews.{IsLawfulView}
-use Rattle.cell_library.specs.Views.{CellView, LibraryView, changed_at, names_of, no_cell, view_at}
-use Rattle.cell_library.proofs.UseEdits.{uses_here}
-use Rattle.cell_library.proofs.ViewLaws.{count_seen, names_seen}
+use Rattle.edit_script.specs.CellLibrary.Contents.{Held}
+use Rattle.edit_script.specs.CellLibrary.Libraries.{IsLawfulLibrary, LibraryParts, cells_seen, seen, uses_in}
+use Rattle.edit_script.specs.CellLibrary.LawfulViews.{IsLawfulView}
+use Rattle.edit_script.specs.CellLibrary.Views.{CellView, LibraryView, changed_at, names_of, no_cell, view_at}
+use Rattle.edit_script.proofs.CellLibrary.UseEdits.{uses_here}
+use Rattle.edit_script.proofs.CellLibrary.ViewLaws.{count_seen, names_seen}
 use Rattle.undo_log.specs.declared.changes.Change.{Change}
 use Rattle.undo_log.specs.declared.changes.Change.TheVariants.{Repaint, InsertUse, DeleteUse, MoveUse, SetGrid, AddLabel, DropLabel, SetLabels}
 use Rattle.undo_log.specs.declared.changes.Inverse.{Inverse}

@@ -1,9 +1,9 @@
 -- One cell of a library is changed.
 use Rattle.std.proofs.Common.{◌≡◌, ◌≢◌, ◌<◌, ℕ, zero, suc, List, [], ◌∷◌, length, refl, ap}
 use Rattle.std.specs.Prelude.{slice_index_or}
-use Rattle.cell_library.specs.Views.{CellView, LibraryView, changed_at, no_cell, view_at, with_cell_changed}
-use Rattle.cell_library.proofs.UndoneEdits.{changed_there}
-use Rattle.cell_library.proofs.ViewLaws.{length-changed_at}
+use Rattle.edit_script.specs.CellLibrary.Views.{CellView, LibraryView, changed_at, no_cell, view_at, with_cell_changed}
+use Rattle.edit_script.proofs.CellLibrary.UndoneEdits.{changed_there}
+use Rattle.edit_script.proofs.CellLibrary.ViewLaws.{length-changed_at}
 
 -- ---- lists
 

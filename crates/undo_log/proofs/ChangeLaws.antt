@@ -6,19 +6,19 @@ use Rattle.geo_core.specs.declared.grids.Grid.{Grid}
 use Rattle.geo_core.specs.declared.squares.Rect.{Rect}
 use Rattle.geo_core.specs.declared.squares.Piece.{Piece}
 use Rattle.geo_core.specs.Covering.{is_covered}
-use Rattle.cell_library.specs.LayoutModel.Layouts.{Layout}
-use Rattle.cell_library.specs.LayoutModel.Places.{Place}
+use Rattle.edit_script.specs.CellLibrary.LayoutModel.Layouts.{Layout}
+use Rattle.edit_script.specs.CellLibrary.LayoutModel.Places.{Place}
 use Rattle.tech_model.specs.declared.raw.Label.{Label}
 use Rattle.cell_tree.specs.declared.use_tables.UseBody.{UseBody}
 use Rattle.cell_paint.specs.Paints.{IsSoundPaint}
 use Rattle.cell_paint.specs.Pieces.{kind_by, with_pieces}
 use Rattle.cell_paint.proofs.PieceLaws.{taken_brings_back}
-use Rattle.cell_library.specs.Contents.{without_last}
-use Rattle.cell_library.specs.Edits.{moved_use, with_use_changed}
-use Rattle.cell_library.specs.Refusals.{has_id}
-use Rattle.cell_library.specs.LawfulViews.{IsLawfulView}
-use Rattle.cell_library.specs.Views.{CellView, LibraryView, view_at, with_cell_changed}
-use Rattle.cell_library.proofs.UndoneEdits.{cell_back}
+use Rattle.edit_script.specs.CellLibrary.Contents.{without_last}
+use Rattle.edit_script.specs.CellLibrary.Edits.{moved_use, with_use_changed}
+use Rattle.edit_script.specs.CellLibrary.Refusals.{has_id}
+use Rattle.edit_script.specs.CellLibrary.LawfulViews.{IsLawfulView}
+use Rattle.edit_script.specs.CellLibrary.Views.{CellView, LibraryView, view_at, with_cell_changed}
+use Rattle.edit_script.proofs.CellLibrary.UndoneEdits.{cell_back}
 use Rattle.undo_log.specs.declared.changes.Change.{Change}
 use Rattle.undo_log.specs.declared.changes.Change.TheVariants.{Repaint, InsertUse, DeleteUse, MoveUse, SetGrid, AddLabel, DropLabel, SetLabels}
 use Rattle.undo_log.specs.Inverses.{SpeaksOf, TakesBack, changed}

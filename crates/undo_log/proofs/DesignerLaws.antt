@@ -2,9 +2,9 @@
 use Rattle.std.proofs.Common.{◌≡◌, ◌<◌, ℕ, true, [], ◌∷◌, length, refl, sym, ap, subst, ◌∙◌, inl, inr, arith}
 use Rattle.std.specs.Prelude.{Option, Some, IfSome}
 use Rattle.std.proofs.lemmas.Bool.{cases_eq}
-use Rattle.cell_library.specs.Views.{CellView, LibraryView, view_at}
-use Rattle.script_lines.specs.declared.commands.Command.{Command}
-use Rattle.script_lines.specs.declared.commands.Command.TheVariants as command
+use Rattle.edit_script.specs.CellLibrary.Views.{CellView, LibraryView, view_at}
+use Rattle.edit_script.specs.ScriptLines.declared.commands.Command.{Command}
+use Rattle.edit_script.specs.ScriptLines.declared.commands.Command.TheVariants as command
 use Rattle.edit_script.specs.Editing.{Editing}
 use Rattle.edit_script.specs.Edits.{applied}
 use Rattle.edit_script.proofs.KeptCells.{KeepsButCurrent, KeepsOthers, cells_kept}

@@ -15,21 +15,21 @@ use Rattle.tech_model.specs.declared.raw.Label.{Label}
 use Rattle.tech_model.specs.declared.raw.LayerId.{LayerId}
 use Rattle.tech_model.specs.Columns.{erased_column, painted_column}
 use Rattle.tech_model.specs.Types.{layer_named}
-use Rattle.cell_library.specs.LayoutModel.Layouts.{Layout}
-use Rattle.cell_library.specs.LayoutModel.Places.{Place}
+use Rattle.edit_script.specs.CellLibrary.LayoutModel.Layouts.{Layout}
+use Rattle.edit_script.specs.CellLibrary.LayoutModel.Places.{Place}
 use Rattle.cell_paint.specs.Painting.{is_in_range, with_erased, with_paint}
-use Rattle.cell_library.specs.declared.faults.LibFault.{LibFault}
-use Rattle.cell_library.specs.declared.faults.LibFault.TheVariants as library
-use Rattle.cell_library.specs.declared.limits.LibraryLimit.TheVariants.{Edits}
-use Rattle.cell_library.specs.declared.limits.TheConstants.{MOST_EDITS}
+use Rattle.edit_script.specs.CellLibrary.declared.faults.LibFault.{LibFault}
+use Rattle.edit_script.specs.CellLibrary.declared.faults.LibFault.TheVariants as library
+use Rattle.edit_script.specs.CellLibrary.declared.limits.LibraryLimit.TheVariants.{Edits}
+use Rattle.edit_script.specs.CellLibrary.declared.limits.TheConstants.{MOST_EDITS}
 use Rattle.cell_tree.specs.declared.sizes.Dimension.TheVariants.{Hull}
-use Rattle.cell_library.specs.Limits.{GoesPast}
-use Rattle.cell_library.specs.Edits.{erased, labelled, painted, placed, single_use, transform_of, with_grid}
-use Rattle.cell_library.specs.Refusals.{ArrayIsRefused, DeleteIsRefused, EditIsRefused, EraseIsRefused, LabelIsRefused, MoveIsRefused, PaintIsRefused}
-use Rattle.cell_library.specs.Refusals.{AreaIsRefused, FirstOf, NothingElse, PlaceIsRefused, has_id}
-use Rattle.cell_library.specs.LawfulViews.{IsLawfulView}
-use Rattle.cell_library.specs.Views.{CellView, LibraryView, cell_named, view_at, with_cell_changed}
-use Rattle.script_lines.specs.declared.commands.Command.TheVariants as command
+use Rattle.edit_script.specs.CellLibrary.Limits.{GoesPast}
+use Rattle.edit_script.specs.CellLibrary.Edits.{erased, labelled, painted, placed, single_use, transform_of, with_grid}
+use Rattle.edit_script.specs.CellLibrary.Refusals.{ArrayIsRefused, DeleteIsRefused, EditIsRefused, EraseIsRefused, LabelIsRefused, MoveIsRefused, PaintIsRefused}
+use Rattle.edit_script.specs.CellLibrary.Refusals.{AreaIsRefused, FirstOf, NothingElse, PlaceIsRefused, has_id}
+use Rattle.edit_script.specs.CellLibrary.LawfulViews.{IsLawfulView}
+use Rattle.edit_script.specs.CellLibrary.Views.{CellView, LibraryView, cell_named, view_at, with_cell_changed}
+use Rattle.edit_script.specs.ScriptLines.declared.commands.Command.TheVariants as command
 use Rattle.edit_script.specs.declared.faults.EditFault.{EditFault}
 use Rattle.edit_script.specs.declared.faults.EditFault.TheVariants.{NoCell, NoLayer}
 use Rattle.edit_script.specs.Editing.{Editing}
@@ -40,8 +40,8 @@ use Rattle.undo_log.specs.declared.changes.Change.TheVariants.{DeleteUse, DropLa
 use Rattle.undo_log.specs.Inverses.{TakesBack}
 use Rattle.undo_log.specs.steps.Makings.{Accepts, BringsAgain, GivesGrid, PutsBack}
 use Rattle.undo_log.proofs.BodyLaws.{Uses}
-use Rattle.cell_library.proofs.OwnRestorations.{columns_outside}
-use Rattle.cell_library.proofs.ViewLaws.{changed_at-same}
+use Rattle.edit_script.proofs.CellLibrary.OwnRestorations.{columns_outside}
+use Rattle.edit_script.proofs.CellLibrary.ViewLaws.{changed_at-same}
 use Rattle.undo_log.proofs.CellLaws.{cell_alike}
 use Rattle.undo_log.proofs.ChangeLaws.{deletion_taken_back, grid_taken_back, insertion_taken_back, label_taken_back, labels_taken_back, move_taken_back}
 use Rattle.undo_log.proofs.ChangeLaws.{paint_taken_back}

@@ -2,20 +2,20 @@
 use Rattle.std.proofs.Common.{◌≡◌, ◌<◌, ℕ, List, length, map, sym, subst}
 use Rattle.std.specs.Prelude.{All, Some, slice_get}
 use Rattle.geo_core.specs.FiniteSets.Lists.{Distinct}
-use Rattle.cell_library.specs.CellBodies.Bodies.{IsLabel}
+use Rattle.edit_script.specs.CellLibrary.CellBodies.Bodies.{IsLabel}
 use Rattle.cell_tree.specs.declared.sizes.Dimension.{Dimension}
 use Rattle.cell_tree.specs.declared.use_tables.UseBody.{UseBody}
 use Rattle.cell_tree.specs.Uses.{IsLawfulUse}
-use Rattle.cell_library.specs.Contents.{no_held}
-use Rattle.cell_library.specs.Libraries.{LibraryParts, IsLawfulLibrary, seen}
-use Rattle.cell_library.specs.Limits.{GoesPast}
-use Rattle.cell_library.specs.LawfulViews.{IsLawfulView}
-use Rattle.cell_library.specs.Views.{LibraryView, view_at}
-use Rattle.cell_library.proofs.ElementCounts.{use_is_lawful}
-use Rattle.cell_library.proofs.LimitLaws.{never_past}
-use Rattle.cell_library.proofs.OwnEdits.{labels_here}
-use Rattle.cell_library.proofs.UseEdits.{ids_differ, uses_here}
-use Rattle.cell_library.proofs.ViewLaws.{count_seen}
+use Rattle.edit_script.specs.CellLibrary.Contents.{no_held}
+use Rattle.edit_script.specs.CellLibrary.Libraries.{LibraryParts, IsLawfulLibrary, seen}
+use Rattle.edit_script.specs.CellLibrary.Limits.{GoesPast}
+use Rattle.edit_script.specs.CellLibrary.LawfulViews.{IsLawfulView}
+use Rattle.edit_script.specs.CellLibrary.Views.{LibraryView, view_at}
+use Rattle.edit_script.proofs.CellLibrary.ElementCounts.{use_is_lawful}
+use Rattle.edit_script.proofs.CellLibrary.LimitLaws.{never_past}
+use Rattle.edit_script.proofs.CellLibrary.OwnEdits.{labels_here}
+use Rattle.edit_script.proofs.CellLibrary.UseEdits.{ids_differ, uses_here}
+use Rattle.edit_script.proofs.CellLibrary.ViewLaws.{count_seen}
 
 -- a fact of each cell of a lawful library is one of each cell that is seen
 of_each : (P : LibraryView → ℕ → Type 0)

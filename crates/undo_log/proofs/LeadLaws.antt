@@ -3,10 +3,10 @@ use Rattle.std.proofs.Common.{◌≡◌, ◌<◌, ℕ, true, Bool, List, [], ◌
 use Rattle.std.specs.Prelude.{Option, Some, if◌then◌else◌}
 use Rattle.std.specs.Option.{option_map_or}
 use Rattle.ext_model.specs.declared.tables.CellKey.{CellKey}
-use Rattle.cell_library.specs.Libraries.{IsLawfulLibrary, IsNextEdit, LibraryParts, seen}
-use Rattle.cell_library.specs.LawfulViews.{IsLawfulView}
-use Rattle.cell_library.specs.Views.{LibraryView, view_at, with_cell_changed}
-use Rattle.script_lines.specs.declared.commands.Command.{Command}
+use Rattle.edit_script.specs.CellLibrary.Libraries.{IsLawfulLibrary, IsNextEdit, LibraryParts, seen}
+use Rattle.edit_script.specs.CellLibrary.LawfulViews.{IsLawfulView}
+use Rattle.edit_script.specs.CellLibrary.Views.{LibraryView, view_at, with_cell_changed}
+use Rattle.edit_script.specs.ScriptLines.declared.commands.Command.{Command}
 use Rattle.edit_script.specs.Editing.{Editing}
 use Rattle.undo_log.specs.declared.changes.Change.{Change}
 use Rattle.undo_log.specs.declared.changes.Inverse.{Inverse}

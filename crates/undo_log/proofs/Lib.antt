@@ -1,3 +1,5 @@
+-- what crates above name of those below
+pub use Rattle.edit_script.proofs as EditScript
 mod BodyLaws
 pub mod CameLaws
 mod CellLaws

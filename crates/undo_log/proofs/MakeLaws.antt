@@ -9,23 +9,23 @@ use Rattle.std.proofs.lemmas.Grind.{common_steps}
 use Rattle.std.proofs.lemmas.Int.{ints, to_z-of_z}
 use Rattle.std.proofs.lemmas.List.{get_or_push, length-append}
 use Rattle.std.proofs.lemmas.Slice.Eq.{bytes_eq-Decides}
-use Rattle.cell_library.specs.CellBodies.Bodies.{IsLabel}
-use Rattle.cell_library.specs.CellBodies.Numbers.{has_sides, is_displacement, is_index}
+use Rattle.edit_script.specs.CellLibrary.CellBodies.Bodies.{IsLabel}
+use Rattle.edit_script.specs.CellLibrary.CellBodies.Numbers.{has_sides, is_displacement, is_index}
 use Rattle.tech_model.specs.declared.raw.Label.{Label}
 use Rattle.cell_paint.specs.Painting.{is_in_range}
 use Rattle.cell_tree.specs.declared.sizes.Dimension.TheVariants.{Hull}
 use Rattle.cell_tree.specs.declared.use_tables.UseBody.{UseBody}
 use Rattle.cell_tree.specs.Uses.{IsLawfulUse}
-use Rattle.cell_library.specs.declared.faults.LibFault.{LibFault}
-use Rattle.cell_library.specs.declared.faults.LibFault.TheVariants.{TooMany}
-use Rattle.cell_library.specs.declared.limits.LibraryLimit.TheVariants.{Edits}
-use Rattle.cell_library.specs.declared.limits.TheConstants.{MOST_EDITS}
-use Rattle.cell_library.specs.Edits.{labelled, moved, moved_use, with_use_changed}
-use Rattle.cell_library.specs.Refusals.{Answers, AnswersOrLacksMemory, DeleteIsRefused, EditIsRefused, LabelIsRefused, MoveIsRefused}
-use Rattle.cell_library.specs.Refusals.{NothingElse, has_id, moves_too_far, stands_in_range}
-use Rattle.cell_library.specs.LawfulViews.{IsLawfulView}
-use Rattle.cell_library.specs.Views.{CellView, LibraryView, view_at}
-use Rattle.cell_library.proofs.FaultLaws.{not_first}
+use Rattle.edit_script.specs.CellLibrary.declared.faults.LibFault.{LibFault}
+use Rattle.edit_script.specs.CellLibrary.declared.faults.LibFault.TheVariants.{TooMany}
+use Rattle.edit_script.specs.CellLibrary.declared.limits.LibraryLimit.TheVariants.{Edits}
+use Rattle.edit_script.specs.CellLibrary.declared.limits.TheConstants.{MOST_EDITS}
+use Rattle.edit_script.specs.CellLibrary.Edits.{labelled, moved, moved_use, with_use_changed}
+use Rattle.edit_script.specs.CellLibrary.Refusals.{Answers, AnswersOrLacksMemory, DeleteIsRefused, EditIsRefused, LabelIsRefused, MoveIsRefused}
+use Rattle.edit_script.specs.CellLibrary.Refusals.{NothingElse, has_id, moves_too_far, stands_in_range}
+use Rattle.edit_script.specs.CellLibrary.LawfulViews.{IsLawfulView}
+use Rattle.edit_script.specs.CellLibrary.Views.{CellView, LibraryView, view_at}
+use Rattle.edit_script.proofs.CellLibrary.FaultLaws.{not_first}
 use Rattle.undo_log.proofs.BodyLaws.{Uses}
 use Rattle.undo_log.proofs.CellLaws.{cell_here, count_kept}
 use Rattle.undo_log.proofs.LawfulLaws.{lawful_labels, lawful_uses, lawful_within}

@@ -12,13 +12,13 @@ use Rattle.cell_tree.specs.declared.sizes.Size.{Size}
 use Rattle.cell_tree.specs.declared.use_tables.UseBody.{UseBody}
 use Rattle.cell_tree.specs.Sizes.{CellState, AreSizes, AreUsesBelow, IsWithin, no_size, size_at}
 use Rattle.cell_tree.specs.Trees.{IsLawfulCell, IsLawfulTree, Tree, stamp_at}
-use Rattle.cell_library.specs.Contents.{Held}
-use Rattle.cell_library.specs.Libraries.{HasUseIds, IsLawfulHeld, IsLawfulLibrary, IsLawfulScale, LibraryParts, cells_seen, uses_in}
-use Rattle.cell_library.specs.Limits.{AreStatesOf}
-use Rattle.cell_library.specs.Seen.{cell_views}
-use Rattle.cell_library.specs.Views.{CellView}
-use Rattle.cell_library.proofs.AddedCells.{states_append, views_append}
-use Rattle.cell_library.proofs.SizeLaws.{size_same}
+use Rattle.edit_script.specs.CellLibrary.Contents.{Held}
+use Rattle.edit_script.specs.CellLibrary.Libraries.{HasUseIds, IsLawfulHeld, IsLawfulLibrary, IsLawfulScale, LibraryParts, cells_seen, uses_in}
+use Rattle.edit_script.specs.CellLibrary.Limits.{AreStatesOf}
+use Rattle.edit_script.specs.CellLibrary.Seen.{cell_views}
+use Rattle.edit_script.specs.CellLibrary.Views.{CellView}
+use Rattle.edit_script.proofs.CellLibrary.AddedCells.{states_append, views_append}
+use Rattle.edit_script.proofs.CellLibrary.SizeLaws.{size_same}
 
 -- ---- lists
 

@@ -4,12 +4,12 @@ use Rattle.std.specs.Prelude.{Option, None, Some, if◌then◌else◌, slice_ind
 use Rattle.std.specs.Option.{option_map_or}
 use Rattle.ext_model.specs.declared.tables.CellKey.{CellKey}
 use Rattle.cell_tree.specs.declared.use_tables.UseBody.{UseBody}
-use Rattle.cell_library.specs.Edits.{empty_cell, with_new_cell}
-use Rattle.cell_library.specs.Libraries.{IsLawfulLibrary, IsLawfulScale, LibraryParts, seen}
-use Rattle.cell_library.specs.Views.{CellView, LibraryView}
-use Rattle.cell_library.proofs.ViewLaws.{count_seen}
-use Rattle.script_lines.specs.declared.commands.Command.{Command}
-use Rattle.script_lines.specs.declared.commands.Command.TheVariants as command
+use Rattle.edit_script.specs.CellLibrary.Edits.{empty_cell, with_new_cell}
+use Rattle.edit_script.specs.CellLibrary.Libraries.{IsLawfulLibrary, IsLawfulScale, LibraryParts, seen}
+use Rattle.edit_script.specs.CellLibrary.Views.{CellView, LibraryView}
+use Rattle.edit_script.proofs.CellLibrary.ViewLaws.{count_seen}
+use Rattle.edit_script.specs.ScriptLines.declared.commands.Command.{Command}
+use Rattle.edit_script.specs.ScriptLines.declared.commands.Command.TheVariants as command
 use Rattle.edit_script.specs.Editing.{Editing, editing_of}
 use Rattle.edit_script.specs.Edits.{applied}
 use Rattle.undo_log.specs.Inverses.{CellsCame, Inverses, Keeps}

@@ -17,16 +17,16 @@ use Rattle.geo_core.specs.FiniteSets.Lists.{In, Distinct}
 use Rattle.geo_core.specs.Images.{identity}
 use Rattle.geo_core.proofs.FiniteSets.Places.{slice_get-below}
 use Rattle.geo_core.proofs.FiniteSets.Distincts.{Distinct-cut}
-use Rattle.script_lines.specs.Forms.{IsNumber}
+use Rattle.edit_script.specs.ScriptLines.Forms.{IsNumber}
 use Rattle.cell_tree.specs.declared.use_tables.UseBody.{UseBody}
 use Rattle.cell_tree.specs.Uses.{IsLawfulUse}
-use Rattle.cell_library.specs.Edits.{moved, moved_use, single_use, with_use_changed}
-use Rattle.cell_library.specs.PutBackUses.{place_of}
-use Rattle.cell_library.specs.Refusals.{has_id}
-use Rattle.cell_library.specs.LawfulViews.{IsLawfulView}
-use Rattle.cell_library.specs.Views.{CellView, LibraryView, view_at}
-use Rattle.cell_library.proofs.ContentLaws.{position_past}
-use Rattle.cell_library.proofs.UseLists.{id_same, use_in}
+use Rattle.edit_script.specs.CellLibrary.Edits.{moved, moved_use, single_use, with_use_changed}
+use Rattle.edit_script.specs.CellLibrary.PutBackUses.{place_of}
+use Rattle.edit_script.specs.CellLibrary.Refusals.{has_id}
+use Rattle.edit_script.specs.CellLibrary.LawfulViews.{IsLawfulView}
+use Rattle.edit_script.specs.CellLibrary.Views.{CellView, LibraryView, view_at}
+use Rattle.edit_script.proofs.CellLibrary.ContentLaws.{position_past}
+use Rattle.edit_script.proofs.CellLibrary.UseLists.{id_same, use_in}
 use Rattle.undo_log.proofs.BodyLaws.{Uses}
 use Rattle.undo_log.proofs.CellLaws.{cell_here, count_kept}
 use Rattle.undo_log.proofs.LawfulLaws.{lawful_uses}

@@ -5,12 +5,12 @@ use Rattle.geo_core.specs.Covering.{IsProper}
 use Rattle.tech_model.specs.declared.raw.RawTech.{RawTech}
 use Rattle.cell_paint.specs.Paints.{IsSoundPaint}
 use Rattle.cell_paint.specs.Pieces.{CanStandIn, with_pieces}
-use Rattle.cell_library.specs.Edits.{labelled, moved, without_use}
-use Rattle.cell_library.specs.Libraries.{LibraryParts, IsNextEdit, seen}
-use Rattle.cell_library.specs.Refusals.{has_id}
-use Rattle.cell_library.specs.LawfulViews.{IsLawfulView}
-use Rattle.cell_library.specs.Restorations.{regridded, relabelled, repainted, with_use_at, without_last_label}
-use Rattle.cell_library.specs.Views.{CellView, LibraryView, view_at}
+use Rattle.edit_script.specs.CellLibrary.Edits.{labelled, moved, without_use}
+use Rattle.edit_script.specs.CellLibrary.Libraries.{LibraryParts, IsNextEdit, seen}
+use Rattle.edit_script.specs.CellLibrary.Refusals.{has_id}
+use Rattle.edit_script.specs.CellLibrary.LawfulViews.{IsLawfulView}
+use Rattle.edit_script.specs.CellLibrary.Restorations.{regridded, relabelled, repainted, with_use_at, without_last_label}
+use Rattle.edit_script.specs.CellLibrary.Views.{CellView, LibraryView, view_at}
 use Rattle.undo_log.specs.declared.changes.Change.{Change}
 use Rattle.undo_log.specs.declared.changes.Change.TheVariants.{Repaint, InsertUse, DeleteUse, MoveUse, SetGrid, AddLabel, DropLabel, SetLabels}
 use Rattle.undo_log.specs.declared.changes.Inverse.{Inverse}

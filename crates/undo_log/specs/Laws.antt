@@ -1,9 +1,9 @@
 -- What a designer may count on: undo takes an edit back, and redo gives it again. And what a session may: cells may come between edits.
 use Rattle.std.specs.Prelude.{◌≡◌, ◌<◌, ℕ, true, Some, length}
-use Rattle.cell_library.specs.LayoutModel.Places.{Place}
-use Rattle.cell_library.specs.LawfulViews.{IsLawfulView}
-use Rattle.cell_library.specs.Views.{CellView, LibraryView, view_at}
-use Rattle.script_lines.specs.declared.commands.Command.{Command}
+use Rattle.edit_script.specs.CellLibrary.LayoutModel.Places.{Place}
+use Rattle.edit_script.specs.CellLibrary.LawfulViews.{IsLawfulView}
+use Rattle.edit_script.specs.CellLibrary.Views.{CellView, LibraryView, view_at}
+use Rattle.edit_script.specs.ScriptLines.declared.commands.Command.{Command}
 use Rattle.edit_script.specs.Editing.{Editing}
 use Rattle.edit_script.specs.Edits.{applied}
 use Rattle.undo_log.specs.Inverses.{CellsCame, Inverses, Keeps, kept_versions, no_inverses}

@@ -1,9 +1,9 @@
 -- What a session means by undo and redo: versions of cells, and what becomes of them.
 use Rattle.std.specs.Prelude.{ℕ, true, false, Bool, if◌then◌else◌, List, [], ◌∷◌, Option, None, Some}
 use Rattle.std.specs.Option.{option_map_or}
-use Rattle.cell_library.specs.Views.{CellView, LibraryView, view_at, with_cell_changed}
-use Rattle.script_lines.specs.declared.commands.Command.{Command}
-use Rattle.script_lines.specs.declared.commands.Command.TheVariants as command
+use Rattle.edit_script.specs.CellLibrary.Views.{CellView, LibraryView, view_at, with_cell_changed}
+use Rattle.edit_script.specs.ScriptLines.declared.commands.Command.{Command}
+use Rattle.edit_script.specs.ScriptLines.declared.commands.Command.TheVariants as command
 use Rattle.edit_script.specs.Editing.{Editing}
 
 -- A cell as it was: its position among the cells, and all that it had.

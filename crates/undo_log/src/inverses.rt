@@ -2,11 +2,11 @@
 ghost use Rattle.std.specs.Prelude.{◌≡◌, ◌<◌, ◌&&◌, true, false, length, slice_get, IfOk, IfNone, IfSome, IsSomeAnd, MatchOption, Some};
 ghost use Rattle.geo_core.specs.Areas.{IsNear, has_square};
 ghost use Rattle.geo_core.specs.Covering.{IsProper};
-ghost use Rattle.cell_library.specs.CellPaint.Painting.{is_in_range};
-ghost use Rattle.cell_library.specs.Libraries.{seen};
-ghost use Rattle.cell_library.specs.Refusals.{has_id};
-ghost use Rattle.cell_library.specs.Views.{view_at};
-ghost use Rattle.script_lines.specs.Forms.{IsFormed};
+ghost use Rattle.edit_script.specs.CellLibrary.CellPaint.Painting.{is_in_range};
+ghost use Rattle.edit_script.specs.CellLibrary.Libraries.{seen};
+ghost use Rattle.edit_script.specs.CellLibrary.Refusals.{has_id};
+ghost use Rattle.edit_script.specs.CellLibrary.Views.{view_at};
+ghost use Rattle.edit_script.specs.ScriptLines.Forms.{IsFormed};
 ghost use Rattle.edit_script.specs.Editing.{editing_of};
 ghost use Rattle.edit_script.specs.Edits.{applied};
 ghost use Rattle.undo_log.specs.Inverses.{CanBeMade, TakesBack, changed};
@@ -14,13 +14,13 @@ ghost use Rattle.undo_log.specs.steps.Makings.{Accepts, AddsLast, BringsAgain, G
 ghost use Rattle.undo_log.specs.Versions.{is_edit};
 
 use crate::changes::Change;
-use cell_library::Library;
 use cell_paint::is_coordinate;
 use cell_tree::UseBody;
+use edit_script::cell_library::Library;
+use edit_script::script_lines::Command;
 use ext_model::CellKey;
 use geo_core::Rect;
 use names_lists::{List, Name};
-use script_lines::Command;
 use std::alloc::{AllocError, Global};
 use tech_model::Label;
 

@@ -29,6 +29,7 @@ mod returns;
 mod trails;
 
 pub use changes::{Change, Inverse};
+pub use edit_script;
 pub use faults::UndoFault;
 pub use laws::{cells_may_come, edits_are_taken_back, kept_versions_are_unique, nothing_is_kept};
 pub use logs::Log;

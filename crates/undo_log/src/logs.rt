@@ -1,8 +1,8 @@
 //! The log of the edits of a library.
 ghost use Rattle.std.specs.Prelude.{◌≡◌, ◌≢◌, ◌↔◌, [], Some, true, IfErr, IsErrOf, OnErr, OnOk};
-ghost use Rattle.cell_library.specs.Libraries.{IsSame, edits_of, seen};
-ghost use Rattle.cell_library.specs.declared.limits.TheConstants.{MOST_EDITS};
-ghost use Rattle.script_lines.specs.Forms.{IsFormed};
+ghost use Rattle.edit_script.specs.CellLibrary.Libraries.{IsSame, edits_of, seen};
+ghost use Rattle.edit_script.specs.CellLibrary.declared.limits.TheConstants.{MOST_EDITS};
+ghost use Rattle.edit_script.specs.ScriptLines.Forms.{IsFormed};
 ghost use Rattle.edit_script.specs.declared.faults.EditFault.{EditFault as IsFault};
 ghost use Rattle.edit_script.specs.Editing.{IsCurrent, editing_of};
 ghost use Rattle.edit_script.specs.Edits.{applied};
@@ -15,10 +15,10 @@ use crate::faults::UndoFault;
 use crate::inverses::inverse_of_edit;
 use crate::returns::bring_back;
 use crate::trails::Trail;
-use cell_library::Library;
+use edit_script::cell_library::Library;
+use edit_script::script_lines::Command;
 use edit_script::{EditFault, apply};
 use ext_model::CellKey;
-use script_lines::Command;
 use std::alloc::Global;
 use std::marker::Model;
 

@@ -1,8 +1,8 @@
 //! A library is brought to an earlier version.
 ghost use Rattle.std.specs.Prelude.{◌≡◌, ◌≢◌, ◌⊎◌, ◌<◌, [], List, length, IfErr, OnErr, OnOk};
-ghost use Rattle.cell_library.specs.Libraries.{IsNextEdit, IsSame, edits_of, seen};
-ghost use Rattle.cell_library.specs.Refusals.{AnswersOrLacksMemory, EditIsRefused, NothingElse};
-ghost use Rattle.cell_library.specs.declared.limits.TheConstants.{MOST_EDITS};
+ghost use Rattle.edit_script.specs.CellLibrary.Libraries.{IsNextEdit, IsSame, edits_of, seen};
+ghost use Rattle.edit_script.specs.CellLibrary.Refusals.{AnswersOrLacksMemory, EditIsRefused, NothingElse};
+ghost use Rattle.edit_script.specs.CellLibrary.declared.limits.TheConstants.{MOST_EDITS};
 ghost use Rattle.undo_log.specs.Inverses.{CanBeMade, IsReturned, LeadTo, changed};
 ghost use Rattle.undo_log.specs.Versions.{Version};
 
@@ -10,7 +10,7 @@ use crate::changes::{Change, Inverse};
 use crate::faults::UndoFault;
 use crate::inverses::{copy_label, copy_labels, inverse_of_change};
 use crate::trails::Trail;
-use cell_library::{LibFault, Library};
+use edit_script::cell_library::{LibFault, Library};
 use ext_model::CellKey;
 use std::alloc::Global;
 

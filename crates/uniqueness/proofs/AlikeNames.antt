@@ -5,9 +5,9 @@ use Rattle.std.specs.Str.{bytes_eq}
 use Rattle.std.proofs.lemmas.Bool.{cases_Bool}
 use Rattle.std.proofs.lemmas.Slice.Eq.{bytes_eq-Decides}
 use Rattle.switch_net.specs.Names.{HasName, NameOneNodeEach}
-use Rattle.vector_files.specs.LineForms.{node_named}
-use Rattle.vector_files.specs.NodeLookup.{IsLikeNamed, ground_name, is_either_node, power_name}
-use Rattle.vector_files.proofs.Rails.{rail_found}
+use Rattle.vector_runs.specs.VectorFiles.LineForms.{node_named}
+use Rattle.vector_runs.specs.VectorFiles.NodeLookup.{IsLikeNamed, ground_name, is_either_node, power_name}
+use Rattle.vector_runs.proofs.VectorFiles.Rails.{rail_found}
 use Rattle.vector_runs.proofs.RailStates.{name_stands}
 use Rattle.uniqueness.specs.Networks.{NameAlike}
 

@@ -4,23 +4,23 @@ use Rattle.std.specs.Prelude.{Result}
 use Rattle.text_form.specs.declared.reading.At.{At}
 use Rattle.session_model.specs.declared.report.ReportLine.{ReportLine}
 use Rattle.ext_model.specs.declared.circuits.Circuit.{Circuit}
-use Rattle.sim_records.specs.SimRecords.{sim_of}
+use Rattle.circuit_commands.specs.SimRecords.SimRecords.{sim_of}
 use Rattle.switch_net.specs.Network.{Network}
 use Rattle.switch_net.specs.SimRecords.{SimRecords}
-use Rattle.sim_networks.specs.SimNetworks.{records_of}
-use Rattle.stack_runs.specs.declared.outcomes.Outcome.{Outcome}
-use Rattle.stack_runs.specs.Outcomes.{IsOutcome}
-use Rattle.vector_files.specs.declared.faults.VecFault.{VecFault}
-use Rattle.vector_files.specs.declared.files.Vectors.{Vectors as VectorFile}
-use Rattle.vector_files.specs.VectorFiles.{vectors_in}
+use Rattle.network_commands.specs.SimNetworks.SimNetworks.{records_of}
+use Rattle.network_commands.specs.StackRuns.declared.outcomes.Outcome.{Outcome}
+use Rattle.network_commands.specs.StackRuns.Outcomes.{IsOutcome}
+use Rattle.vector_runs.specs.VectorFiles.declared.faults.VecFault.{VecFault}
+use Rattle.vector_runs.specs.VectorFiles.declared.files.Vectors.{Vectors as VectorFile}
+use Rattle.vector_runs.specs.VectorFiles.VectorFiles.{vectors_in}
 use Rattle.uniqueness.specs.Networks.{IsNumbered, NetworksAreUnique}
 use Rattle.uniqueness.specs.VectorRuns.{FaultsAreUnique, GradesAreUnique, VectorFilesAreUnique}
 use Rattle.uniqueness.proofs.AlikeNames.{like_named}
 use Rattle.uniqueness.proofs.SameNetworks.{nodes_below, one_node_each}
-use Rattle.network_runs.specs.declared.network_runs.NetworkRun.{NetworkRun}
-use Rattle.network_runs.specs.declared.network_runs.NetworkRun.TheVariants.{Grade, Stack, Vectors}
-use Rattle.network_runs.specs.Grading.{TellsCoverage, TellsFaults, TellsReadGrades, grade_lines, preferred_names}
-use Rattle.network_runs.specs.NetworkRuns.{TellsCircuit, TellsOn, TellsOutcome, outcome_lines}
+use Rattle.network_commands.specs.NetworkRuns.declared.network_runs.NetworkRun.{NetworkRun}
+use Rattle.network_commands.specs.NetworkRuns.declared.network_runs.NetworkRun.TheVariants.{Grade, Stack, Vectors}
+use Rattle.network_commands.specs.NetworkRuns.Grading.{TellsCoverage, TellsFaults, TellsReadGrades, grade_lines, preferred_names}
+use Rattle.network_commands.specs.NetworkRuns.NetworkRuns.{TellsCircuit, TellsOn, TellsOutcome, outcome_lines}
 use Rattle.uniqueness.specs.Simulations.{NetworkAnswersAreUnique}
 use Rattle.uniqueness.proofs.SimLimits.{numbered}
 use Rattle.uniqueness.proofs.StackOutcomes.{one_outcome, same_outcome}

@@ -10,10 +10,10 @@ use Rattle.outside_io.specs.Files.{Files}
 use Rattle.use_orders.specs.NewCells.{IsOwnDescendant}
 use Rattle.session_model.specs.FileTrees.{FileIsRefused, Reading, ReadingIsOne, All, Stopped, fetched_by}
 use Rattle.ext_model.specs.declared.arrays.ArrayExt.{ArrayExt}
-use Rattle.ext_loading.specs.declared.faults.ExtLoadFault.{ExtLoadFault}
-use Rattle.ext_loading.specs.declared.faults.ExtLoadFault.TheVariants.{Cycle}
-use Rattle.ext_loading.specs.Loads.{AreRead, LoadIsRefused, TreeIsRefused, children_in, positions_used}
-use Rattle.ext_loading.specs.Readings.{circuit_files}
+use Rattle.circuit_commands.specs.ExtLoading.declared.faults.ExtLoadFault.{ExtLoadFault}
+use Rattle.circuit_commands.specs.ExtLoading.declared.faults.ExtLoadFault.TheVariants.{Cycle}
+use Rattle.circuit_commands.specs.ExtLoading.Loads.{AreRead, LoadIsRefused, TreeIsRefused, children_in, positions_used}
+use Rattle.circuit_commands.specs.ExtLoading.Readings.{circuit_files}
 
 -- ---- what reading came to
 

@@ -13,17 +13,17 @@ use Rattle.geo_core.proofs.ElementLaws.{length-elements_of}
 use Rattle.tech_model.specs.declared.raw.RawTech.{RawTech}
 use Rattle.use_orders.specs.Uses.{UsesCell}
 use Rattle.use_orders.proofs.Visiting.{library_order-lists}
-use Rattle.layout_model.specs.CellTrees.{CellTree, Elements}
-use Rattle.hierarchy_model.specs.CleanCells.{AreClean, IsClean}
-use Rattle.cell_tree.specs.declared.use_tables.UseBody.{UseBody}
-use Rattle.cell_tree.specs.Uses.{displacements}
-use Rattle.cell_library.specs.Additions.{children_in}
-use Rattle.cell_library.specs.LayoutTrees.{elements_at, elements_from, tree_at}
-use Rattle.cell_library.specs.Libraries.{IsLawfulLibrary, LibraryParts, seen}
-use Rattle.cell_library.specs.Views.{view_at}
-use Rattle.cell_library.proofs.GridSteps.{displacement_count}
-use Rattle.cell_library.proofs.LayoutTreeLaws.{tree_unfolds}
-use Rattle.cell_library.proofs.ChildLaws.{below_there, child_of, children_at}
+use Rattle.cell_loading.specs.LayoutModel.CellTrees.{CellTree, Elements}
+use Rattle.tree_circuits.specs.HierarchyModel.CleanCells.{AreClean, IsClean}
+use Rattle.cell_loading.specs.CellTree.declared.use_tables.UseBody.{UseBody}
+use Rattle.cell_loading.specs.CellTree.Uses.{displacements}
+use Rattle.edit_script.specs.CellLibrary.Additions.{children_in}
+use Rattle.edit_script.specs.CellLibrary.LayoutTrees.{elements_at, elements_from, tree_at}
+use Rattle.edit_script.specs.CellLibrary.Libraries.{IsLawfulLibrary, LibraryParts, seen}
+use Rattle.edit_script.specs.CellLibrary.Views.{view_at}
+use Rattle.edit_script.proofs.CellLibrary.GridSteps.{displacement_count}
+use Rattle.edit_script.proofs.CellLibrary.LayoutTreeLaws.{tree_unfolds}
+use Rattle.edit_script.proofs.CellLibrary.ChildLaws.{below_there, child_of, children_at}
 use Rattle.hier_merge.specs.UncleanCells.{IsCleanCell, IsUncleanBelow}
 
 -- a use has some element

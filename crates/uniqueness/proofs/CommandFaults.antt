@@ -1,12 +1,12 @@
 -- Each command that edits is refused for one fault.
 use Rattle.std.proofs.Common.{◌≡◌, ℕ, ℤ, List, ap, sym, ◌∙◌}
-use Rattle.cell_library.specs.declared.faults.LibFault.{LibFault}
-use Rattle.cell_library.specs.Views.{cell_named}
+use Rattle.edit_script.specs.CellLibrary.declared.faults.LibFault.{LibFault}
+use Rattle.edit_script.specs.CellLibrary.Views.{cell_named}
 use Rattle.geo_core.specs.declared.grids.Grid.{Grid}
 use Rattle.tech_model.specs.declared.raw.LayerId.{LayerId}
 use Rattle.tech_model.specs.Types.{layer_named}
 use Rattle.std.specs.Prelude.{Option}
-use Rattle.script_lines.specs.declared.commands.Command.TheVariants as command
+use Rattle.edit_script.specs.ScriptLines.declared.commands.Command.TheVariants as command
 use Rattle.edit_script.specs.declared.faults.EditFault.{EditFault}
 use Rattle.edit_script.specs.declared.faults.EditFault.TheVariants.{NoCell, NoCurrent, NoLayer}
 use Rattle.edit_script.specs.Editing.{Editing}

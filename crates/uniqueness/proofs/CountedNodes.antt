@@ -4,9 +4,9 @@ use Rattle.std.specs.Prelude.{◌↔◌}
 use Rattle.std.proofs.lemmas.Bool.{cases_lt}
 use Rattle.switch_net.specs.Network.{Network}
 use Rattle.switch_net.specs.SimRecords.{IsNetworkOf, SimRecords}
-use Rattle.sim_networks.specs.steps.Numbering.{AreNodesOf}
-use Rattle.sim_networks.specs.SimNetworks.{HasMoreNodesThan}
-use Rattle.sim_networks.proofs.CountLaws.{few_nodes, many_nodes}
+use Rattle.network_commands.specs.SimNetworks.steps.Numbering.{AreNodesOf}
+use Rattle.network_commands.specs.SimNetworks.SimNetworks.{HasMoreNodesThan}
+use Rattle.network_commands.proofs.SimNetworks.CountLaws.{few_nodes, many_nodes}
 
 module _ (records : SimRecords) (net : Network) (names : List (List ℕ × ℕ)) (is : IsNetworkOf records net names) where
   nodes_are : AreNodesOf records net.nodes names

@@ -4,12 +4,12 @@ use Rattle.outside_io.specs.Files.{Files}
 use Rattle.session_model.specs.FileTrees.{All, ReadingIsOne, fetched_by}
 use Rattle.ext_model.specs.declared.arrays.ArrayExt.{ArrayExt}
 use Rattle.ext_model.specs.declared.circuits.Circuit.{Circuit}
-use Rattle.circuit_model.specs.declared.faults.FlatFault.{FlatFault}
-use Rattle.circuit_model.specs.Refusals.{IsFlatFaultOf, IsFlatOf}
-use Rattle.plain_records.specs.Plains.{plains}
-use Rattle.ext_loading.specs.declared.faults.ExtLoadFault.{ExtLoadFault}
-use Rattle.ext_loading.specs.Readings.{circuit_files}
-use Rattle.line_answers.specs.LineEffects.{FreeEffect, refused}
+use Rattle.circuit_commands.specs.CircuitModel.declared.faults.FlatFault.{FlatFault}
+use Rattle.circuit_commands.specs.CircuitModel.Refusals.{IsFlatFaultOf, IsFlatOf}
+use Rattle.circuit_commands.specs.PlainRecords.Plains.{plains}
+use Rattle.circuit_commands.specs.ExtLoading.declared.faults.ExtLoadFault.{ExtLoadFault}
+use Rattle.circuit_commands.specs.ExtLoading.Readings.{circuit_files}
+use Rattle.circuit_commands.specs.LineAnswers.LineEffects.{FreeEffect, refused}
 use Rattle.circuit_commands.specs.declared.circuits.Written.{Written}
 use Rattle.circuit_commands.specs.Circuits.{IsSimWritten, lines_of, stores_of}
 use Rattle.circuit_commands.specs.CommandExt2sim.{Ext2simMeans, RefusesRecords, RefusesTree, WritesTree}

@@ -4,12 +4,12 @@ use Rattle.std.specs.Prelude.{Option, Some, None}
 use Rattle.finite_sets.specs.Chain.Chain.{stay}
 use Rattle.ext_model.specs.declared.circuits.Circuit.{Circuit}
 use Rattle.ext_model.specs.declared.records.CellExt.{CellExt}
-use Rattle.circuit_model.specs.declared.faults.FlatFault.{FlatFault}
-use Rattle.circuit_model.specs.declared.limits.TheConstants.{LONGEST_CHAIN}
-use Rattle.circuit_model.specs.Circuits.{IsCircuitOf}
-use Rattle.circuit_model.specs.Elements.{Element, elements_of, ext_of}
-use Rattle.circuit_model.specs.Refusals.{IsFlatFaultOf, IsFlatOf, flat_fault}
-use Rattle.circuit_laws.specs.CircuitLaws.{CircuitsAreUnique}
+use Rattle.circuit_commands.specs.CircuitModel.declared.faults.FlatFault.{FlatFault}
+use Rattle.circuit_commands.specs.CircuitModel.declared.limits.TheConstants.{LONGEST_CHAIN}
+use Rattle.circuit_commands.specs.CircuitModel.Circuits.{IsCircuitOf}
+use Rattle.circuit_commands.specs.CircuitModel.Elements.{Element, elements_of, ext_of}
+use Rattle.circuit_commands.specs.CircuitModel.Refusals.{IsFlatFaultOf, IsFlatOf, flat_fault}
+use Rattle.circuit_commands.specs.CircuitLaws.CircuitLaws.{CircuitsAreUnique}
 use Rattle.uniqueness.specs.FlatCircuits.{AgreeBelow}
 use Rattle.uniqueness.proofs.ReachedElements.{same_elements}
 use Rattle.uniqueness.proofs.ReachedFaults.{same_flat_fault}

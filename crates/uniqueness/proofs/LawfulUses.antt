@@ -5,12 +5,12 @@ use Rattle.std.proofs.lemmas.List.{get_or_past, length-map}
 use Rattle.finite_sets.specs.Lists.{In}
 use Rattle.finite_sets.proofs.Chains.{Chain-one}
 use Rattle.use_orders.specs.Uses.{AreCells}
-use Rattle.cell_tree.specs.declared.use_tables.UseBody.{UseBody}
-use Rattle.cell_library.specs.Additions.{children_in}
-use Rattle.cell_library.specs.Libraries.{IsLawfulLibrary, LibraryParts, seen}
-use Rattle.cell_library.specs.Views.{CellView}
-use Rattle.cell_library.proofs.ViewLaws.{count_seen}
-use Rattle.cell_library.proofs.ChildLaws.{below_there}
+use Rattle.cell_loading.specs.CellTree.declared.use_tables.UseBody.{UseBody}
+use Rattle.edit_script.specs.CellLibrary.Additions.{children_in}
+use Rattle.edit_script.specs.CellLibrary.Libraries.{IsLawfulLibrary, LibraryParts, seen}
+use Rattle.edit_script.specs.CellLibrary.Views.{CellView}
+use Rattle.edit_script.proofs.CellLibrary.ViewLaws.{count_seen}
+use Rattle.edit_script.proofs.CellLibrary.ChildLaws.{below_there}
 
 pub uses_lead_to_cells : (library : LibraryParts) → IsLawfulLibrary library → AreCells (children_in (seen library))
 uses_lead_to_cells library lawful parent child uses =

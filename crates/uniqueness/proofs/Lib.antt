@@ -1,3 +1,9 @@
+-- what crates above name of those below
+pub use Rattle.network_commands.proofs as NetworkCommands
+pub use Rattle.cell_loading.proofs as CellLoading
+pub use Rattle.edit_script.proofs as EditScript
+pub use Rattle.library_trees.proofs as LibraryTrees
+pub use Rattle.circuit_commands.proofs as CircuitCommands
 mod SameTexts
 pub mod SameNodes
 mod SameTransistors

@@ -4,14 +4,14 @@ use Rattle.std.proofs.lemmas.Bool.{cases_order}
 use Rattle.geo_core.specs.declared.grids.Grid.{Grid}
 use Rattle.geo_core.specs.declared.squares.Rect.{Rect}
 use Rattle.tech_model.specs.declared.raw.Label.{Label}
-use Rattle.cell_tree.specs.Additions.{IsFirstBelowItself}
-use Rattle.cell_tree.specs.Sizes.{CellState}
-use Rattle.cell_bodies.specs.declared.bodies.CellBody.{CellBody}
-use Rattle.cell_library.specs.declared.faults.LibFault.TheVariants.{Cycle}
-use Rattle.cell_library.specs.Additions.{AddAllIsRefused, with_all}
-use Rattle.cell_library.specs.Refusals.{ArrayIsRefused, DeleteIsRefused, EraseIsRefused, LabelIsRefused, MoveIsRefused, NewCellIsRefused}
-use Rattle.cell_library.specs.Refusals.{PaintIsRefused, PlaceIsRefused, UnlabelIsRefused, uses_of}
-use Rattle.cell_library.specs.Views.{LibraryView, view_at}
+use Rattle.cell_loading.specs.CellTree.Additions.{IsFirstBelowItself}
+use Rattle.cell_loading.specs.CellTree.Sizes.{CellState}
+use Rattle.cell_loading.specs.CellBodies.declared.bodies.CellBody.{CellBody}
+use Rattle.edit_script.specs.CellLibrary.declared.faults.LibFault.TheVariants.{Cycle}
+use Rattle.edit_script.specs.CellLibrary.Additions.{AddAllIsRefused, with_all}
+use Rattle.edit_script.specs.CellLibrary.Refusals.{ArrayIsRefused, DeleteIsRefused, EraseIsRefused, LabelIsRefused, MoveIsRefused, NewCellIsRefused}
+use Rattle.edit_script.specs.CellLibrary.Refusals.{PaintIsRefused, PlaceIsRefused, UnlabelIsRefused, uses_of}
+use Rattle.edit_script.specs.CellLibrary.Views.{LibraryView, view_at}
 use Rattle.uniqueness.specs.Refusals.{IsForOneFault, LibraryFaultsAreUnique}
 use Rattle.uniqueness.proofs.OneFault.{first_of, nothing_else}
 

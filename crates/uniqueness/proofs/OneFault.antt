@@ -1,8 +1,8 @@
 -- The first fault of a chain is one: each condition holds or does not, and the later faults are looked at in the one case alone.
 use Rattle.std.proofs.Common.{◌≡◌, inl, inr, sym, ◌∙◌}
 use Rattle.std.specs.Prelude.{Option, Some, None, MatchOption}
-use Rattle.cell_library.specs.declared.faults.LibFault.{LibFault}
-use Rattle.cell_library.specs.Refusals.{FirstOf, NothingElse}
+use Rattle.edit_script.specs.CellLibrary.declared.faults.LibFault.{LibFault}
+use Rattle.edit_script.specs.CellLibrary.Refusals.{FirstOf, NothingElse}
 use Rattle.uniqueness.specs.Refusals.{IsForOneFault}
 
 pub nothing_else : IsForOneFault NothingElse

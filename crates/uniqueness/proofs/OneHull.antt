@@ -4,16 +4,16 @@ use Rattle.std.specs.Prelude.{Option, Some, slice_get, slice_index_or}
 use Rattle.std.proofs.lemmas.List.{length-map}
 use Rattle.use_orders.specs.Uses.{AreCells}
 use Rattle.geo_core.specs.declared.squares.Rect.{Rect}
-use Rattle.cell_tree.specs.declared.sizes.Size.{Size}
-use Rattle.cell_tree.specs.declared.use_tables.UseBody.{UseBody}
-use Rattle.cell_tree.specs.Sizes.{AreSizes, CellState}
-use Rattle.cell_library.specs.Additions.{children_in}
-use Rattle.cell_library.specs.Limits.{AreStatesOf, HullIs}
-use Rattle.cell_library.specs.Views.{CellView, LibraryView, no_cell, view_at}
-use Rattle.cell_library.proofs.LimitLaws.{states_unique}
-use Rattle.cell_library.proofs.SizeLaws.{HaveChildren, one_size}
-use Rattle.cell_library.proofs.ViewLaws.{length-states}
-use Rattle.cell_library.proofs.ChildLaws.{child_used}
+use Rattle.cell_loading.specs.CellTree.declared.sizes.Size.{Size}
+use Rattle.cell_loading.specs.CellTree.declared.use_tables.UseBody.{UseBody}
+use Rattle.cell_loading.specs.CellTree.Sizes.{AreSizes, CellState}
+use Rattle.edit_script.specs.CellLibrary.Additions.{children_in}
+use Rattle.edit_script.specs.CellLibrary.Limits.{AreStatesOf, HullIs}
+use Rattle.edit_script.specs.CellLibrary.Views.{CellView, LibraryView, no_cell, view_at}
+use Rattle.edit_script.proofs.CellLibrary.LimitLaws.{states_unique}
+use Rattle.edit_script.proofs.CellLibrary.SizeLaws.{HaveChildren, one_size}
+use Rattle.edit_script.proofs.CellLibrary.ViewLaws.{length-states}
+use Rattle.edit_script.proofs.CellLibrary.ChildLaws.{child_used}
 
 -- each state has the uses of the cell at its place
 same_uses : (cells : List CellView) (states : List CellState) (key : ℕ) (state : CellState) → AreStatesOf cells states → slice_get states key ≡ Some state

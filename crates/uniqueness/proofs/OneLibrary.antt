@@ -5,14 +5,14 @@ use Rattle.std.proofs.Math.Path.{fun_ext}
 use Rattle.std.specs.Option.{option_or}
 use Rattle.tech_model.specs.declared.raw.Label.{Label}
 use Rattle.tech_model.specs.declared.raw.RawTech.{RawTech}
-use Rattle.layout_model.specs.Layouts.{Layout}
-use Rattle.cell_paint.specs.Paints.{layout_of}
-use Rattle.cell_bodies.specs.declared.bodies.CellBody.{CellBody}
-use Rattle.cell_bodies.specs.declared.bodies.CellUse.{CellUse}
-use Rattle.cell_library.specs.Additions.{first_scale, kept_cell, kept_use, names_with, with_all}
-use Rattle.cell_library.specs.Views.{CellView, LibraryView, names_of}
-use Rattle.mag_text.specs.Drawings.{painted_all}
-use Rattle.mag_text.specs.MagTexts.{HasAllOf}
+use Rattle.cell_loading.specs.LayoutModel.Layouts.{Layout}
+use Rattle.cell_loading.specs.CellPaint.Paints.{layout_of}
+use Rattle.cell_loading.specs.CellBodies.declared.bodies.CellBody.{CellBody}
+use Rattle.cell_loading.specs.CellBodies.declared.bodies.CellUse.{CellUse}
+use Rattle.edit_script.specs.CellLibrary.Additions.{first_scale, kept_cell, kept_use, names_with, with_all}
+use Rattle.edit_script.specs.CellLibrary.Views.{CellView, LibraryView, names_of}
+use Rattle.cell_loading.specs.MagText.Drawings.{painted_all}
+use Rattle.cell_loading.specs.MagText.MagTexts.{HasAllOf}
 use Rattle.cell_loading.specs.CellFiles.{ReadCell, names_read, scale_of_first}
 use Rattle.cell_loading.specs.Loads.{AreBodiesOf}
 

@@ -3,16 +3,16 @@ use Rattle.std.proofs.Common.{◌≡◌, ◌⊎◌, inl, inr, ℕ, List, [], ◌
 use Rattle.outside_io.specs.Files.{Files}
 use Rattle.session_model.specs.FileTrees.{FileIsRefused, Reading, All, Stopped, fetched_by}
 use Rattle.session_model.proofs.FileTreeLaws.{one_reading}
-use Rattle.cell_tree.specs.declared.sizes.Dimension.TheVariants.{Depth as DepthOf, Elements as ElementsOf, Hull}
-use Rattle.cell_bodies.specs.declared.bodies.CellBody.{CellBody}
-use Rattle.cell_library.specs.declared.faults.LibFault.{LibFault}
-use Rattle.cell_library.specs.declared.faults.LibFault.TheVariants.{OutOfRange, Cycle, TooMany}
-use Rattle.cell_library.specs.declared.limits.LibraryLimit.TheVariants.{Depth, Edits, Elements}
-use Rattle.cell_library.specs.declared.limits.TheConstants.{MOST_EDITS}
-use Rattle.cell_library.specs.Additions.{AddAllIsRefused, IsBelowItself, IsFirstBelowItself, with_all}
-use Rattle.cell_library.specs.Limits.{GoesPast}
-use Rattle.cell_library.specs.Refusals.{EditIsRefused, FirstOf, NothingElse}
-use Rattle.cell_library.specs.Views.{LibraryView, view_at}
+use Rattle.cell_loading.specs.CellTree.declared.sizes.Dimension.TheVariants.{Depth as DepthOf, Elements as ElementsOf, Hull}
+use Rattle.cell_loading.specs.CellBodies.declared.bodies.CellBody.{CellBody}
+use Rattle.edit_script.specs.CellLibrary.declared.faults.LibFault.{LibFault}
+use Rattle.edit_script.specs.CellLibrary.declared.faults.LibFault.TheVariants.{OutOfRange, Cycle, TooMany}
+use Rattle.edit_script.specs.CellLibrary.declared.limits.LibraryLimit.TheVariants.{Depth, Edits, Elements}
+use Rattle.edit_script.specs.CellLibrary.declared.limits.TheConstants.{MOST_EDITS}
+use Rattle.edit_script.specs.CellLibrary.Additions.{AddAllIsRefused, IsBelowItself, IsFirstBelowItself, with_all}
+use Rattle.edit_script.specs.CellLibrary.Limits.{GoesPast}
+use Rattle.edit_script.specs.CellLibrary.Refusals.{EditIsRefused, FirstOf, NothingElse}
+use Rattle.edit_script.specs.CellLibrary.Views.{LibraryView, view_at}
 use Rattle.uniqueness.proofs.LibraryFaults.{one_add_all}
 use Rattle.uniqueness.proofs.OneFault.{first_of}
 use Rattle.cell_loading.specs.declared.faults.LoadFault.{LoadFault}

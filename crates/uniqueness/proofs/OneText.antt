@@ -9,15 +9,15 @@ use Rattle.geo_strips.proofs.StripListLaws.{one_list}
 use Rattle.tech_model.specs.declared.raw.Label.{Label}
 use Rattle.tech_model.specs.declared.raw.RawTech.{RawTech}
 use Rattle.tech_model.specs.Types.{plane_of}
-use Rattle.layout_model.specs.Layouts.{Layout}
-use Rattle.cell_paint.specs.Painting.{kinds_on}
-use Rattle.cell_tree.specs.declared.use_tables.UseBody.{UseBody}
-use Rattle.cell_library.specs.Additions.{children_in}
-use Rattle.cell_library.specs.Views.{LibraryView, view_at}
-use Rattle.mag_text.specs.declared.written.LayerStrips.{LayerStrips}
-use Rattle.mag_text.specs.declared.written.WrittenUse.{WrittenUse}
-use Rattle.mag_text.specs.CellTexts.{AreWrittenUses, IsCellText, IsWrittenUse}
-use Rattle.mag_text.specs.WrittenTexts.{AreAllStrips, AreLayerStrips, mag_text, own_image, use_lines}
+use Rattle.cell_loading.specs.LayoutModel.Layouts.{Layout}
+use Rattle.cell_loading.specs.CellPaint.Painting.{kinds_on}
+use Rattle.cell_loading.specs.CellTree.declared.use_tables.UseBody.{UseBody}
+use Rattle.edit_script.specs.CellLibrary.Additions.{children_in}
+use Rattle.edit_script.specs.CellLibrary.Views.{LibraryView, view_at}
+use Rattle.cell_loading.specs.MagText.declared.written.LayerStrips.{LayerStrips}
+use Rattle.cell_loading.specs.MagText.declared.written.WrittenUse.{WrittenUse}
+use Rattle.cell_loading.specs.MagText.CellTexts.{AreWrittenUses, IsCellText, IsWrittenUse}
+use Rattle.cell_loading.specs.MagText.WrittenTexts.{AreAllStrips, AreLayerStrips, mag_text, own_image, use_lines}
 use Rattle.uniqueness.proofs.OneHull.{child_within, one_hull}
 
 -- strips of a layer are one

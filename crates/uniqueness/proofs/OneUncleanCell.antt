@@ -6,8 +6,8 @@ use Rattle.geo_core.specs.declared.squares.Rect.{Rect}
 use Rattle.geo_core.specs.declared.squares.Square.{Square}
 use Rattle.geo_strips.proofs.StripListLaws.{one_list}
 use Rattle.use_orders.proofs.Visiting.{Visits-unique}
-use Rattle.cell_library.specs.Additions.{children_in}
-use Rattle.cell_library.specs.Views.{LibraryView}
+use Rattle.edit_script.specs.CellLibrary.Additions.{children_in}
+use Rattle.edit_script.specs.CellLibrary.Views.{LibraryView}
 use Rattle.hier_merge.specs.StripLists.{AreStripsFrom}
 use Rattle.hier_merge.specs.UncleanCells.{AreOffendingOf, IsCleanCell, IsFirstUnclean, IsUncleanBelow}
 use Rattle.uniqueness.specs.UncleanCells.{OffendingSquaresAreUnique}

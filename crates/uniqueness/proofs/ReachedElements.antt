@@ -8,7 +8,7 @@ use Rattle.finite_sets.proofs.Images.{In-flat_map_source}
 use Rattle.finite_sets.proofs.Members.{In-map}
 use Rattle.ext_model.specs.declared.records.CellExt.{CellExt}
 use Rattle.ext_model.specs.declared.records.UseRec.{UseRec}
-use Rattle.circuit_model.specs.Elements.{Element, elements_below, ext_of, of_option}
+use Rattle.circuit_commands.specs.CircuitModel.Elements.{Element, elements_below, ext_of, of_option}
 use Rattle.uniqueness.specs.FlatCircuits.{AgreeBelow}
 
 -- lists that are alike for each thing are alike one behind the other

@@ -16,15 +16,15 @@ use Rattle.finite_sets.proofs.Searches.{absent-from_list_any, find-In, find-pass
 use Rattle.ext_model.specs.NodeNames.{slashes_in}
 use Rattle.ext_model.specs.declared.records.CellExt.{CellExt}
 use Rattle.ext_model.specs.declared.records.UseRec.{UseRec}
-use Rattle.circuit_model.specs.declared.faults.FlatFault.{FlatFault}
-use Rattle.circuit_model.specs.declared.faults.FlatFault.TheVariants.{Cycle, NoCell, NoPath}
-use Rattle.circuit_model.specs.declared.limits.CircuitLimit.TheVariants.{Depth, Elements, Merges, Names, Nodes}
-use Rattle.circuit_model.specs.declared.limits.TheConstants.{LONGEST_CHAIN, MOST_FLAT_ELEMENTS, MOST_MERGES, MOST_NAME_BYTES, MOST_NODES}
-use Rattle.circuit_model.specs.Elements.{Element, elements_of, ext_of}
-use Rattle.circuit_model.specs.FlatNodes.{is_among}
-use Rattle.circuit_model.specs.Refusals.{after_slash, before_slash, chain_length, class_fault, count_fault, depth_of, element_fault, first_fault, flat_fault}
-use Rattle.circuit_model.specs.Refusals.{greatest, leads, merge_count, merge_fault, name_bytes, node_count, past, path_fault, use_fault, walk_fault}
-use Rattle.plain_records.proofs.ElementTree.RecordWalks.{at_use}
+use Rattle.circuit_commands.specs.CircuitModel.declared.faults.FlatFault.{FlatFault}
+use Rattle.circuit_commands.specs.CircuitModel.declared.faults.FlatFault.TheVariants.{Cycle, NoCell, NoPath}
+use Rattle.circuit_commands.specs.CircuitModel.declared.limits.CircuitLimit.TheVariants.{Depth, Elements, Merges, Names, Nodes}
+use Rattle.circuit_commands.specs.CircuitModel.declared.limits.TheConstants.{LONGEST_CHAIN, MOST_FLAT_ELEMENTS, MOST_MERGES, MOST_NAME_BYTES, MOST_NODES}
+use Rattle.circuit_commands.specs.CircuitModel.Elements.{Element, elements_of, ext_of}
+use Rattle.circuit_commands.specs.CircuitModel.FlatNodes.{is_among}
+use Rattle.circuit_commands.specs.CircuitModel.Refusals.{after_slash, before_slash, chain_length, class_fault, count_fault, depth_of, element_fault, first_fault, flat_fault}
+use Rattle.circuit_commands.specs.CircuitModel.Refusals.{greatest, leads, merge_count, merge_fault, name_bytes, node_count, past, path_fault, use_fault, walk_fault}
+use Rattle.circuit_commands.proofs.PlainRecords.ElementTree.RecordWalks.{at_use}
 use Rattle.uniqueness.specs.FlatCircuits.{AgreeBelow}
 use Rattle.uniqueness.proofs.ReachedElements.{IsReached, child_reached, elements_reached, same_child, same_elements}
 

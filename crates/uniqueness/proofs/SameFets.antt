@@ -16,13 +16,13 @@ use Rattle.tech_model.specs.declared.raw.RawTech.{RawTech}
 use Rattle.ext_model.specs.declared.records.FetRec.{FetRec}
 use Rattle.ext_model.specs.declared.records.TermRec.{TermRec}
 use Rattle.ext_model.proofs.NameOrders.{name_cmp_total}
-use Rattle.full_names.proofs.ListOrders.{not_before_itself}
-use Rattle.own_record_laws.specs.CellNodes.LayoutModel.Layouts.{Layout}
-use Rattle.own_record_laws.specs.CellNodes.LayoutModel.Places.{Place, IsBefore, IsNoLater}
-use Rattle.own_record_laws.specs.CellNodes.LayoutModel.Transistors.{gate_length}
-use Rattle.own_record_laws.specs.TreeRecords.FetRecords.{AreFetRecords, IsFetRecord, IsNameBefore, IsNodeBefore, IsOfNode, terminal_names}
-use Rattle.own_record_laws.proofs.CellNodes.LayoutModel.PlaceLaws.{IsBefore-irreflexive, IsBefore-trans, IsNoLater-antisym}
-use Rattle.own_record_laws.proofs.SameFets.{side_of}
+use Rattle.tree_circuits.proofs.FullNames.ListOrders.{not_before_itself}
+use Rattle.tree_circuits.specs.OwnRecordLaws.CellNodes.LayoutModel.Layouts.{Layout}
+use Rattle.tree_circuits.specs.OwnRecordLaws.CellNodes.LayoutModel.Places.{Place, IsBefore, IsNoLater}
+use Rattle.tree_circuits.specs.OwnRecordLaws.CellNodes.LayoutModel.Transistors.{gate_length}
+use Rattle.tree_circuits.specs.OwnRecordLaws.TreeRecords.FetRecords.{AreFetRecords, IsFetRecord, IsNameBefore, IsNodeBefore, IsOfNode, terminal_names}
+use Rattle.tree_circuits.proofs.OwnRecordLaws.CellNodes.LayoutModel.PlaceLaws.{IsBefore-irreflexive, IsBefore-trans, IsNoLater-antisym}
+use Rattle.tree_circuits.proofs.OwnRecordLaws.SameFets.{side_of}
 use Rattle.uniqueness.specs.OwnUniqueness.{FetRecordsAreUnique}
 use Rattle.uniqueness.proofs.SameNodes.{origin}
 use Rattle.uniqueness.proofs.SameTransistors.{Found, IsFound, least_in, same_area, same_gate, same_kind, same_leasts, same_perimeter, terminal_over}

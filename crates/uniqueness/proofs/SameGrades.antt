@@ -4,12 +4,12 @@ use Rattle.std.proofs.Math.Path.{fun_ext}
 use Rattle.std.specs.Prelude.{MatchOption}
 use Rattle.std.specs.List.{AllZip}
 use Rattle.switch_net.specs.Network.{Network}
-use Rattle.vector_files.specs.declared.files.Vectors.{Vectors}
-use Rattle.vector_files.specs.LineForms.{is_rail}
+use Rattle.vector_runs.specs.VectorFiles.declared.files.Vectors.{Vectors}
+use Rattle.vector_runs.specs.VectorFiles.LineForms.{is_rail}
 use Rattle.vector_runs.specs.declared.stuck_faults.StuckFault.{StuckFault}
-use Rattle.fault_grade.specs.declared.grading.Graded.{Graded}
-use Rattle.fault_grade.specs.Grades.{AreGrades, Detects, IsDetectedAt, IsGrade, IsUndetected, faults_but, faults_of}
-use Rattle.fault_grade.specs.Laws as Grading
+use Rattle.network_commands.specs.FaultGrade.declared.grading.Graded.{Graded}
+use Rattle.network_commands.specs.FaultGrade.Grades.{AreGrades, Detects, IsDetectedAt, IsGrade, IsUndetected, faults_but, faults_of}
+use Rattle.network_commands.specs.FaultGrade.Laws as Grading
 use Rattle.uniqueness.specs.Networks.{NameAlike}
 use Rattle.uniqueness.proofs.SameReplies.{begins_alike}
 

@@ -16,9 +16,9 @@ use Rattle.switch_net.specs.Names.{HasName, NameNodesBelow, NameOneNodeEach}
 use Rattle.switch_net.specs.Network.{Network}
 use Rattle.switch_net.specs.Path.{is_input}
 use Rattle.switch_net.specs.SimRecords.{AreOfOneNode, AreTransistors, IsLetterOf, IsNetworkOf, SimRecords, TransistorLine}
-use Rattle.sim_networks.specs.steps.Numbering.{arrivals}
-use Rattle.sim_networks.specs.SimNetworks.{StandsAt}
-use Rattle.sim_networks.proofs.NodeLaws.{to_arrivals}
+use Rattle.network_commands.specs.SimNetworks.steps.Numbering.{arrivals}
+use Rattle.network_commands.specs.SimNetworks.SimNetworks.{StandsAt}
+use Rattle.network_commands.proofs.SimNetworks.NodeLaws.{to_arrivals}
 use Rattle.vector_runs.proofs.RailStates.{same_networks}
 use Rattle.uniqueness.specs.Networks.{IsNumbered, NameAlike}
 

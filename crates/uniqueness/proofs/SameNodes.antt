@@ -9,15 +9,15 @@ use Rattle.tech_model.specs.declared.raw.Label.{Label}
 use Rattle.tech_model.specs.declared.raw.RawTech.{RawTech}
 use Rattle.ext_model.specs.declared.records.NodeRec.{NodeRec}
 use Rattle.ext_model.specs.RecordNames.{names_of}
-use Rattle.full_names.proofs.ListOrders.{StandsBefore, names_in_order, same_in_order}
-use Rattle.own_record_laws.specs.CellNodes.LayoutModel.Layouts.{Layout}
-use Rattle.own_record_laws.specs.CellNodes.LayoutModel.Places.{Place, IsBefore}
-use Rattle.own_record_laws.specs.CellNodes.LayoutModel.Technologies.{capacitance, rules_of}
-use Rattle.own_record_laws.specs.CellNodes.NodeRecords.{AreNodeRecords, IsNodeRecord}
-use Rattle.own_record_laws.specs.Names.NamedNodes.{AreOneNamedNode}
-use Rattle.own_record_laws.proofs.CellNodes.LayoutModel.PlaceLaws.{IsBefore-irreflexive, IsBefore-trans, IsNoLater-antisym}
-use Rattle.own_record_laws.proofs.CellNodes.NodePlaces.{AreOneNamedNode-sym}
-use Rattle.own_record_laws.proofs.CellNodes.LayoutModel.NodeLaws.{same_measures}
+use Rattle.tree_circuits.proofs.FullNames.ListOrders.{StandsBefore, names_in_order, same_in_order}
+use Rattle.tree_circuits.specs.OwnRecordLaws.CellNodes.LayoutModel.Layouts.{Layout}
+use Rattle.tree_circuits.specs.OwnRecordLaws.CellNodes.LayoutModel.Places.{Place, IsBefore}
+use Rattle.tree_circuits.specs.OwnRecordLaws.CellNodes.LayoutModel.Technologies.{capacitance, rules_of}
+use Rattle.tree_circuits.specs.OwnRecordLaws.CellNodes.NodeRecords.{AreNodeRecords, IsNodeRecord}
+use Rattle.tree_circuits.specs.OwnRecordLaws.Names.NamedNodes.{AreOneNamedNode}
+use Rattle.tree_circuits.proofs.OwnRecordLaws.CellNodes.LayoutModel.PlaceLaws.{IsBefore-irreflexive, IsBefore-trans, IsNoLater-antisym}
+use Rattle.tree_circuits.proofs.OwnRecordLaws.CellNodes.NodePlaces.{AreOneNamedNode-sym}
+use Rattle.tree_circuits.proofs.OwnRecordLaws.CellNodes.LayoutModel.NodeLaws.{same_measures}
 use Rattle.uniqueness.specs.OwnUniqueness.{NodeRecordsAreUnique}
 
 -- a place and a record for what is read past the end

@@ -4,9 +4,9 @@ use Rattle.switch_net.specs.declared.switches.Level.{Level}
 use Rattle.switch_net.specs.Names.{NameNodesBelow}
 use Rattle.switch_net.specs.Network.{Network, IsSound}
 use Rattle.switch_net.specs.SimRecords.{AreStarts, IsStartOf}
-use Rattle.vector_files.specs.declared.files.Vectors.{Vectors}
-use Rattle.vector_files.specs.VectorFiles.{vectors_in}
-use Rattle.vector_files.proofs.FittingLines.{vectors_in-within}
+use Rattle.vector_runs.specs.VectorFiles.declared.files.Vectors.{Vectors}
+use Rattle.vector_runs.specs.VectorFiles.VectorFiles.{vectors_in}
+use Rattle.vector_runs.proofs.VectorFiles.FittingLines.{vectors_in-within}
 use Rattle.vector_runs.specs.declared.replies.VecReply.{VecReply}
 use Rattle.vector_runs.specs.Laws.{EachRunHasOneOutcome}
 use Rattle.vector_runs.specs.Runs.{IsRun}

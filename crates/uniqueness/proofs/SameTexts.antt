@@ -3,7 +3,7 @@ use Rattle.std.proofs.Common.{◌≡◌, ◌<◌, ℕ, List, map, sym, ◌∙◌
 use Rattle.finite_sets.proofs.InOrder.{same_by_order}
 use Rattle.finite_sets.proofs.Pairs.{Pairwise-from_AllPairs}
 use Rattle.tech_model.specs.declared.raw.Label.{Label}
-use Rattle.own_record_laws.specs.Names.Attachments.{AreTextsOf, IsUnattached, label_at}
+use Rattle.tree_circuits.specs.OwnRecordLaws.Names.Attachments.{AreTextsOf, IsUnattached, label_at}
 use Rattle.uniqueness.specs.OwnUniqueness.{UnattachedTextsAreUnique}
 
 -- the texts of labels with a fact are one list

@@ -10,14 +10,14 @@ use Rattle.finite_sets.proofs.Totals.{Total-unique}
 use Rattle.tech_model.specs.declared.raw.Label.{Label}
 use Rattle.tech_model.specs.declared.raw.RawTech.{RawTech}
 use Rattle.tech_model.specs.ChannelRoles.{is_channel, is_terminal}
-use Rattle.own_record_laws.specs.CellNodes.LayoutModel.EdgeCounts.{IsEdgeCount, LeadsAcross}
-use Rattle.own_record_laws.specs.CellNodes.LayoutModel.Layouts.{Layout}
-use Rattle.own_record_laws.specs.CellNodes.LayoutModel.Places.{Place, IsBefore}
-use Rattle.own_record_laws.specs.CellNodes.LayoutModel.Transistors.{AreFetsInOrder, AreOneChannel, AreTransistors, IsTerminalOf, IsTransistor, Transistor}
-use Rattle.own_record_laws.specs.TreeRecords.FetRecords.{IsOfNode}
-use Rattle.own_record_laws.proofs.CellNodes.LayoutModel.PlaceLaws.{AreNeighbours-sym, IsBefore-irreflexive, IsBefore-trans, IsNoLater-antisym}
-use Rattle.own_record_laws.proofs.PreferredNames.{one_name}
-use Rattle.own_record_laws.proofs.SomeEdges.{some_edge}
+use Rattle.tree_circuits.specs.OwnRecordLaws.CellNodes.LayoutModel.EdgeCounts.{IsEdgeCount, LeadsAcross}
+use Rattle.tree_circuits.specs.OwnRecordLaws.CellNodes.LayoutModel.Layouts.{Layout}
+use Rattle.tree_circuits.specs.OwnRecordLaws.CellNodes.LayoutModel.Places.{Place, IsBefore}
+use Rattle.tree_circuits.specs.OwnRecordLaws.CellNodes.LayoutModel.Transistors.{AreFetsInOrder, AreOneChannel, AreTransistors, IsTerminalOf, IsTransistor, Transistor}
+use Rattle.tree_circuits.specs.OwnRecordLaws.TreeRecords.FetRecords.{IsOfNode}
+use Rattle.tree_circuits.proofs.OwnRecordLaws.CellNodes.LayoutModel.PlaceLaws.{AreNeighbours-sym, IsBefore-irreflexive, IsBefore-trans, IsNoLater-antisym}
+use Rattle.tree_circuits.proofs.OwnRecordLaws.PreferredNames.{one_name}
+use Rattle.tree_circuits.proofs.OwnRecordLaws.SomeEdges.{some_edge}
 
 -- transistors whose nodes go by their names
 abbrev pub Found : Type 0

@@ -6,9 +6,9 @@ use Rattle.sim_text.specs.declared.limits.SimLimit.TheVariants.{Nodes, Switches}
 use Rattle.sim_text.specs.declared.faults.SimFault.{SimFault}
 use Rattle.sim_text.specs.declared.faults.SimFault.TheVariants.{TooMany}
 use Rattle.switch_net.specs.Network.{Network}
-use Rattle.sim_networks.specs.SimNetworks.{records_of}
+use Rattle.network_commands.specs.SimNetworks.SimNetworks.{records_of}
 use Rattle.uniqueness.specs.Networks.{IsNumbered}
-use Rattle.network_runs.specs.Simulations.{IsNetOf, PassesNet}
+use Rattle.network_commands.specs.NetworkRuns.Simulations.{IsNetOf, PassesNet}
 
 -- the network of a sim file is one of its records
 pub numbered : (sim : SimFile) (net : Network) (names : List (List ℕ × ℕ)) → IsNetOf sim net names → IsNumbered (records_of sim) net names

@@ -11,10 +11,10 @@ use Rattle.sim_text.specs.declared.files.SimFile.{SimFile}
 use Rattle.sim_text.specs.declared.limits.SimLimit.{SimLimit}
 use Rattle.sim_text.specs.SimTexts.{sim_in}
 use Rattle.switch_net.specs.Network.{Network}
-use Rattle.line_answers.specs.LineEffects.{FreeEffect, accepted, refused}
-use Rattle.line_answers.specs.Refusals.{too_many}
-use Rattle.network_runs.specs.Refusals.{sim_limit_word}
-use Rattle.network_runs.specs.Simulations.{IsNetOf, vec_file}
+use Rattle.circuit_commands.specs.LineAnswers.LineEffects.{FreeEffect, accepted, refused}
+use Rattle.circuit_commands.specs.LineAnswers.Refusals.{too_many}
+use Rattle.network_commands.specs.NetworkRuns.Refusals.{sim_limit_word}
+use Rattle.network_commands.specs.NetworkRuns.Simulations.{IsNetOf, vec_file}
 use Rattle.network_commands.specs.CommandSimrun.{RunsRead, RunsRecords, RunsSource, RunsVectors, SimrunMeans, sim_file}
 use Rattle.uniqueness.specs.Simulations.{VectorAnswersAreUnique}
 use Rattle.uniqueness.proofs.SimLimits.{passes_none, same_limit}

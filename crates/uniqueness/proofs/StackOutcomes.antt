@@ -8,19 +8,19 @@ use Rattle.switch_net.specs.declared.switches.Level.{Level}
 use Rattle.switch_net.specs.declared.switches.Level.TheVariants.{One, Zero}
 use Rattle.switch_net.specs.Names.{NameNodesBelow}
 use Rattle.switch_net.specs.Network.{IsSound, Network}
-use Rattle.vector_files.specs.declared.files.VecLine.{VecLine}
-use Rattle.vector_files.specs.declared.files.VecLine.TheVariants.{Phase, Set}
-use Rattle.vector_files.specs.declared.files.Vectors.{Vectors}
-use Rattle.vector_files.specs.LineForms.{node_named}
-use Rattle.vector_files.specs.VectorFiles.{IsLineWithin}
+use Rattle.vector_runs.specs.VectorFiles.declared.files.VecLine.{VecLine}
+use Rattle.vector_runs.specs.VectorFiles.declared.files.VecLine.TheVariants.{Phase, Set}
+use Rattle.vector_runs.specs.VectorFiles.declared.files.Vectors.{Vectors}
+use Rattle.vector_runs.specs.VectorFiles.LineForms.{node_named}
+use Rattle.vector_runs.specs.VectorFiles.VectorFiles.{IsLineWithin}
 use Rattle.vector_runs.specs.declared.replies.VecReply.{VecReply}
 use Rattle.vector_runs.specs.Runs.{EndsRun, LinesRun, Standing, begun_in, lines_of, phase_reply}
 use Rattle.vector_runs.proofs.LineOutcomes.{IsSoundAt, line_sound, same_line, same_lines}
 use Rattle.vector_runs.proofs.Starts.{same_starts}
 use Rattle.vector_runs.proofs.RailStates.{name_stands}
-use Rattle.stack_runs.specs.declared.outcomes.Outcome.{Outcome}
-use Rattle.stack_runs.specs.Outcomes.{IsOutcome, is_one, is_zero}
-use Rattle.stack_runs.specs.StackVectors.{column_lines, column_name, lines_below, row_lines, row_name, set_named, stack_vectors}
+use Rattle.network_commands.specs.StackRuns.declared.outcomes.Outcome.{Outcome}
+use Rattle.network_commands.specs.StackRuns.Outcomes.{IsOutcome, is_one, is_zero}
+use Rattle.network_commands.specs.StackRuns.StackVectors.{column_lines, column_name, lines_below, row_lines, row_name, set_named, stack_vectors}
 use Rattle.uniqueness.specs.Networks.{NameAlike}
 use Rattle.uniqueness.proofs.SameReplies.{begins_alike}
 

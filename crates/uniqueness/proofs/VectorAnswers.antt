@@ -5,13 +5,13 @@ use Rattle.text_form.specs.declared.reading.At.{At}
 use Rattle.session_model.specs.declared.report.ReportLine.{ReportLine}
 use Rattle.sim_text.specs.declared.files.SimFile.{SimFile}
 use Rattle.switch_net.specs.Network.{Network}
-use Rattle.sim_networks.specs.SimNetworks.{records_of}
-use Rattle.vector_files.specs.declared.faults.VecFault.{VecFault}
-use Rattle.vector_files.specs.declared.files.Vectors.{Vectors}
-use Rattle.vector_files.specs.VectorFiles.{vectors_in}
+use Rattle.network_commands.specs.SimNetworks.SimNetworks.{records_of}
+use Rattle.vector_runs.specs.VectorFiles.declared.faults.VecFault.{VecFault}
+use Rattle.vector_runs.specs.VectorFiles.declared.files.Vectors.{Vectors}
+use Rattle.vector_runs.specs.VectorFiles.VectorFiles.{vectors_in}
 use Rattle.vector_runs.specs.declared.replies.VecReply.{VecReply}
 use Rattle.uniqueness.specs.VectorRuns.{RepliesAreUnique, VectorFilesAreUnique}
-use Rattle.network_runs.specs.Simulations.{IsNetOf, TellsNet, TellsRead, TellsVectors, vector_line}
+use Rattle.network_commands.specs.NetworkRuns.Simulations.{IsNetOf, TellsNet, TellsRead, TellsVectors, vector_line}
 use Rattle.uniqueness.specs.Simulations.{VectorAnswersAreUnique}
 use Rattle.uniqueness.proofs.SimLimits.{numbered}
 

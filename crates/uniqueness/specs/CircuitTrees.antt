@@ -2,8 +2,8 @@
 use Rattle.std.specs.Prelude.{◌≡◌, ℕ, List}
 use Rattle.outside_io.specs.Files.{Files}
 use Rattle.ext_model.specs.declared.arrays.ArrayExt.{ArrayExt}
-use Rattle.ext_loading.specs.declared.faults.ExtLoadFault.{ExtLoadFault}
-use Rattle.ext_loading.specs.Loads.{AreRead, LoadIsRefused}
+use Rattle.circuit_commands.specs.ExtLoading.declared.faults.ExtLoadFault.{ExtLoadFault}
+use Rattle.circuit_commands.specs.ExtLoading.Loads.{AreRead, LoadIsRefused}
 
 -- the files of a tree give one list of records
 abbrev pub CircuitTreesAreUnique : Type 0

@@ -2,7 +2,7 @@
 use Rattle.std.specs.Prelude.{◌≡◌, ℕ, List}
 use Rattle.outside_io.specs.Files.{Files}
 use Rattle.ext_model.specs.declared.circuits.Circuit.{Circuit}
-use Rattle.line_answers.specs.LineEffects.{FreeEffect}
+use Rattle.circuit_commands.specs.LineAnswers.LineEffects.{FreeEffect}
 use Rattle.circuit_commands.specs.declared.circuits.CircuitFile.{CircuitFile}
 use Rattle.circuit_commands.specs.declared.circuits.Written.{Written}
 use Rattle.circuit_commands.specs.Circuits.{IsWritten}

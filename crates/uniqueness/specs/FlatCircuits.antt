@@ -4,9 +4,9 @@ use Rattle.finite_sets.specs.Chain.{Chain}
 use Rattle.finite_sets.specs.Lists.{In}
 use Rattle.ext_model.specs.declared.records.CellExt.{CellExt}
 use Rattle.ext_model.specs.declared.circuits.Circuit.{Circuit}
-use Rattle.circuit_model.specs.declared.faults.FlatFault.{FlatFault}
-use Rattle.circuit_model.specs.Elements.{ext_of}
-use Rattle.circuit_model.specs.Refusals.{IsFlatFaultOf, IsFlatOf}
+use Rattle.circuit_commands.specs.CircuitModel.declared.faults.FlatFault.{FlatFault}
+use Rattle.circuit_commands.specs.CircuitModel.Elements.{ext_of}
+use Rattle.circuit_commands.specs.CircuitModel.Refusals.{IsFlatFaultOf, IsFlatOf}
 
 -- the record of the first cell uses the second
 abbrev pub UsesName : List CellExt → List ℕ → List ℕ → Type 0

@@ -2,10 +2,10 @@
 use Rattle.std.specs.Prelude.{◌≡◌, ◌<◌, ℕ, List, length, Option}
 use Rattle.use_orders.specs.Uses.{AreCells}
 use Rattle.geo_core.specs.declared.squares.Rect.{Rect}
-use Rattle.cell_library.specs.Additions.{children_in}
-use Rattle.cell_library.specs.Limits.{HullIs}
-use Rattle.cell_library.specs.Views.{LibraryView}
-use Rattle.mag_text.specs.CellTexts.{IsCellText}
+use Rattle.edit_script.specs.CellLibrary.Additions.{children_in}
+use Rattle.edit_script.specs.CellLibrary.Limits.{HullIs}
+use Rattle.edit_script.specs.CellLibrary.Views.{LibraryView}
+use Rattle.cell_loading.specs.MagText.CellTexts.{IsCellText}
 
 -- A cell of a library has one hull. What is no cell of the library has no size of its own, so each use is to lead to a cell, as those of
 -- a lawful library do.

@@ -1,3 +1,9 @@
+-- what crates above name of those below
+pub use Rattle.network_commands.specs as NetworkCommands
+pub use Rattle.edit_script.specs as EditScript
+pub use Rattle.cell_loading.specs as CellLoading
+pub use Rattle.library_trees.specs as LibraryTrees
+pub use Rattle.circuit_commands.specs as CircuitCommands
 pub mod OwnUniqueness
 pub mod RecordUniqueness
 pub mod LibraryRecords

@@ -1,8 +1,8 @@
 -- The law of the records of a library's cells, as a statement.
 use Rattle.std.specs.Prelude.{◌≡◌, ℕ}
 use Rattle.ext_model.specs.declared.arrays.ArrayExt.{ArrayExt}
-use Rattle.cell_library.specs.LayoutTrees.{tree_at}
-use Rattle.cell_library.specs.Libraries.{LibraryParts, seen}
+use Rattle.edit_script.specs.CellLibrary.LayoutTrees.{tree_at}
+use Rattle.edit_script.specs.CellLibrary.Libraries.{LibraryParts, seen}
 use Rattle.library_trees.specs.HierarchyModel.CleanCells.{IsClean}
 use Rattle.library_trees.specs.CellRecords.{IsRecordOf}
 

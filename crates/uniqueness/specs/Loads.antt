@@ -1,7 +1,7 @@
 -- What loads are held to.
 use Rattle.std.specs.Prelude.{◌≡◌, ℕ, List}
 use Rattle.outside_io.specs.Files.{Files}
-use Rattle.cell_library.specs.Views.{LibraryView}
+use Rattle.edit_script.specs.CellLibrary.Views.{LibraryView}
 use Rattle.cell_loading.specs.declared.faults.LoadFault.{LoadFault}
 use Rattle.cell_loading.specs.Loads.{IsLoaded, LoadIsRefused}
 

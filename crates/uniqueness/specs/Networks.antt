@@ -3,7 +3,7 @@ use Rattle.std.specs.Prelude.{◌≡◌, ◌↔◌, ◌<◌, ℕ, List}
 use Rattle.switch_net.specs.Names.{HasName}
 use Rattle.switch_net.specs.Network.{Network}
 use Rattle.switch_net.specs.SimRecords.{IsNetworkOf, SimRecords}
-use Rattle.sim_networks.specs.SimNetworks.{HasMoreNodesThan, IsNumberedByCaps}
+use Rattle.network_commands.specs.SimNetworks.SimNetworks.{HasMoreNodesThan, IsNumberedByCaps}
 
 -- A network of the records, whose nodes are numbered in their order.
 pub record IsNumbered (records : SimRecords) (net : Network) (names : List (List ℕ × ℕ)) : Type 0 where

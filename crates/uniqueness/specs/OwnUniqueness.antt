@@ -6,11 +6,11 @@ use Rattle.tech_model.specs.WellFormed.{IsWellFormed}
 use Rattle.ext_model.specs.declared.records.CellExt.{CellExt}
 use Rattle.ext_model.specs.declared.records.FetRec.{FetRec}
 use Rattle.ext_model.specs.declared.records.NodeRec.{NodeRec}
-use Rattle.own_record_laws.specs.CellNodes.LayoutModel.Layouts.{Layout}
-use Rattle.own_record_laws.specs.CellNodes.NodeRecords.{AreNodeRecords}
-use Rattle.own_record_laws.specs.Names.Attachments.{AreUnattached}
-use Rattle.own_record_laws.specs.TreeRecords.FetRecords.{AreFetRecords, IsNameBefore, IsNodeBefore}
-use Rattle.own_record_laws.specs.TreeRecords.OwnRecords.{IsOwnRecord}
+use Rattle.tree_circuits.specs.OwnRecordLaws.CellNodes.LayoutModel.Layouts.{Layout}
+use Rattle.tree_circuits.specs.OwnRecordLaws.CellNodes.NodeRecords.{AreNodeRecords}
+use Rattle.tree_circuits.specs.OwnRecordLaws.Names.Attachments.{AreUnattached}
+use Rattle.tree_circuits.specs.OwnRecordLaws.TreeRecords.FetRecords.{AreFetRecords, IsNameBefore, IsNodeBefore}
+use Rattle.tree_circuits.specs.OwnRecordLaws.TreeRecords.OwnRecords.{IsOwnRecord}
 
 -- a layout has one list of the texts of labels that name no place
 abbrev pub UnattachedTextsAreUnique : Type 0

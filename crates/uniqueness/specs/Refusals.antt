@@ -4,13 +4,13 @@ use Rattle.geo_core.specs.declared.grids.Grid.{Grid}
 use Rattle.geo_core.specs.declared.squares.Rect.{Rect}
 use Rattle.tech_model.specs.declared.raw.Label.{Label}
 use Rattle.ext_model.specs.declared.tables.CellKey.{CellKey}
-use Rattle.cell_bodies.specs.declared.bodies.CellBody.{CellBody}
-use Rattle.cell_library.specs.Additions.{AddAllIsRefused}
-use Rattle.cell_library.specs.Libraries.{LibraryParts}
-use Rattle.cell_library.specs.Refusals.{ArrayIsRefused, DeleteIsRefused, EraseIsRefused, LabelIsRefused, MoveIsRefused, NewCellIsRefused}
-use Rattle.cell_library.specs.Refusals.{PaintIsRefused, PlaceIsRefused, UnlabelIsRefused}
-use Rattle.cell_library.specs.Views.{LibraryView}
-use Rattle.script_lines.specs.declared.commands.Command.{Command}
+use Rattle.cell_loading.specs.CellBodies.declared.bodies.CellBody.{CellBody}
+use Rattle.edit_script.specs.CellLibrary.Additions.{AddAllIsRefused}
+use Rattle.edit_script.specs.CellLibrary.Libraries.{LibraryParts}
+use Rattle.edit_script.specs.CellLibrary.Refusals.{ArrayIsRefused, DeleteIsRefused, EraseIsRefused, LabelIsRefused, MoveIsRefused, NewCellIsRefused}
+use Rattle.edit_script.specs.CellLibrary.Refusals.{PaintIsRefused, PlaceIsRefused, UnlabelIsRefused}
+use Rattle.edit_script.specs.CellLibrary.Views.{LibraryView}
+use Rattle.edit_script.specs.ScriptLines.declared.commands.Command.{Command}
 use Rattle.edit_script.specs.declared.faults.EditFault.{EditFault}
 use Rattle.edit_script.specs.declared.faults.EditFault.TheVariants.{Memory}
 use Rattle.edit_script.specs.Answers.{Applies}

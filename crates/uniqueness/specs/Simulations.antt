@@ -7,10 +7,10 @@ use Rattle.sim_text.specs.declared.files.SimFile.{SimFile}
 use Rattle.sim_text.specs.declared.limits.SimLimit.{SimLimit}
 use Rattle.switch_net.specs.Network.{Network}
 use Rattle.uniqueness.specs.Networks.{NameAlike}
-use Rattle.line_answers.specs.LineEffects.{FreeEffect}
-use Rattle.network_runs.specs.declared.network_runs.NetworkRun.{NetworkRun}
-use Rattle.network_runs.specs.NetworkRuns.{TellsCircuit}
-use Rattle.network_runs.specs.Simulations.{IsNetOf, PassesNet, TellsNet, TellsVectors}
+use Rattle.circuit_commands.specs.LineAnswers.LineEffects.{FreeEffect}
+use Rattle.network_commands.specs.NetworkRuns.declared.network_runs.NetworkRun.{NetworkRun}
+use Rattle.network_commands.specs.NetworkRuns.NetworkRuns.{TellsCircuit}
+use Rattle.network_commands.specs.NetworkRuns.Simulations.{IsNetOf, PassesNet, TellsNet, TellsVectors}
 use Rattle.network_commands.specs.CommandSimrun.{SimrunMeans}
 
 -- a sim file has one network, and its names are the same but for the order in which they are listed

@@ -1,8 +1,8 @@
 -- What cells that are not clean are held to.
 use Rattle.std.specs.Prelude.{◌≡◌, ◌<◌, ℕ, List, length}
 use Rattle.geo_core.specs.declared.squares.Rect.{Rect}
-use Rattle.cell_library.specs.Libraries.{IsLawfulLibrary, LibraryParts, seen}
-use Rattle.cell_library.specs.Views.{LibraryView}
+use Rattle.edit_script.specs.CellLibrary.Libraries.{IsLawfulLibrary, LibraryParts, seen}
+use Rattle.edit_script.specs.CellLibrary.Views.{LibraryView}
 use Rattle.hier_merge.specs.UncleanCells.{AreOffendingOf, IsCleanCell, IsFirstUnclean, IsUncleanBelow}
 
 -- the squares of a cell that offend have one list of strips

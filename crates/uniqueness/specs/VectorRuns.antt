@@ -2,12 +2,12 @@
 use Rattle.std.specs.Prelude.{◌≡◌, ℕ, List, Ok}
 use Rattle.switch_net.specs.Network.{Network}
 use Rattle.switch_net.specs.SimRecords.{SimRecords}
-use Rattle.vector_files.specs.declared.files.Vectors.{Vectors}
-use Rattle.vector_files.specs.VectorFiles.{vectors_in}
+use Rattle.vector_runs.specs.VectorFiles.declared.files.Vectors.{Vectors}
+use Rattle.vector_runs.specs.VectorFiles.VectorFiles.{vectors_in}
 use Rattle.vector_runs.specs.declared.replies.VecReply.{VecReply}
 use Rattle.vector_runs.specs.Runs.{IsRun}
-use Rattle.fault_grade.specs.declared.grading.Graded.{Graded}
-use Rattle.fault_grade.specs.Grades.{AreGrades, faults_of}
+use Rattle.network_commands.specs.FaultGrade.declared.grading.Graded.{Graded}
+use Rattle.network_commands.specs.FaultGrade.Grades.{AreGrades, faults_of}
 use Rattle.uniqueness.specs.Networks.{IsNumbered}
 
 -- a text is one vector file for a network of the records, or has one first fault, however the names are listed

@@ -18,8 +18,8 @@ ghost use Rattle.uniqueness.specs.Ext2simEffects.{Ext2simMeansOneEffect, Written
 ghost use Rattle.uniqueness.specs.FlatCircuits.{FaultyRecordsHaveNoCircuit, FlatCircuitsAreUnique, FlatCircuitsHaveNoFault};
 ghost use Rattle.uniqueness.specs.FlatCircuits.{FlatFaultsAreUnique};
 
-use circuit_laws::circuits_are_unique;
-use ext_loading::ExtLoadFault;
+use circuit_commands::circuit_laws::circuits_are_unique;
+use circuit_commands::ext_loading::ExtLoadFault;
 use ext_model::ArrayExt;
 use session_model::reading_is_one;
 

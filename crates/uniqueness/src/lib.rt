@@ -15,16 +15,20 @@ mod own_records;
 mod records;
 mod simulations;
 
+pub use cell_loading;
+pub use circuit_commands;
 pub use circuits::{
     circuit_trees_are_unique, ext2sim_means_one_effect, flat_circuits_are_unique,
     written_circuits_are_unique,
 };
+pub use edit_script;
 pub use libraries::{
-    cell_texts_are_unique, command_outcomes_are_unique, hulls_are_unique, library_faults_are_unique,
-    offending_squares_are_unique, unclean_cells_are_unique,
+    cell_texts_are_unique, command_outcomes_are_unique, hulls_are_unique,
+    library_faults_are_unique, offending_squares_are_unique, unclean_cells_are_unique,
 };
 pub use library_records::record_is_unique;
 pub use loads::loads_are_unique;
+pub use network_commands;
 pub use networks::{
     fault_grades_are_unique, networks_are_unique, nodes_are_counted, replies_are_unique,
     vector_files_are_unique,
@@ -33,9 +37,7 @@ pub use own_records::{
     fet_records_are_unique, node_records_are_unique, own_records_are_unique,
     unattached_texts_are_unique,
 };
-pub use records::{
-    group_merges_are_unique, records_of_trees_are_unique, tree_records_are_unique,
-};
+pub use records::{group_merges_are_unique, records_of_trees_are_unique, tree_records_are_unique};
 pub use simulations::{
     circuit_answers_are_unique, network_answers_are_unique, sim_networks_are_unique,
     simrun_means_one_effect, vector_answers_are_unique,

@@ -8,7 +8,7 @@
 ghost use Rattle.std.specs.Prelude.{◌<◌, length};
 ghost use Rattle.uniqueness.specs.LibraryRecords.{RecordIsUnique};
 
-use cell_library::Reader;
+use edit_script::cell_library::Reader;
 use ext_model::CellKey;
 
 /// The cell has one record where it is clean. It does nothing.

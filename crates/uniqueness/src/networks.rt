@@ -20,7 +20,7 @@
 ghost use Rattle.uniqueness.specs.Networks.{NetworksAreUnique, NodesAreCounted};
 ghost use Rattle.uniqueness.specs.VectorRuns.{FaultsAreUnique, GradesAreUnique, RepliesAreUnique, VectorFilesAreUnique};
 
-use fault_grade::grades_are_unique;
+use network_commands::fault_grade::grades_are_unique;
 use vector_runs::runs_are_unique;
 
 /// Sim records have one network, whose nodes are numbered in their order. The lists of its names have the same elements.

@@ -11,7 +11,7 @@ use Rattle.std.proofs.lemmas.Bool.{cases_Bool}
 use Rattle.std.proofs.lemmas.Bool.Decides.{nat_tests}
 use Rattle.std.proofs.lemmas.Option.{slice_get_past, slice_get_read}
 use Rattle.std.proofs.lemmas.Slice.Eq.{bytes_eq-Decides}
-use Rattle.finite_sets.proofs.Members.{In-append_left, In-push, In-push_cases}
+use Rattle.name_index.proofs.FiniteSets.Members.{In-append_left, In-push, In-push_cases}
 use Rattle.vector_files.specs.LineForms.{node_named}
 use Rattle.vector_files.specs.NodeLookup.{IsIndexOf}
 

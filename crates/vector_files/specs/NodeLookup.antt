@@ -1,7 +1,7 @@
 -- How nodes are looked up by their names: each name once, and the nodes of power and ground by themselves.
 use Rattle.std.specs.Prelude.{◌≡◌, ◌==◌, ◌||◌, ℕ, Bool, false, List, Option, Some, None, length, codes}
 use Rattle.std.specs.List.{zip}
-use Rattle.finite_sets.specs.Lists.{In}
+use Rattle.name_index.specs.FiniteSets.Lists.{In}
 use Rattle.vector_files.specs.LineForms.{node_named, is_rail}
 
 abbrev pub power_name : List ℕ

@@ -1,3 +1,5 @@
+-- what crates above name of those below
+pub use Rattle.vector_files.proofs as VectorFiles
 pub mod LineOutcomes
 pub mod Starts
 pub mod SplitRuns

@@ -3,8 +3,8 @@ use Rattle.std.proofs.Common.{◌≡◌, ℕ, suc, ◌+◌, ◌<◌, ◌≤◌, 
 use Rattle.std.proofs.Common.{get_or, drop, add-one, drop-cons}
 use Rattle.std.proofs.lemmas.List.{drop_all}
 use Rattle.std.specs.Prelude.{◌↔◌, Some, None}
-use Rattle.finite_sets.specs.Lists.{In}
-use Rattle.finite_sets.proofs.Members.{In-get_or}
+use Rattle.switch_net.specs.FiniteSets.Lists.{In}
+use Rattle.switch_net.proofs.FiniteSets.Members.{In-get_or}
 use Rattle.switch_net.specs.Names.{HasName, NameOneNodeEach}
 use Rattle.vector_runs.proofs.Starts.{pairs_eq}
 

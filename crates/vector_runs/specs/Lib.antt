@@ -1,3 +1,5 @@
+-- what crates above name of those below
+pub use Rattle.vector_files.specs as VectorFiles
 pub mod Runs
 pub mod Replies
 pub mod Laws

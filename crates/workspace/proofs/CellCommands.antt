@@ -2,7 +2,7 @@
 use Rattle.std.proofs.Common.{◌≡◌, ℕ, List, [], ◌∷◌, Some, None, refl}
 use Rattle.session_model.specs.declared.answer.Answer.{Answer}
 use Rattle.session_model.specs.Effects.{AnswersAlone, AnswersFetching, Effect}
-use Rattle.cell_library.specs.Views.{cell_named}
+use Rattle.ext_cache.specs.CellLibrary.Views.{cell_named}
 use Rattle.line_answers.proofs.AnswerLaws.{answers_refusal}
 use Rattle.line_answers.specs.Refusals.{no_cell, refusal_line}
 use Rattle.workspace.specs.Extractions.{OnCell}

@@ -3,13 +3,13 @@ use Rattle.std.proofs.Common.{◌≡◌, ◌<◌, ◌∙◌, ℕ, List, [], leng
 use Rattle.std.proofs.lemmas.Bool.{cases_eq, cases_lt}
 use Rattle.std.proofs.lemmas.List.{get_or-map, length-map}
 use Rattle.finite_sets.proofs.Distincts.{Distinct-places}
-use Rattle.cell_library.specs.Contents.{Held}
-use Rattle.cell_library.specs.Libraries.{IsLawfulLibrary, LibraryParts, cells_seen, seen, uses_in}
-use Rattle.cell_library.specs.Views.{no_cell, view_at}
-use Rattle.cell_library.proofs.ViewLaws.{length-cell_views, names_seen}
+use Rattle.ext_cache.specs.CellLibrary.Contents.{Held}
+use Rattle.ext_cache.specs.CellLibrary.Libraries.{IsLawfulLibrary, LibraryParts, cells_seen, seen, uses_in}
+use Rattle.ext_cache.specs.CellLibrary.Views.{no_cell, view_at}
+use Rattle.ext_cache.proofs.CellLibrary.ViewLaws.{length-cell_views, names_seen}
 use Rattle.circuit_laws.specs.TreeRecords.NamedTrees.{NamedTree, own_body}
-use Rattle.library_trees.specs.NamedCells.{named_tree_at}
-use Rattle.library_trees.proofs.WholeTrees.{named_tree_unfolds}
+use Rattle.ext_cache.specs.LibraryTrees.NamedCells.{named_tree_at}
+use Rattle.ext_cache.proofs.LibraryTrees.WholeTrees.{named_tree_unfolds}
 
 module _ (library : LibraryParts) (lawful : IsLawfulLibrary library) where
   -- the tree of a cell has the cell's name

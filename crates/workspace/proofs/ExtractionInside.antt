@@ -6,7 +6,7 @@ use Rattle.session_model.specs.Effects.{Effect}
 use Rattle.line_answers.proofs.InsideLaws.{both_inside, no_lines_inside, reply_inside}
 use Rattle.line_answers.specs.LineEffects.{IsOfInside}
 use Rattle.line_answers.specs.Refusals.{refusal_line}
-use Rattle.cell_library.specs.Views.{LibraryView, view_at}
+use Rattle.ext_cache.specs.CellLibrary.Views.{LibraryView, view_at}
 use Rattle.library_answers.proofs.OffendingLaws.{offending_inside}
 use Rattle.library_answers.specs.Offending.{offending_line}
 use Rattle.workspace.specs.declared.extractions.Extracting.TheVariants.{Refused}

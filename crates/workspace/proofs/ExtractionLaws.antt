@@ -15,10 +15,10 @@ use Rattle.session_model.specs.declared.answer.Store.{Store}
 use Rattle.session_model.specs.declared.report.ReportLine.{ReportLine}
 use Rattle.ext_model.specs.declared.arrays.ArrayExt.{ArrayExt}
 use Rattle.ext_model.specs.declared.tables.CellKey.{CellKey}
-use Rattle.cell_library.specs.Additions.{children_in}
-use Rattle.cell_library.specs.Libraries.{IsLawfulLibrary, LibraryParts, seen}
-use Rattle.cell_library.specs.Views.{LibraryView, view_at}
-use Rattle.cell_library.proofs.ChildLaws.{below_there}
+use Rattle.ext_cache.specs.CellLibrary.Additions.{children_in}
+use Rattle.ext_cache.specs.CellLibrary.Libraries.{IsLawfulLibrary, LibraryParts, seen}
+use Rattle.ext_cache.specs.CellLibrary.Views.{LibraryView, view_at}
+use Rattle.ext_cache.proofs.CellLibrary.ChildLaws.{below_there}
 use Rattle.ext_cache.specs.declared.extraction.Extracted.{Extracted}
 use Rattle.ext_cache.specs.Caches.{Agrees, Extracts, MakesRecords as KeepsRecords, Records, dirty_cells, is_dirty, stamp_in, with_record}
 use Rattle.ext_cache.proofs.MakingLaws.{clean_making, dirty_unmade}
@@ -26,7 +26,7 @@ use Rattle.ext_cache.proofs.RecordLaws.{kept_clean}
 use Rattle.workspace.specs.declared.cells.Edited.{Edited}
 use Rattle.workspace.specs.declared.extractions.Extracting.TheVariants.{Done}
 use Rattle.workspace.specs.declared.extractions.Extraction.{Extraction}
-use Rattle.undo_log.specs.Inverses.{Inverses}
+use Rattle.library_answers.specs.UndoLog.Inverses.{Inverses}
 use Rattle.workspace.specs.KeptSessions.{edited_state}
 use Rattle.workspace.specs.Extracting.{HasLawfulRecord, IsExtracted, IsFreshBelow, kept_store, told_lines}
 use Rattle.workspace.specs.Extractions.{MakesRecords, ext_store, with_clean}

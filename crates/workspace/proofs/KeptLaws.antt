@@ -16,15 +16,15 @@ use Rattle.ext_model.specs.declared.tables.CellKey.{CellKey}
 use Rattle.ext_model.specs.LawfulArrays.{IsLawfulArrayExt}
 use Rattle.ext_loading.specs.PlainRecords.Plains.{AreArrayRecords, plains}
 use Rattle.library_answers.specs.HierMerge.UncleanCells.{IsCleanCell}
-use Rattle.cell_tree.specs.Uses.{HasChild}
-use Rattle.cell_library.specs.Additions.{children_in}
-use Rattle.cell_library.specs.Libraries.{IsLawfulLibrary, LibraryParts, seen}
-use Rattle.cell_library.specs.Views.{LibraryView, view_at}
-use Rattle.cell_library.proofs.ChildLaws.{below_there}
+use Rattle.ext_cache.specs.CellTree.Uses.{HasChild}
+use Rattle.ext_cache.specs.CellLibrary.Additions.{children_in}
+use Rattle.ext_cache.specs.CellLibrary.Libraries.{IsLawfulLibrary, LibraryParts, seen}
+use Rattle.ext_cache.specs.CellLibrary.Views.{LibraryView, view_at}
+use Rattle.ext_cache.proofs.CellLibrary.ChildLaws.{below_there}
 use Rattle.circuit_laws.specs.TreeRecords.TreeRecords.{HasTreeRecords}
-use Rattle.library_trees.specs.NamedCells.{IsAtOrBelow as IsSeenAtOrBelow, named_tree_at}
-use Rattle.library_trees.specs.KeptRecords.{HasKeptRecord}
-use Rattle.library_trees.specs.RecordLaws.{ListedRecordsAreOfTheTree}
+use Rattle.ext_cache.specs.LibraryTrees.NamedCells.{IsAtOrBelow as IsSeenAtOrBelow, named_tree_at}
+use Rattle.ext_cache.specs.LibraryTrees.KeptRecords.{HasKeptRecord}
+use Rattle.ext_cache.specs.LibraryTrees.RecordLaws.{ListedRecordsAreOfTheTree}
 use Rattle.workspace.proofs.CellNames.{names_tell, tree_named}
 use Rattle.ext_cache.specs.Caches.{Agrees, IsRecordNow, Records, record_in}
 use Rattle.ext_cache.proofs.OrderLaws.{below_is_before}

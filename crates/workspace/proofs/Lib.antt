@@ -1,3 +1,6 @@
+-- what crates above name of those below
+pub use Rattle.library_answers.proofs.UndoLog as UndoLog
+pub use Rattle.library_answers.proofs as LibraryAnswers
 -- laws of the records that are kept
 pub use Rattle.ext_cache.proofs.ArrivalLaws
 pub use Rattle.ext_cache.proofs.EditLaws

@@ -18,13 +18,13 @@ use Rattle.ext_model.specs.declared.arrays.ArrayUse.{ArrayUse}
 use Rattle.ext_model.specs.declared.arrays.ArrayExt.{ArrayExt}
 use Rattle.ext_reading.specs.declared.limits.TheConstants.{GREATEST_CLASS_VALUE}
 use Rattle.ext_reading.specs.ReadBack.{IsReadable}
-use Rattle.cell_tree.specs.Trees.{cell_at}
-use Rattle.cell_tree.specs.Uses.{IsShift}
-use Rattle.cell_library.specs.Libraries.{IsLawfulLibrary, LibraryParts, seen}
-use Rattle.cell_library.specs.Views.{view_at}
-use Rattle.cell_library.proofs.ElementCounts.{use_is_lawful}
-use Rattle.cell_library.proofs.LayoutTreeLaws.{state_is, uses_seen}
-use Rattle.library_trees.specs.CellRecords.{library_use, library_uses}
+use Rattle.ext_cache.specs.CellTree.Trees.{cell_at}
+use Rattle.ext_cache.specs.CellTree.Uses.{IsShift}
+use Rattle.ext_cache.specs.CellLibrary.Libraries.{IsLawfulLibrary, LibraryParts, seen}
+use Rattle.ext_cache.specs.CellLibrary.Views.{view_at}
+use Rattle.ext_cache.proofs.CellLibrary.ElementCounts.{use_is_lawful}
+use Rattle.ext_cache.proofs.CellLibrary.LayoutTreeLaws.{state_is, uses_seen}
+use Rattle.ext_cache.specs.LibraryTrees.CellRecords.{library_use, library_uses}
 use Rattle.ext_cache.specs.Caches.{IsRecordNow}
 
 -- the four factors of an orientation fit

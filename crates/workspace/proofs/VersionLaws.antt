@@ -1,10 +1,10 @@
 -- The versions that the log of a session keeps.
 use Rattle.std.proofs.Common.{◌≡◌, sym, subst}
-use Rattle.cell_library.specs.Libraries.{LibraryParts, IsSame, seen}
-use Rattle.cell_library.specs.Views.{LibraryView}
-use Rattle.undo_log.specs.Inverses.{Inverses, Keeps, no_inverses}
-use Rattle.undo_log.specs.Versions.{Versions, no_versions}
-use Rattle.undo_log.proofs.LeadLaws.{nothing_kept}
+use Rattle.ext_cache.specs.CellLibrary.Libraries.{LibraryParts, IsSame, seen}
+use Rattle.ext_cache.specs.CellLibrary.Views.{LibraryView}
+use Rattle.library_answers.specs.UndoLog.Inverses.{Inverses, Keeps, no_inverses}
+use Rattle.library_answers.specs.UndoLog.Versions.{Versions, no_versions}
+use Rattle.library_answers.proofs.UndoLog.LeadLaws.{nothing_kept}
 
 -- it keeps some
 abbrev pub KeepsSome : LibraryView → Inverses → Type 0

@@ -2,13 +2,13 @@
 use Rattle.std.proofs.Common.{◌≡◌, ◌<◌, ◌∙◌, ℕ, length, Option, sym, ap, subst}
 use Rattle.std.specs.Prelude.{IfSome}
 use Rattle.ext_model.specs.declared.tables.CellKey.{CellKey}
-use Rattle.cell_library.specs.Libraries.{IsSame, LibraryParts, seen}
-use Rattle.cell_library.specs.Views.{LibraryView}
-use Rattle.edit_script.specs.Editing.{IsCurrent, editing_of}
-use Rattle.cell_library.proofs.ViewLaws.{count_seen}
+use Rattle.ext_cache.specs.CellLibrary.Libraries.{IsSame, LibraryParts, seen}
+use Rattle.ext_cache.specs.CellLibrary.Views.{LibraryView}
+use Rattle.library_answers.specs.EditScript.Editing.{IsCurrent, editing_of}
+use Rattle.ext_cache.proofs.CellLibrary.ViewLaws.{count_seen}
 use Rattle.ext_cache.specs.Caches.{Records, is_dirty}
 use Rattle.ext_cache.proofs.RecordLaws.{dirty_same}
-use Rattle.undo_log.specs.Inverses.{Inverses, kept_versions}
+use Rattle.library_answers.specs.UndoLog.Inverses.{Inverses, kept_versions}
 use Rattle.workspace.specs.States.{Workspace}
 
 -- what is edited and what is dirty, where the program keeps this

@@ -3,16 +3,16 @@ use Rattle.std.specs.Prelude.{ℕ, List, All}
 use Rattle.ext_model.specs.declared.circuits.Circuit.{Circuit}
 use Rattle.ext_model.specs.declared.records.CellExt.{CellExt}
 use Rattle.ext_model.specs.declared.records.FetRec.{FetRec}
-use Rattle.sim_records.specs.SimRecords.{HasLetterAndLengths}
+use Rattle.circuit_laws.specs.SimRecords.SimRecords.{HasLetterAndLengths}
 use Rattle.circuit_model.specs.declared.faults.FlatFault.TheVariants.{TooMany as FlatTooMany}
 use Rattle.circuit_model.specs.declared.limits.CircuitLimit.{CircuitLimit}
 use Rattle.circuit_model.specs.Refusals.{IsFlatFaultOf, IsFlatOf}
 use Rattle.flatten.specs.declared.sinks.GivenCircuit.{GivenCircuit}
 use Rattle.flatten.specs.Sinks.{IsGiven}
-use Rattle.cell_library.specs.Views.{LibraryView, view_at}
+use Rattle.ext_cache.specs.CellLibrary.Views.{LibraryView, view_at}
 use Rattle.circuit_laws.specs.TreeRecords.TreeCircuits.{IsFlatCircuit}
 use Rattle.circuit_laws.specs.TreeRecords.TreeRecords.{HasTreeRecords}
-use Rattle.library_trees.specs.NamedCells.{named_tree_at}
+use Rattle.ext_cache.specs.LibraryTrees.NamedCells.{named_tree_at}
 use Rattle.network_runs.specs.NetworkRuns.{CanBeSimulated}
 use Rattle.workspace.specs.declared.cell_circuits.Flattened.{Flattened}
 use Rattle.workspace.specs.declared.cell_circuits.Flattened.TheVariants.{Circuit as OneCircuit, Passed as TooMuch}

@@ -5,9 +5,9 @@ use Rattle.session_model.specs.declared.answer.Store.{Store}
 use Rattle.session_model.specs.declared.report.ReportLine.{ReportLine}
 use Rattle.ext_model.specs.declared.arrays.ArrayExt.{ArrayExt}
 use Rattle.ext_model.specs.LawfulArrays.{IsLawfulArrayExt}
-use Rattle.cell_library.specs.Additions.{children_in}
-use Rattle.cell_library.specs.Libraries.{LibraryParts, seen}
-use Rattle.cell_library.specs.Views.{LibraryView, view_at}
+use Rattle.ext_cache.specs.CellLibrary.Additions.{children_in}
+use Rattle.ext_cache.specs.CellLibrary.Libraries.{LibraryParts, seen}
+use Rattle.ext_cache.specs.CellLibrary.Views.{LibraryView, view_at}
 use Rattle.ext_cache.specs.declared.extraction.Extracted.{Extracted}
 use Rattle.ext_cache.specs.Caches.{Records, is_dirty, record_in}
 use Rattle.workspace.specs.declared.extractions.Extracting.{Extracting}

@@ -9,10 +9,10 @@ use Rattle.session_model.specs.Effects.{Effect}
 use Rattle.ext_model.specs.declared.arrays.ArrayExt.{ArrayExt}
 use Rattle.ext_text.specs.WrittenTexts.{ext_text}
 use Rattle.ext_cache.specs.Names.Attachments.{AreUnattached}
-use Rattle.cell_library.specs.Additions.{children_in}
-use Rattle.cell_library.specs.Views.{LibraryView, cell_named, view_at}
+use Rattle.ext_cache.specs.CellLibrary.Additions.{children_in}
+use Rattle.ext_cache.specs.CellLibrary.Views.{LibraryView, cell_named, view_at}
 use Rattle.library_answers.specs.HierMerge.UncleanCells.{IsCleanCell, IsUncleanBelow}
-use Rattle.library_trees.specs.CellRecords.{IsRecordOf}
+use Rattle.ext_cache.specs.LibraryTrees.CellRecords.{IsRecordOf}
 use Rattle.ext_loading.specs.ExtFiles.{ext_file}
 use Rattle.line_answers.specs.declared.refusals.Refusal.{Refusal}
 use Rattle.line_answers.specs.LineEffects.{refused, reply}

@@ -1,12 +1,12 @@
 -- The state of a session as the program keeps it.
 use Rattle.std.specs.Prelude.{IfSome}
 use Rattle.std.specs.Option.{option_map}
-use Rattle.cell_library.specs.LawfulViews.{IsSoundView}
-use Rattle.cell_library.specs.Libraries.{seen}
-use Rattle.edit_script.specs.Editing.{IsCurrent, editing_of}
+use Rattle.ext_cache.specs.CellLibrary.LawfulViews.{IsSoundView}
+use Rattle.ext_cache.specs.CellLibrary.Libraries.{seen}
+use Rattle.library_answers.specs.EditScript.Editing.{IsCurrent, editing_of}
 use Rattle.ext_cache.specs.Caches.{Agrees, is_dirty}
-use Rattle.undo_log.specs.Inverses.{Keeps, kept_versions}
-use Rattle.undo_log.specs.Versions.{Versions}
+use Rattle.library_answers.specs.UndoLog.Inverses.{Keeps, kept_versions}
+use Rattle.library_answers.specs.UndoLog.Versions.{Versions}
 use Rattle.workspace.specs.declared.cells.Edited.{Edited}
 use Rattle.workspace.specs.declared.cells.LayoutSession.{LayoutSession}
 use Rattle.workspace.specs.States.{State, Workspace}

@@ -1,3 +1,7 @@
+-- what crates above name of those below
+pub use Rattle.library_answers.specs.UndoLog as UndoLog
+pub use Rattle.network_runs.specs as NetworkRuns
+pub use Rattle.library_answers.specs as LibraryAnswers
 -- what a command of the session says of the records that are kept
 pub use Rattle.ext_cache.specs.Caches
 -- the lines that tell which squares offend

@@ -3,7 +3,7 @@ use Rattle.std.specs.Prelude.{◌≡◌, ◌<◌, ℕ, length, Ok}
 use Rattle.ext_model.specs.declared.arrays.ArrayExt.{ArrayExt}
 use Rattle.ext_text.specs.WrittenTexts.{ext_text}
 use Rattle.ext_reading.specs.ExtTexts.{ext_in}
-use Rattle.cell_library.specs.Libraries.{LibraryParts, seen}
+use Rattle.ext_cache.specs.CellLibrary.Libraries.{LibraryParts, seen}
 use Rattle.ext_cache.specs.Caches.{IsRecordNow}
 
 -- the record of a cell of the library, as it is, is read back from its text and the cell's name

@@ -1,8 +1,8 @@
 -- The state of a session between two lines.
 use Rattle.std.specs.Prelude.{ℕ, Bool, true, [], Option, None}
 use Rattle.tech_model.specs.declared.raw.RawTech.{RawTech}
-use Rattle.edit_script.specs.Editing.{Editing}
-use Rattle.undo_log.specs.Versions.{Versions, no_versions}
+use Rattle.library_answers.specs.EditScript.Editing.{Editing}
+use Rattle.library_answers.specs.UndoLog.Versions.{Versions, no_versions}
 
 -- What is edited, which cells are dirty, and the versions of cells to which `undo` and `redo` lead. Dirty are those, by their positions, that
 -- were never extracted, or that an edit changed since, or a cell that stood below them at that edit. What is no cell was never extracted.

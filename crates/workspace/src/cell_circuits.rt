@@ -1,23 +1,27 @@
 //! The circuits of cells.
 ghost use Rattle.std.specs.Prelude.{◌≡◌, ◌<◌, IfOk, IsOkUnless, length};
-ghost use Rattle.cell_library.specs.Libraries.{seen};
+ghost use Rattle.ext_cache.specs.CellLibrary.Libraries.{seen};
 ghost use Rattle.ext_loading.specs.PlainRecords.Plains.{AreArrayRecords, plains};
 ghost use Rattle.ext_cache.specs.Caches.{Agrees};
 ghost use Rattle.library_answers.specs.HierMerge.UncleanCells.{IsCleanCell};
-ghost use Rattle.library_trees.specs.NamedCells.{named_tree_at};
+ghost use Rattle.ext_cache.specs.LibraryTrees.NamedCells.{named_tree_at};
 ghost use Rattle.circuit_laws.specs.TreeRecords.TreeRecords.{HasTreeRecords};
 ghost use Rattle.flatten.specs.Sinks.{AllFit};
 ghost use Rattle.workspace.specs.CellCircuits.{IsFlattenedAt, IsGivenAt};
 ghost use Rattle.workspace.specs.Extracting.{IsFreshBelow};
 
 use crate::cells::Edited;
-use cell_library::Reader;
-use circuit_laws::flat_transistors_have_letter_and_lengths;
+use circuit_laws::{
+    flat_circuits_have_letters, flat_networks_fit, flat_networks_have_the_nodes,
+    flat_transistors_have_letter_and_lengths,
+};
 use circuit_model::{CircuitLimit, FlatFault};
+use ext_cache::cell_library::Reader;
+use ext_cache::library_trees::{
+    chains_are_short, clean_cell_has_clean_tree, listed_records_are_of_the_tree,
+};
 use ext_model::{ArrayExt, CellKey, Circuit};
 use flatten::{AllFets, FetSink, GivenCircuit, circuit_given, flatten_into};
-use library_trees::{chains_are_short, clean_cell_has_clean_tree, listed_records_are_of_the_tree};
-use circuit_laws::{flat_circuits_have_letters, flat_networks_fit, flat_networks_have_the_nodes};
 use session_model::Halt;
 use std::alloc::Global;
 use tree_circuits::{records_stand_for_the_flat_layout, tree_records_have_no_other_fault};

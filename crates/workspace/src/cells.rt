@@ -3,10 +3,10 @@ ghost use Rattle.std.specs.Prelude.{◌≡◌};
 ghost use Rattle.workspace.specs.KeptSessions.{IsSession, KeepsSoundLibrary, state_of};
 ghost use Rattle.workspace.specs.States.{first_state};
 
-use cell_library::Library;
 use ext_cache::Cache;
+use ext_cache::cell_library::Library;
 use ext_model::CellKey;
-use undo_log::Log;
+use library_answers::undo_log::Log;
 
 /// A library, the current one of its cells, the records that were made of its cells, and the edits that can be undone and redone.
 #[derive(Drop)]

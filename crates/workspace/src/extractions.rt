@@ -1,8 +1,8 @@
 //! What the commands have in common that extract a cell.
 ghost use Rattle.std.specs.Prelude.{◌≡◌, ◌<◌, ◌∷◌, Some, All, length, map, IfErr, IfOk, IsOkUnless, OnErr};
 ghost use Rattle.std.specs.List.{flat_map};
-ghost use Rattle.cell_library.specs.Libraries.{seen};
-ghost use Rattle.cell_library.specs.Views.{view_at};
+ghost use Rattle.ext_cache.specs.CellLibrary.Libraries.{seen};
+ghost use Rattle.ext_cache.specs.CellLibrary.Views.{view_at};
 ghost use Rattle.ext_cache.specs.Caches.{Agrees, Extracts};
 ghost use Rattle.ext_cache.specs.Refusals.{IsUncleanFault};
 ghost use Rattle.workspace.specs.KeptSessions.{IsEdited, edited_state};
@@ -13,14 +13,14 @@ ghost use Rattle.line_answers.specs.Refusals.{refusal_line};
 ghost use Rattle.library_answers.specs.Offending.{offending_line};
 
 use crate::cells::Edited;
-use cell_library::{Library, Opened, Reader};
+use ext_cache::cell_library::{Library, Opened, Reader};
 use ext_cache::{Cache, ExtractFault, Extracted, Unclean, extract_dirty};
 use ext_model::{ArrayExt, CellKey};
 use ext_text::write_ext;
+use library_answers::offending_lines;
 use line_answers::{append_with_name, file_name, named, refused_line, reply};
 use names_lists::{List, Name};
 use session_model::{Halt, ReportLine, Store};
-use library_answers::offending_lines;
 use std::alloc::{AllocError, Global};
 use std::marker::Brand;
 use std::sync::ledger::{Blank, Ledger};

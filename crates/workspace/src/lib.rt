@@ -17,6 +17,9 @@ mod laws;
 
 pub use cell_circuits::{Flattened, flatten_kept, flatten_kept_into};
 pub use cells::{Edited, LayoutSession, new_session};
+pub use circuit_laws;
 pub use ext_cache::Cache;
 pub use extractions::{Extracting, Extraction, extract_cell};
 pub use laws::records_are_read_back;
+pub use library_answers;
+pub use network_runs;

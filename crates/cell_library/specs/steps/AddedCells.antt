@@ -1,7 +1,7 @@
 -- What cells that come all at once do to the parts of a library.
 use Rattle.std.specs.Prelude.{◌≡◌, ◌<◌, ◌≤◌, ℕ, IsTrue, List, ◌++◌, length, map, drop, Option, All}
 use Rattle.std.specs.Option.{option_or}
-use Rattle.finite_sets.specs.Lists.{In, Distinct}
+use Rattle.geo_core.specs.FiniteSets.Lists.{In, Distinct}
 use Rattle.cell_bodies.specs.declared.bodies.CellBody.{CellBody}
 use Rattle.cell_bodies.specs.declared.bodies.CellUse.{CellUse}
 use Rattle.cell_bodies.specs.Bodies.{IsUse, ids_of}

@@ -6,9 +6,9 @@ use Rattle.geo_core.specs.declared.transforms.Transform.{Transform}
 use Rattle.geo_core.specs.Areas.{has_square}
 use Rattle.tech_model.specs.declared.raw.Label.{Label}
 use Rattle.tech_model.specs.declared.raw.RawTech.{RawTech}
-use Rattle.layout_model.specs.Places.{Place}
-use Rattle.cell_paint.specs.Painting.{with_paint, with_erased, is_in_range}
-use Rattle.cell_paint.specs.Paints.{Paint, layout_of}
+use Rattle.cell_bodies.specs.LayoutModel.Places.{Place}
+use Rattle.cell_bodies.specs.CellPaint.Painting.{with_paint, with_erased, is_in_range}
+use Rattle.cell_bodies.specs.CellPaint.Paints.{Paint, layout_of}
 use Rattle.cell_bodies.specs.Numbers.{has_sides, is_displacement, are_few_elements}
 use Rattle.cell_tree.specs.declared.faults.TreeFault.{TreeFault}
 use Rattle.cell_tree.specs.declared.faults.TreeFault.TheVariants.{Cycle as Crossing, TooManyUses, Passed, Memory as NoMemory}

@@ -1,15 +1,15 @@
 -- What edits that give a cell back its paint or its labels do to the parts of a library, and what they ask for.
 use Rattle.std.specs.Prelude.{◌≡◌, ◌⊎◌, ◌<◌, ◌&&◌, int_lt, ℕ, ℤ, false, Bool, List, Option, slice_set}
-use Rattle.finite_sets.specs.Lists.{In}
+use Rattle.geo_core.specs.FiniteSets.Lists.{In}
 use Rattle.geo_core.specs.declared.squares.Piece.{Piece}
 use Rattle.geo_core.specs.declared.squares.Rect.{Rect}
 use Rattle.geo_core.specs.Areas.{LiesWithin}
 use Rattle.geo_core.specs.Covering.{is_covered}
 use Rattle.tech_model.specs.declared.raw.Label.{Label}
-use Rattle.layout_model.specs.Layouts.{Layout}
-use Rattle.layout_model.specs.Places.{Place}
-use Rattle.cell_paint.specs.Paints.{layout_of}
-use Rattle.cell_paint.specs.Pieces.{with_pieces}
+use Rattle.cell_bodies.specs.LayoutModel.Layouts.{Layout}
+use Rattle.cell_bodies.specs.LayoutModel.Places.{Place}
+use Rattle.cell_bodies.specs.CellPaint.Paints.{layout_of}
+use Rattle.cell_bodies.specs.CellPaint.Pieces.{with_pieces}
 use Rattle.cell_tree.specs.declared.sizes.Dimension.TheVariants.{Hull}
 use Rattle.cell_tree.specs.Trees.{Tree, IsEdited, IsLawfulOwn, WouldPass, cell_at, with_own}
 use Rattle.cell_library.specs.declared.limits.TheConstants.{MOST_EDITS}

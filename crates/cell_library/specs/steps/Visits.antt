@@ -6,8 +6,8 @@ use Rattle.geo_core.specs.Areas.{common_rect, IsNear}
 use Rattle.geo_core.specs.Covering.{IsProper}
 use Rattle.geo_core.specs.Images.{inverted, rect_image}
 use Rattle.geo_core.specs.Planes.{AreTilesIn}
-use Rattle.layout_model.specs.Layouts.{Layout}
-use Rattle.cell_paint.specs.Painting.{kinds_on}
+use Rattle.cell_bodies.specs.LayoutModel.Layouts.{Layout}
+use Rattle.cell_bodies.specs.CellPaint.Painting.{kinds_on}
 use Rattle.cell_tree.specs.declared.sizes.Size.{Size}
 use Rattle.cell_tree.specs.Sizes.{size_at}
 use Rattle.cell_library.specs.declared.part_tiles.PartTile.{PartTile}

@@ -3,10 +3,10 @@ use Rattle.std.specs.Prelude.{◌≡◌, ℕ, Bool, List, [], map, slice_index_o
 use Rattle.std.specs.List.{list_any}
 use Rattle.std.specs.Str.{bytes_eq}
 use Rattle.std.specs.declared.alloc.Global.{Global}
-use Rattle.cell_bodies.specs.declared.bodies.CellBody.{CellBody}
-use Rattle.cell_bodies.specs.declared.bodies.CellUse.{CellUse}
-use Rattle.cell_library.specs.Additions.{names_with}
-use Rattle.cell_library.specs.Views.{LibraryView}
+use Rattle.mag_text.specs.CellBodies.declared.bodies.CellBody.{CellBody}
+use Rattle.mag_text.specs.CellBodies.declared.bodies.CellUse.{CellUse}
+use Rattle.mag_text.specs.CellLibrary.Additions.{names_with}
+use Rattle.mag_text.specs.CellLibrary.Views.{LibraryView}
 
 -- the names of cells that were read
 abbrev pub names_in : List (List ℕ × CellBody) → List (List ℕ)

@@ -6,11 +6,11 @@ use Rattle.text_scan.specs.PlainNames.{is_plain_name}
 use Rattle.outside_io.specs.Files.{Files}
 use Rattle.session_model.specs.FileTrees.{GoesOn}
 use Rattle.cell_tree.specs.declared.limits.TheConstants.{MOST_USES}
-use Rattle.cell_bodies.specs.declared.bodies.CellBody.{CellBody}
-use Rattle.cell_bodies.specs.Bodies.{IsBody}
-use Rattle.cell_library.specs.declared.limits.TheConstants.{MOST_CELLS}
-use Rattle.cell_library.specs.Additions.{first_scale, names_with}
-use Rattle.cell_library.specs.Views.{LibraryView}
+use Rattle.mag_text.specs.CellBodies.declared.bodies.CellBody.{CellBody}
+use Rattle.mag_text.specs.CellBodies.Bodies.{IsBody}
+use Rattle.mag_text.specs.CellLibrary.declared.limits.TheConstants.{MOST_CELLS}
+use Rattle.mag_text.specs.CellLibrary.Additions.{first_scale, names_with}
+use Rattle.mag_text.specs.CellLibrary.Views.{LibraryView}
 use Rattle.cell_loading.specs.declared.walks.Frame.{Frame}
 use Rattle.cell_loading.specs.declared.walks.Next.{Next}
 use Rattle.cell_loading.specs.declared.walks.Next.TheVariants as next

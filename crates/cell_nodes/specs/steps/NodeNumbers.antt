@@ -1,13 +1,13 @@
 -- Regions and tiles with the numbers of their nodes.
 use Rattle.std.specs.Prelude.{◌≡◌, ◌⊎◌, ◌+◌, ◌<◌, ℕ, List, length, map, slice_index, slice_index_or}
-use Rattle.finite_sets.specs.Lists.{In}
+use Rattle.tech_model.specs.FiniteSets.Lists.{In}
 use Rattle.layout_model.specs.declared.region_tiles.RegionTile.{RegionTile}
 use Rattle.tech_model.specs.declared.raw.RawTech.{RawTech}
 use Rattle.layout_model.specs.Layouts.{Layout}
 use Rattle.layout_model.specs.RegionTiles.{AreLayoutTiles, AreMeasured}
 use Rattle.layout_model.specs.Technologies.{class_of}
 use Rattle.measures.specs.declared.tables.MeasureRow.{MeasureRow}
-use Rattle.flood_nodes.specs.Renumbered.{AreRenumbered}
+use Rattle.measures.specs.FloodNodes.Renumbered.{AreRenumbered}
 use Rattle.names.specs.declared.nodes.NamedNode.{NamedNode}
 
 -- The regions of a list have the number, and each other region the number that it had.

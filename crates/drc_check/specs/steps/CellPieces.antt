@@ -7,9 +7,9 @@ use Rattle.geo_core.specs.Areas.{LiesWithin}
 use Rattle.geo_core.specs.Covering.{Covers}
 use Rattle.tech_model.specs.declared.raw.RawTech.{RawTech}
 use Rattle.tech_model.specs.declared.raw.TypeId.{TypeId}
-use Rattle.offences.specs.LayoutModel.Places.{Place}
-use Rattle.offences.specs.LayoutModel.CellTrees.{CellTree}
-use Rattle.offences.specs.LayoutModel.FlatSets.{flat_sets}
+use Rattle.hierarchy_model.specs.Offences.LayoutModel.Places.{Place}
+use Rattle.hierarchy_model.specs.Offences.LayoutModel.CellTrees.{CellTree}
+use Rattle.hierarchy_model.specs.Offences.LayoutModel.FlatSets.{flat_sets}
 use Rattle.cell_library.specs.CellTree.Hulls.{SpansInRange}
 use Rattle.drc_rules.specs.declared.rules.Rule.{Rule}
 use Rattle.drc_check.specs.declared.pieces.ListedPiece.{ListedPiece}

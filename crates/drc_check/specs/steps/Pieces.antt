@@ -10,9 +10,9 @@ use Rattle.tech_model.specs.declared.raw.PartSet.{PartSet}
 use Rattle.tech_model.specs.declared.raw.RawTech.{RawTech}
 use Rattle.tech_model.specs.declared.raw.TypeId.{TypeId}
 use Rattle.tech_model.specs.Types.{joined, parts_of, type_number}
-use Rattle.offences.specs.LayoutModel.Places.{Place}
-use Rattle.offences.specs.Offences.{SetLayout, joined_at}
-use Rattle.offences.specs.TypedStacks.{on_plane}
+use Rattle.hierarchy_model.specs.Offences.LayoutModel.Places.{Place}
+use Rattle.hierarchy_model.specs.Offences.Offences.{SetLayout, joined_at}
+use Rattle.hierarchy_model.specs.Offences.TypedStacks.{on_plane}
 use Rattle.cell_library.specs.declared.part_tiles.PartTile.{PartTile}
 use Rattle.drc_rules.specs.declared.rules.Rule.{Rule}
 use Rattle.drc_check.specs.declared.pieces.ListedPiece.{ListedPiece}

@@ -1,7 +1,7 @@
 -- What is true of the branches of all records.
 use Rattle.std.specs.Prelude.{◌≡◌, ℕ, suc, ◌+◌, if◌then◌else◌, Some, List, [], ◌∷◌, length, sum_by, slice_get}
 use Rattle.std.specs.Ordering.{is_lt}
-use Rattle.finite_sets.specs.Lists.{In}
+use Rattle.name_index.specs.FiniteSets.Lists.{In}
 use Rattle.ext_model.specs.declared.records.UseRec.{UseRec}
 use Rattle.ext_model.specs.declared.records.CellExt.{CellExt}
 use Rattle.ext_model.specs.NameParts.{element_cmp}

@@ -1,6 +1,6 @@
 -- What is true of branches as far as elements are added by them, and of the element at which this begins.
 use Rattle.std.specs.Prelude.{◌≡◌, ℕ, suc, ◌<◌, ◌≤◌, ◌+◌, ◌*◌, pos, neg_ℤ, ◌≤ℤ◌, Some, List, [], ◌∷◌, length, map, sum_by, slice_get}
-use Rattle.finite_sets.specs.Lists.{In, Distinct}
+use Rattle.name_index.specs.FiniteSets.Lists.{In, Distinct}
 use Rattle.geo_core.specs.declared.transforms.Transform.{Transform}
 use Rattle.ext_model.specs.declared.records.CellExt.{CellExt}
 use Rattle.ext_model.specs.declared.limits.TheConstants.{ELEMENT_EDGE}

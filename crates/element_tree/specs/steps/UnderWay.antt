@@ -1,7 +1,7 @@
 -- A walk under way.
 use Rattle.std.specs.Prelude.{◌≡◌, ◌⊎◌, ℕ, suc, ◌<◌, ◌≤◌, ◌-◌, ◌+◌, Option, Some, None, List, [], ◌∷◌, ◌++◌, length, slice_index_or, take, drop}
 use Rattle.std.specs.Option.{option_or}
-use Rattle.finite_sets.specs.Lists.{In, Distinct}
+use Rattle.name_index.specs.FiniteSets.Lists.{In, Distinct}
 use Rattle.element_tree.specs.declared.faults.WalkFault.{WalkFault}
 use Rattle.element_tree.specs.steps.Walks.{Graph, uses_of, fault_from, fault_below, walk_fault, IsDoneIn, IsClosed}
 use Rattle.element_tree.specs.declared.walks.Mark.{Mark}

@@ -1,7 +1,7 @@
 -- The record of a cell, made of that of its own paint, its uses and its merges.
 use Rattle.std.specs.Prelude.{◌≡◌, ℕ}
-use Rattle.cell_library.specs.Views.{LibraryView}
-use Rattle.element_paths.specs.LibraryTrees.CellRecords.{library_uses}
+use Rattle.tree_merges.specs.CellLibrary.Views.{LibraryView}
+use Rattle.tree_merges.specs.ElementPaths.LibraryTrees.CellRecords.{library_uses}
 use Rattle.cell_records.specs.declared.records.CellRecord.{CellRecord}
 use Rattle.tree_merges.specs.declared.relating.Related.{Related}
 use Rattle.ext_cache.specs.declared.extraction.MadeRecord.{MadeRecord}

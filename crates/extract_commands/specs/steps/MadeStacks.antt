@@ -1,6 +1,6 @@
 -- What the program makes of the cells of a stack.
 use Rattle.std.specs.Prelude.{◌≡◌, ◌<◌, ℕ, Some, None}
-use Rattle.cell_library.specs.Views.{LibraryView}
+use Rattle.layout_gen.specs.CellLibrary.Views.{LibraryView}
 use Rattle.layout_gen.specs.Generated.{IsGenerated}
 use Rattle.layout_gen.specs.Refusals.{generate_fault}
 use Rattle.extract_commands.specs.declared.command_generate.MadeStack.{MadeStack}

@@ -9,10 +9,10 @@ use Rattle.switch_net.specs.SimRecords.{AreStarts}
 use Rattle.vector_files.specs.declared.files.VecLine.{VecLine}
 use Rattle.vector_files.specs.declared.files.VecLine.TheVariants.{Show}
 use Rattle.vector_files.specs.declared.files.Vectors.{Vectors}
-use Rattle.vector_runs.specs.declared.stuck_faults.StuckFault.{StuckFault}
-use Rattle.vector_runs.specs.declared.watching.Seen.{Seen}
-use Rattle.vector_runs.specs.RailNodes.{AreBelow, AreRails}
-use Rattle.vector_runs.specs.Watching.{AreSeen, LinesShow, Watched}
+use Rattle.fault_replay.specs.VectorRuns.declared.stuck_faults.StuckFault.{StuckFault}
+use Rattle.fault_replay.specs.VectorRuns.declared.watching.Seen.{Seen}
+use Rattle.fault_replay.specs.VectorRuns.RailNodes.{AreBelow, AreRails}
+use Rattle.fault_replay.specs.VectorRuns.Watching.{AreSeen, LinesShow, Watched}
 use Rattle.fault_replay.specs.Replays.{FitsRecord, Records}
 use Rattle.fault_grade.specs.declared.detecting.GoodRun.{GoodRun}
 use Rattle.fault_grade.specs.Grades.{TellsApart, are_opposed}

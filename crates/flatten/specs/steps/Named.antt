@@ -3,9 +3,9 @@ use Rattle.std.specs.Prelude.{◌≡◌, ℕ, Some, List, ◌∷◌, [], ◌++�
 use Rattle.finite_sets.specs.Lists.{In}
 use Rattle.ext_model.specs.declared.records.NodeRec.{NodeRec}
 use Rattle.circuit_model.specs.FlatNodes.{IsPlaced}
-use Rattle.full_names.specs.declared.names.FullNames.{FullNames}
-use Rattle.full_names.specs.NameLists.{IsFullNameList}
-use Rattle.full_names.specs.Names.{elements_in}
+use Rattle.name_classes.specs.FullNames.declared.names.FullNames.{FullNames}
+use Rattle.name_classes.specs.FullNames.NameLists.{IsFullNameList}
+use Rattle.name_classes.specs.FullNames.Names.{elements_in}
 
 -- the name is the full name of this number
 abbrev pub HasText : FullNames → ℕ → List ℕ → Type 0

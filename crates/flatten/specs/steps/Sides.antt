@@ -12,9 +12,9 @@ use Rattle.ext_model.specs.declared.records.TermRec.{TermRec}
 use Rattle.circuit_model.specs.Elements.{Element}
 use Rattle.circuit_model.specs.FullNames.{name_in, AreInNameOrder}
 use Rattle.circuit_model.specs.FlatFets.{side_name}
-use Rattle.full_names.specs.declared.names.FullNames.{FullNames}
-use Rattle.full_names.specs.NameLists.{IsFullNameList}
-use Rattle.full_names.specs.Names.{elements_in}
+use Rattle.name_classes.specs.FullNames.declared.names.FullNames.{FullNames}
+use Rattle.name_classes.specs.FullNames.NameLists.{IsFullNameList}
+use Rattle.name_classes.specs.FullNames.Names.{elements_in}
 use Rattle.flatten.specs.steps.Labels.{label_of}
 use Rattle.flatten.specs.steps.Spots.{element_at}
 use Rattle.flatten.specs.declared.sides.Side.{Side}

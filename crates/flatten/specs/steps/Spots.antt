@@ -7,10 +7,10 @@ use Rattle.ext_model.specs.declared.records.CellExt.{CellExt}
 use Rattle.ext_model.specs.RecordNames.{node_names}
 use Rattle.circuit_model.specs.Elements.{Element}
 use Rattle.circuit_model.specs.FullNames.{name_in}
-use Rattle.full_names.specs.declared.names.FullNames.{FullNames}
-use Rattle.full_names.specs.declared.names.Spot.{Spot}
-use Rattle.full_names.specs.NameLists.{IsFullNameList}
-use Rattle.full_names.specs.Names.{elements_in, IsReached, IsSpotOf}
+use Rattle.name_classes.specs.FullNames.declared.names.FullNames.{FullNames}
+use Rattle.name_classes.specs.FullNames.declared.names.Spot.{Spot}
+use Rattle.name_classes.specs.FullNames.NameLists.{IsFullNameList}
+use Rattle.name_classes.specs.FullNames.Names.{elements_in, IsReached, IsSpotOf}
 use Rattle.name_classes.specs.Classes.{AreLabels}
 use Rattle.flatten.specs.declared.spots.FetSpots.{FetSpots}
 use Rattle.flatten.specs.declared.spots.CellSpots.{CellSpots}

@@ -8,8 +8,8 @@ use Rattle.circuit_model.specs.Circuits.{IsMeaning}
 use Rattle.circuit_model.specs.Elements.{elements_of}
 use Rattle.circuit_model.specs.Refusals.{walk_fault, first_fault, element_fault}
 use Rattle.element_tree.specs.Trees.{tree_fault}
-use Rattle.full_names.specs.NameLists.{name_fault}
-use Rattle.flat_limits.specs.Counts.{node_fault, merge_fault, classes_fault}
+use Rattle.name_classes.specs.FullNames.NameLists.{name_fault}
+use Rattle.plain_records.specs.FlatLimits.Counts.{node_fault, merge_fault, classes_fault}
 
 -- the root's record has no fault of a kind
 abbrev pub HasNone : (List CellExt → CellExt → Option FlatFault) → List CellExt → ℕ → Type 0

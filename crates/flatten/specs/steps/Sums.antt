@@ -9,9 +9,9 @@ use Rattle.circuit_model.specs.declared.limits.TheConstants.{MOST_NODES, MOST_ME
 use Rattle.circuit_model.specs.Elements.{Element}
 use Rattle.circuit_model.specs.FullNames.{name_in}
 use Rattle.circuit_model.specs.FlatNodes.{measure_of, sum_of}
-use Rattle.full_names.specs.declared.names.FullNames.{FullNames}
-use Rattle.full_names.specs.NameLists.{IsFullNameList}
-use Rattle.full_names.specs.Names.{elements_in}
+use Rattle.name_classes.specs.FullNames.declared.names.FullNames.{FullNames}
+use Rattle.name_classes.specs.FullNames.NameLists.{IsFullNameList}
+use Rattle.name_classes.specs.FullNames.Names.{elements_in}
 use Rattle.flatten.specs.steps.Labels.{label_of, group_of}
 use Rattle.flatten.specs.steps.Spots.{element_at}
 use Rattle.flatten.specs.declared.sums.NodeSum.{NodeSum}

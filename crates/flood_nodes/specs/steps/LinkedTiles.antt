@@ -1,6 +1,6 @@
 -- Links between tiles.
 use Rattle.std.specs.Prelude.{◌↔◌, slice_index, ◌≡◌, ◌≢◌, ◌⊎◌, ℕ, pos, ◌<ℤ◌, Bool, IsTrue, List, slice_get, Some}
-use Rattle.finite_sets.specs.Chain.{EitherWay}
+use Rattle.geo_core.specs.FiniteSets.Chain.{EitherWay}
 use Rattle.geo_core.specs.declared.squares.Square.{Square}
 use Rattle.geo_core.specs.Covering.{Covers}
 use Rattle.rect_contacts.specs.Contacts.{shared_length}

@@ -1,7 +1,7 @@
 -- Runs of tiles of one plane, and the contacts that they add.
 use Rattle.std.specs.Prelude.{◌≡◌, ℕ, ◌+◌, List, ◌++◌, map}
 use Rattle.geo_core.specs.declared.squares.Rect.{Rect}
-use Rattle.finite_sets.specs.Lists.{Lists}
+use Rattle.geo_core.specs.FiniteSets.Lists.{Lists}
 use Rattle.rect_contacts.specs.declared.contacts.Contact.{Contact}
 use Rattle.rect_contacts.specs.Contacts.{IsSharedEdge}
 use Rattle.layout_model.specs.declared.region_tiles.RegionTile.{RegionTile}

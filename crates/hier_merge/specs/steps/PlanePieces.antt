@@ -6,11 +6,11 @@ use Rattle.geo_core.specs.declared.squares.Square.{Square}
 use Rattle.geo_core.specs.Covering.{Covers}
 use Rattle.geo_core.specs.Strips.{IsStrips}
 use Rattle.tech_model.specs.declared.raw.RawTech.{RawTech}
-use Rattle.offences.specs.declared.plane_stacks.PlaneStack.{PlaneStack}
-use Rattle.offences.specs.declared.stacks.TypedStack.{TypedStack}
-use Rattle.offences.specs.Offences.{HaveTypes, SetLayout, OffendsOn}
-use Rattle.offences.specs.SetTiles.{tile_parts}
-use Rattle.offences.specs.TypedStacks.{AreTypedStacks, StandForTiles}
+use Rattle.meeting_laws.specs.Offences.declared.plane_stacks.PlaneStack.{PlaneStack}
+use Rattle.meeting_laws.specs.Offences.declared.stacks.TypedStack.{TypedStack}
+use Rattle.meeting_laws.specs.Offences.Offences.{HaveTypes, SetLayout, OffendsOn}
+use Rattle.meeting_laws.specs.Offences.SetTiles.{tile_parts}
+use Rattle.meeting_laws.specs.Offences.TypedStacks.{AreTypedStacks, StandForTiles}
 use Rattle.cell_library.specs.declared.part_tiles.PartTile.{PartTile}
 use Rattle.hier_merge.specs.declared.meetings.Pieces.{Pieces}
 use Rattle.hier_merge.specs.steps.Visits.{AreOfParts, tiles_on}

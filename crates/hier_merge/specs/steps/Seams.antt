@@ -5,9 +5,9 @@ use Rattle.geo_core.specs.declared.squares.Square.{Square}
 use Rattle.geo_core.specs.Areas.{AreDisjoint}
 use Rattle.geo_core.specs.Covering.{Covers}
 use Rattle.tech_model.specs.declared.raw.RawTech.{RawTech}
-use Rattle.offences.specs.declared.set_tiles.SetTile.{SetTile}
-use Rattle.offences.specs.declared.stacks.TypedStack.{TypedStack}
-use Rattle.offences.specs.TypedStacks.{StandForTiles}
+use Rattle.meeting_laws.specs.Offences.declared.set_tiles.SetTile.{SetTile}
+use Rattle.meeting_laws.specs.Offences.declared.stacks.TypedStack.{TypedStack}
+use Rattle.meeting_laws.specs.Offences.TypedStacks.{StandForTiles}
 use Rattle.cell_library.specs.declared.part_tiles.PartTile.{PartTile}
 use Rattle.hier_merge.specs.declared.plane_tiles.NumberedTile.{NumberedTile}
 use Rattle.hier_merge.specs.steps.PlanePieces.{HasTiles}

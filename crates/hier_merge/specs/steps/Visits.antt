@@ -6,9 +6,9 @@ use Rattle.geo_core.specs.Areas.{IsNear}
 use Rattle.geo_core.specs.Covering.{Covers}
 use Rattle.tech_model.specs.declared.raw.RawTech.{RawTech}
 use Rattle.tech_model.specs.Types.{parts_of}
-use Rattle.layout_model.specs.Places.{Place}
-use Rattle.layout_model.specs.CellTrees.{CellTree}
-use Rattle.offences.specs.declared.set_tiles.SetTile.{SetTile}
+use Rattle.cell_library.specs.LayoutModel.Places.{Place}
+use Rattle.cell_library.specs.LayoutModel.CellTrees.{CellTree}
+use Rattle.meeting_laws.specs.Offences.declared.set_tiles.SetTile.{SetTile}
 use Rattle.cell_library.specs.declared.part_tiles.PartTile.{PartTile}
 use Rattle.cell_library.specs.PartTiles.{IsPartTileIn, set_of_part, set_of_tiles}
 

@@ -6,13 +6,13 @@ use Rattle.geo_core.specs.Images.{identity, six_of}
 use Rattle.tech_model.specs.declared.raw.Label.{Label}
 use Rattle.tech_model.specs.declared.raw.RawTech.{RawTech}
 use Rattle.tech_model.specs.Types.{layer_named}
-use Rattle.layout_model.specs.Layouts.{Layout}
-use Rattle.layout_model.specs.Places.{Place}
-use Rattle.cell_bodies.specs.declared.bodies.CellBody.{CellBody}
-use Rattle.cell_bodies.specs.declared.bodies.CellUse.{CellUse}
+use Rattle.cell_library.specs.LayoutModel.Layouts.{Layout}
+use Rattle.cell_library.specs.LayoutModel.Places.{Place}
+use Rattle.cell_library.specs.CellBodies.declared.bodies.CellBody.{CellBody}
+use Rattle.cell_library.specs.CellBodies.declared.bodies.CellUse.{CellUse}
 use Rattle.cell_library.specs.OwnBoxes.{OwnBoxIs}
 use Rattle.cell_library.specs.Views.{LibraryView, cell_named}
-use Rattle.cell_paint.specs.Paints.{IsSoundPaint, layout_of}
+use Rattle.cell_library.specs.CellPaint.Paints.{IsSoundPaint, layout_of}
 use Rattle.layout_gen.specs.declared.checks.TileLayers.{TileLayers}
 use Rattle.layout_gen.specs.Generated.{diff_name, no_paint, poly_name, row_grid, row_name, stack_grid, stack_name, tile_labels, tile_layout, tile_name}
 

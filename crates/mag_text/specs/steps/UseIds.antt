@@ -3,8 +3,8 @@ use Rattle.std.specs.Prelude.{◌≡◌, ℕ, List, Vec}
 use Rattle.std.specs.List.{list_any}
 use Rattle.std.specs.Str.{bytes_eq}
 use Rattle.std.specs.declared.alloc.Global.{Global}
-use Rattle.cell_bodies.specs.declared.bodies.CellUse.{CellUse}
-use Rattle.cell_bodies.specs.Bodies.{ids_of}
+use Rattle.cell_library.specs.CellBodies.declared.bodies.CellUse.{CellUse}
+use Rattle.cell_library.specs.CellBodies.Bodies.{ids_of}
 
 -- The words of the set are the ids of the uses, in whatever order.
 abbrev pub AreIds : List (Vec ℕ Global) → List CellUse → Type 0

@@ -1,6 +1,6 @@
 -- The measures of regions, by class.
 use Rattle.std.specs.Prelude.{◌≡◌, ◌<◌, ℕ, ℤ, pos, Bool, List, ◌++◌, length, map, slice_index_or}
-use Rattle.rect_contacts.specs.declared.contacts.Contact.{Contact}
+use Rattle.flood_nodes.specs.RectContacts.declared.contacts.Contact.{Contact}
 use Rattle.tech_model.specs.declared.raw.ClassRec.{ClassRec}
 use Rattle.layout_model.specs.Technologies.{class_of}
 use Rattle.layout_model.specs.declared.region_tiles.RegionTile.{RegionTile}

@@ -1,7 +1,7 @@
 -- What tiles and their contacts count in a class.
 use Rattle.std.specs.Prelude.{◌&&◌, ℕ, ℤ, pos, ◌-ℤ◌, Bool, if◌then◌else◌, List, [], ◌∷◌, map, length}
-use Rattle.rect_contacts.specs.declared.contacts.Contact.{Contact}
-use Rattle.rect_contacts.specs.Squares.{area_of, perimeter_of}
+use Rattle.flood_nodes.specs.RectContacts.declared.contacts.Contact.{Contact}
+use Rattle.flood_nodes.specs.RectContacts.Squares.{area_of, perimeter_of}
 use Rattle.layout_model.specs.declared.region_tiles.RegionTile.{RegionTile}
 use Rattle.key_sums.specs.declared.Amount.{Amount}
 use Rattle.flood_nodes.specs.TileShares.{tile_at}

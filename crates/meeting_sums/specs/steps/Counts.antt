@@ -10,7 +10,7 @@ use Rattle.rect_contacts.specs.declared.contacts.Contact.{Contact}
 use Rattle.rect_contacts.specs.Squares.{area_of, perimeter_of}
 use Rattle.tech_model.specs.declared.raw.ClassRec.{ClassRec}
 use Rattle.tech_model.specs.Types.{type_number}
-use Rattle.layout_model.specs.Technologies.{class_of}
+use Rattle.offences.specs.LayoutModel.Technologies.{class_of}
 use Rattle.offences.specs.declared.plane_stacks.PlaneStack.{PlaneStack}
 use Rattle.offences.specs.declared.stacks.TypedStack.{TypedStack}
 use Rattle.offences.specs.TypedStacks.{kind_in, no_typed_stack}

@@ -1,8 +1,8 @@
 -- Full names by their numbers, joined by links.
 use Rattle.std.specs.Prelude.{◌≡◌, ◌<◌, ◌+◌, ◌==◌, if◌then◌else◌, ℕ, Some, List, [], ◌++◌, length, slice_get}
-use Rattle.finite_sets.specs.Lists.{In}
+use Rattle.partition.specs.FiniteSets.Lists.{In}
 use Rattle.partition.specs.Divides.{Divides, IsPair}
-use Rattle.element_tree.specs.declared.tree.TreeElement.{TreeElement}
+use Rattle.full_names.specs.ElementTree.declared.tree.TreeElement.{TreeElement}
 use Rattle.full_names.specs.declared.names.FullNames.{FullNames}
 use Rattle.full_names.specs.Names.{HasSpot, GivesName}
 use Rattle.name_classes.specs.declared.links.Link.{Link}

@@ -1,7 +1,7 @@
 -- Where the paths of records lead.
 use Rattle.std.specs.Prelude.{◌≡◌, ◌+◌, ℕ, Bool, true, false, Some, None, List, ◌∷◌, ◌++◌, find, slice_get}
 use Rattle.std.specs.Str.{bytes_eq}
-use Rattle.finite_sets.specs.Lists.{In}
+use Rattle.partition.specs.FiniteSets.Lists.{In}
 use Rattle.ext_model.specs.declared.names.TheConstants.{SLASH}
 use Rattle.ext_model.specs.declared.records.UseRec.{UseRec}
 use Rattle.ext_model.specs.declared.records.CellExt.{CellExt}
@@ -10,9 +10,9 @@ use Rattle.ext_model.specs.RecordNames.{node_names}
 use Rattle.circuit_model.specs.Elements.{Element}
 use Rattle.circuit_model.specs.FullNames.{name_in}
 use Rattle.circuit_model.specs.Refusals.{leads}
-use Rattle.element_tree.specs.declared.tree.Branch.{Branch}
-use Rattle.element_tree.specs.declared.tree.TreeElement.{TreeElement}
-use Rattle.element_tree.specs.Trees.{branches_of}
+use Rattle.full_names.specs.ElementTree.declared.tree.Branch.{Branch}
+use Rattle.full_names.specs.ElementTree.declared.tree.TreeElement.{TreeElement}
+use Rattle.full_names.specs.ElementTree.Trees.{branches_of}
 use Rattle.full_names.specs.declared.names.FullNames.{FullNames}
 use Rattle.full_names.specs.Names.{AreNames, IsElement, IsSpotOf}
 use Rattle.name_classes.specs.declared.classes.MergeEnd.{MergeEnd}

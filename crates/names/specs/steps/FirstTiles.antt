@@ -1,6 +1,6 @@
 -- The first tiles of classes of regions, in the order of places.
 use Rattle.std.specs.Prelude.{◌≡◌, ◌≢◌, ◌<◌, ℕ, Bool, false, List, length, AllPairs, slice_index, slice_index_or}
-use Rattle.finite_sets.specs.Lists.{In}
+use Rattle.geo_core.specs.FiniteSets.Lists.{In}
 use Rattle.geo_core.specs.Areas.{corner_of}
 use Rattle.layout_model.specs.Places.{Place, IsNoLater}
 use Rattle.layout_model.specs.declared.region_tiles.RegionTile.{RegionTile}

@@ -1,7 +1,7 @@
 -- Which tiles a label may attach to, and where on them.
 use Rattle.std.specs.Prelude.{◌≡◌, ◌&&◌, ◌==◌, nat_lt, int_lt, if◌then◌else◌, ℕ, Bool, true, false, List, length, Option, Some, None, slice_index_or}
 use Rattle.std.specs.Ordering.{int_eq}
-use Rattle.finite_sets.specs.Lists.{In}
+use Rattle.geo_core.specs.FiniteSets.Lists.{In}
 use Rattle.geo_core.specs.Areas.{has_square, common_rect, corner_of}
 use Rattle.tech_model.specs.declared.raw.Label.{Label}
 use Rattle.tech_model.specs.declared.raw.TypeId.{TypeId}

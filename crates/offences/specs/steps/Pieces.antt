@@ -7,9 +7,9 @@ use Rattle.geo_core.specs.declared.squares.Square.{Square}
 use Rattle.geo_core.specs.declared.squares.Rect.{Rect}
 use Rattle.geo_core.specs.Areas.{common_rect}
 use Rattle.geo_core.specs.Strips.{IsInUnion}
-use Rattle.finite_sets.specs.Lists.{Lists}
-use Rattle.rect_contacts.specs.Contacts.{IsSharedEdge}
-use Rattle.rect_contacts.specs.declared.contacts.Contact.{Contact}
+use Rattle.geo_core.specs.FiniteSets.Lists.{Lists}
+use Rattle.rect_overlays.specs.RectContacts.Contacts.{IsSharedEdge}
+use Rattle.rect_overlays.specs.RectContacts.declared.contacts.Contact.{Contact}
 use Rattle.tech_model.specs.declared.raw.TypeId.{TypeId}
 use Rattle.tech_model.specs.declared.raw.RawTech.{RawTech}
 use Rattle.tech_model.specs.Types.{is_within}

@@ -1,7 +1,7 @@
 -- The groups that members in name order make by their marks.
 use Rattle.std.specs.Prelude.{◌≡◌, ◌+◌, ◌==◌, ℕ, pos, Bool, false, None, Some, List, [], ◌∷◌, map, filter, drop, length, slice_index, slice_index_or}
 use Rattle.std.specs.List.{flat_map, range_with_len}
-use Rattle.layout_model.specs.Technologies.{Class}
+use Rattle.group_meetings.specs.LayoutModel.Technologies.{Class}
 use Rattle.ext_model.specs.declared.records.MergeRec.{MergeRec}
 use Rattle.ext_model.specs.declared.arrays.MergeRow.{MergeRow}
 use Rattle.merge_rows.specs.AddedMerges.{AddsToRows}

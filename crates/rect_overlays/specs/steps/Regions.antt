@@ -1,7 +1,7 @@
 -- Areas that are to be made stacks or cut, and the rectangles that have squares in them.
 use Rattle.std.specs.Prelude.{◌≡◌, ◌≢◌, ◌⊎◌, ◌&&◌, ◌++◌, ℕ, ◌<◌, Bool, true, int_le, List, [], ◌∷◌, length, map, filter, AllPairs}
 use Rattle.std.specs.List.{flat_map}
-use Rattle.finite_sets.specs.Lists.{In}
+use Rattle.geo_core.specs.FiniteSets.Lists.{In}
 use Rattle.geo_core.specs.declared.squares.Square.{Square}
 use Rattle.geo_core.specs.declared.squares.Rect.{Rect}
 use Rattle.geo_core.specs.Areas.{common_rect, has_square, AreDisjoint, LiesWithin}

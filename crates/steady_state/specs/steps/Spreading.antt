@@ -10,7 +10,7 @@ use Rattle.steady_state.specs.declared.kinds.PathKind.{PathKind}
 use Rattle.switch_net.specs.Terminals.{near_end, far_end}
 use Rattle.steady_state.specs.steps.Kinds.{goes_through, BeginsAt, HasPath}
 use Rattle.switch_net.specs.Sets.{IsInside}
-use Rattle.finite_sets.specs.Lists.{In}
+use Rattle.switch_net.specs.FiniteSets.Lists.{In}
 
 -- what a switch of strength g brings from a node to another: the entry is raised to it, or it brings no more
 abbrev pub IsLift : List ℕ → List ℕ → List ℕ → ℕ → ℕ → ℕ → Bool → Type 0

@@ -1,10 +1,10 @@
 -- What a finder of members knows.
 use Rattle.std.specs.Prelude.{◌≡◌, ◌<◌, ℕ, length}
 use Rattle.ext_model.specs.Tables.{Table}
-use Rattle.cell_library.specs.Libraries.{LibraryParts, seen}
-use Rattle.library_trees.specs.KeptRecords.{HaveKeptRecordsBelow}
-use Rattle.library_trees.specs.NamedCells.{named_tree_at}
-use Rattle.library_trees.specs.TreeNames.CleanTrees.{IsCleanTree}
+use Rattle.element_paths.specs.CellLibrary.Libraries.{LibraryParts, seen}
+use Rattle.element_paths.specs.LibraryTrees.KeptRecords.{HaveKeptRecordsBelow}
+use Rattle.element_paths.specs.LibraryTrees.NamedCells.{named_tree_at}
+use Rattle.element_paths.specs.LibraryTrees.TreeNames.CleanTrees.{IsCleanTree}
 use Rattle.tile_members.specs.declared.finding.MemberFinder.{MemberFinder}
 use Rattle.tile_members.specs.steps.KnownMembers.{AreKnown}
 use Rattle.tile_members.specs.steps.MemberNames.{kept_in, AreGroupsOf}

@@ -3,8 +3,8 @@ use Rattle.std.specs.Prelude.{◌≡◌, ◌⊎◌, ◌&&◌, ℕ, nat_eq, Bool,
 use Rattle.std.specs.HashMap.{get}
 use Rattle.ext_model.specs.declared.records.NodeRec.{NodeRec}
 use Rattle.layout_model.specs.CellTrees.{Standing, standings}
-use Rattle.cell_library.specs.LayoutTrees.{tree_at}
-use Rattle.cell_library.specs.Views.{LibraryView}
+use Rattle.element_paths.specs.CellLibrary.LayoutTrees.{tree_at}
+use Rattle.element_paths.specs.CellLibrary.Views.{LibraryView}
 use Rattle.tile_members.specs.declared.known_members.KnownMembers.{KnownMembers}
 use Rattle.tile_members.specs.declared.opened_cells.OpenedCell.{OpenedCell}
 use Rattle.tile_members.specs.declared.opened_cells.OpenedCells.{OpenedCells}

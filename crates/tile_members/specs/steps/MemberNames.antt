@@ -7,12 +7,12 @@ use Rattle.ext_model.specs.Plain.{plain}
 use Rattle.ext_model.specs.Tables.{Table, ext_of}
 use Rattle.layout_model.specs.Places.{Place}
 use Rattle.layout_model.specs.CellTrees.{Standing, place_back, standings}
-use Rattle.cell_library.specs.LayoutTrees.{tree_at}
-use Rattle.cell_library.specs.Views.{LibraryView, view_at}
-use Rattle.library_trees.specs.TreeRecords.FetRecords.{IsOfNode}
-use Rattle.library_trees.specs.NamedCells.{named_tree_at}
+use Rattle.element_paths.specs.CellLibrary.LayoutTrees.{tree_at}
+use Rattle.element_paths.specs.CellLibrary.Views.{LibraryView, view_at}
+use Rattle.element_paths.specs.LibraryTrees.TreeRecords.FetRecords.{IsOfNode}
+use Rattle.element_paths.specs.LibraryTrees.NamedCells.{named_tree_at}
 use Rattle.tile_members.specs.GroupMeetings.Members.{IsMemberOfPart}
-use Rattle.library_trees.specs.KeptRecords.{KeptRecords}
+use Rattle.element_paths.specs.LibraryTrees.KeptRecords.{KeptRecords}
 use Rattle.tile_members.specs.declared.group_tables.GroupTable.{GroupTable}
 
 -- the records of a table, by the positions of their cells

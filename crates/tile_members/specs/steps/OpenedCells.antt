@@ -9,12 +9,12 @@ use Rattle.ext_model.specs.declared.records.NodeRec.{NodeRec}
 use Rattle.layout_model.specs.Layouts.{IsMaterial}
 use Rattle.layout_model.specs.Places.{Place}
 use Rattle.layout_model.specs.RegionTiles.{AreLayoutTiles, LiesIn}
-use Rattle.cell_nodes.specs.RegionNodes.{AreNodesOfRegions}
+use Rattle.group_meetings.specs.CellNodes.RegionNodes.{AreNodesOfRegions}
 use Rattle.layout_model.specs.CellTrees.{place_back}
-use Rattle.cell_library.specs.declared.part_tiles.PartTile.{PartTile}
-use Rattle.cell_library.specs.Libraries.{LibraryParts, seen}
-use Rattle.cell_library.specs.Views.{LibraryView, view_at}
-use Rattle.library_trees.specs.TreeRecords.FetRecords.{IsOfNode}
+use Rattle.element_paths.specs.CellLibrary.declared.part_tiles.PartTile.{PartTile}
+use Rattle.element_paths.specs.CellLibrary.Libraries.{LibraryParts, seen}
+use Rattle.element_paths.specs.CellLibrary.Views.{LibraryView, view_at}
+use Rattle.element_paths.specs.LibraryTrees.TreeRecords.FetRecords.{IsOfNode}
 use Rattle.tile_members.specs.declared.opened_cells.OpenedCell.{OpenedCell}
 use Rattle.tile_members.specs.declared.opened_cells.OpenedCells.{OpenedCells}
 

@@ -6,7 +6,7 @@ use Rattle.flood_nodes.specs.declared.found.Regions.{Regions}
 use Rattle.offences.specs.declared.plane_stacks.PlaneStack.{PlaneStack}
 use Rattle.offences.specs.Offences.{SetLayout}
 use Rattle.offences.specs.PlaneStacks.{ArePlaneStacks}
-use Rattle.meeting_sums.specs.Sums.{AreMeetingSums}
+use Rattle.piece_groups.specs.MeetingSums.Sums.{AreMeetingSums}
 use Rattle.piece_groups.specs.MarkMerges.{AreMergesOfMarks}
 use Rattle.piece_groups.specs.MemberMarks.{AreMemberMarks}
 use Rattle.piece_groups.specs.Laws.{piece_marks}

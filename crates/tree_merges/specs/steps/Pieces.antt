@@ -9,9 +9,9 @@ use Rattle.flood_nodes.specs.Stacking.{AreTyped}
 use Rattle.offences.specs.declared.plane_stacks.PlaneStack.{PlaneStack}
 use Rattle.offences.specs.Offences.{SetLayout}
 use Rattle.offences.specs.PlaneStacks.{ArePlaneStacks}
-use Rattle.meeting_sums.specs.LowerMeetingLaws.PartLayouts.{parts_layout}
-use Rattle.meeting_sums.specs.declared.limits.TheConstants.{MOST_PARTS}
-use Rattle.meeting_sums.specs.StackTiles.{tiles_of}
+use Rattle.piece_groups.specs.MeetingSums.LowerMeetingLaws.PartLayouts.{parts_layout}
+use Rattle.piece_groups.specs.MeetingSums.declared.limits.TheConstants.{MOST_PARTS}
+use Rattle.piece_groups.specs.MeetingSums.StackTiles.{tiles_of}
 use Rattle.tile_members.specs.declared.members.TileMembers.{TileMembers}
 
 -- The pieces are those of some parts, fewer than there may be, plane by plane, and each has a flat type that is the technology's and of its plane.

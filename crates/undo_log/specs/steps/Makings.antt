@@ -9,12 +9,12 @@ use Rattle.tech_model.specs.declared.raw.RawTech.{RawTech}
 use Rattle.cell_paint.specs.Paints.{IsSoundPaint}
 use Rattle.cell_tree.specs.declared.use_tables.UseBody.{UseBody}
 use Rattle.cell_paint.specs.Pieces.{AreTakenOut, CanStandIn}
-use Rattle.cell_library.specs.Refusals.{has_id}
-use Rattle.cell_library.specs.Views.{CellView}
+use Rattle.edit_script.specs.CellLibrary.Refusals.{has_id}
+use Rattle.edit_script.specs.CellLibrary.Views.{CellView}
 use Rattle.edit_script.specs.Editing.{Editing}
 use Rattle.edit_script.specs.Refusals.{ApplyIsRefused}
 use Rattle.edit_script.specs.declared.faults.EditFault.{EditFault}
-use Rattle.script_lines.specs.declared.commands.Command.{Command}
+use Rattle.edit_script.specs.ScriptLines.declared.commands.Command.{Command}
 use Rattle.undo_log.specs.declared.changes.Change.{Change}
 use Rattle.undo_log.specs.declared.changes.Change.TheVariants.{Repaint, InsertUse, SetGrid, AddLabel}
 

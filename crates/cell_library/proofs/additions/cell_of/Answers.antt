@@ -1,4 +1,4 @@
-use Rattle.cell_paint.specs.Paints.{layout_of}
+use Rattle.cell_bodies.specs.CellPaint.Paints.{layout_of}
 use Rattle.cell_tree.specs.Additions.{new_state}
 use Rattle.cell_library.specs.Contents.{held_at}
 use Rattle.cell_library.proofs.ArrivingUses.{cell_may_come}

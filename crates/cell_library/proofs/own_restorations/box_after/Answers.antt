@@ -1,8 +1,8 @@
 use Rattle.std.proofs.Common.{◌∙◌, length, sym, subst}
 use Rattle.std.specs.Prelude.{Option}
 use Rattle.geo_core.specs.declared.squares.Rect.{Rect}
-use Rattle.cell_paint.specs.Paints.{layout_of}
-use Rattle.cell_paint.proofs.PlaneLaws.{space_past}
+use Rattle.cell_bodies.specs.CellPaint.Paints.{layout_of}
+use Rattle.cell_bodies.proofs.CellPaint.PlaneLaws.{space_past}
 use Rattle.cell_library.specs.Contents.{held_at}
 use Rattle.cell_library.specs.OwnBoxes.{OwnBoxIs}
 use Rattle.cell_library.proofs.InnerAreas.{box_stays}

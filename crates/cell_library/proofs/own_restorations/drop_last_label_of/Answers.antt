@@ -1,5 +1,5 @@
 use Rattle.std.proofs.Common.{◌<◌, length, arith}
-use Rattle.cell_paint.specs.Paints.{layout_of}
+use Rattle.cell_bodies.specs.CellPaint.Paints.{layout_of}
 use Rattle.cell_tree.specs.Trees.{cell_at}
 use Rattle.cell_library.specs.Contents.{held_at}
 use Rattle.cell_library.proofs.BoxSteps.{inner_lawful, own_lawful}

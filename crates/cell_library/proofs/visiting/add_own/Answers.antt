@@ -2,8 +2,8 @@ use Rattle.std.proofs.Common.{◌≡◌, ◌+◌, length, sym, subst, ◌∙◌,
 use Rattle.geo_core.specs.declared.squares.Rect.{Rect}
 use Rattle.geo_core.specs.Planes.{AreTilesIn}
 use Rattle.tech_model.specs.declared.raw.RawTech.{RawTech}
-use Rattle.layout_model.specs.Layouts.{Layout, IsMaterial}
-use Rattle.cell_paint.specs.Painting.{kinds_on}
+use Rattle.cell_bodies.specs.LayoutModel.Layouts.{Layout, IsMaterial}
+use Rattle.cell_bodies.specs.CellPaint.Painting.{kinds_on}
 use Rattle.cell_library.specs.Libraries.{seen}
 use Rattle.cell_library.specs.Spots.{standing_at}
 use Rattle.cell_library.specs.Views.{view_at}

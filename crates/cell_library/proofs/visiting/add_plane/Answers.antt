@@ -1,11 +1,11 @@
 use Rattle.std.proofs.Common.{List, sym, subst}
-use Rattle.finite_sets.proofs.Members.{In-get_or}
+use Rattle.geo_core.proofs.FiniteSets.Members.{In-get_or}
 use Rattle.geo_core.specs.declared.squares.Piece.{Piece}
 use Rattle.geo_core.specs.Planes.{AreTilesIn}
 use Rattle.geo_core.proofs.TileSets.{tile_inside}
-use Rattle.cell_paint.specs.Painting.{kinds_on}
-use Rattle.cell_paint.specs.Paints.{layout_of}
-use Rattle.cell_paint.proofs.AreaLaws.{near_within}
+use Rattle.cell_bodies.specs.CellPaint.Painting.{kinds_on}
+use Rattle.cell_bodies.specs.CellPaint.Paints.{layout_of}
+use Rattle.cell_bodies.proofs.CellPaint.AreaLaws.{near_within}
 use Rattle.cell_library.proofs.visiting.add_plane.Goals as goal
 
 pub tile_of-requires-clause-near : goal.tile_of-requires-clause-near

@@ -1,6 +1,6 @@
 use Rattle.std.proofs.Common.{length}
-use Rattle.cell_library.specs.Libraries.{seen}
-use Rattle.cell_library.proofs.ViewLaws.{count_seen}
+use Rattle.mag_text.specs.CellLibrary.Libraries.{seen}
+use Rattle.mag_text.proofs.CellLibrary.ViewLaws.{count_seen}
 use Rattle.cell_loading.proofs.KnownLaws.{full_either_way}
 use Rattle.cell_loading.proofs.cell_files.is_full.Goals as goal
 

@@ -1,7 +1,7 @@
 use Rattle.std.proofs.Common.{subst}
-use Rattle.tech_model.specs.declared.raw.RawTech.{RawTech}
+use Rattle.mag_text.specs.TechModel.declared.raw.RawTech.{RawTech}
 use Rattle.mag_text.specs.MagTexts.{IsRead}
-use Rattle.cell_library.specs.Libraries.{seen}
+use Rattle.mag_text.specs.CellLibrary.Libraries.{seen}
 use Rattle.cell_loading.proofs.ReadingLaws.{body_given, body_refused, count_same, first_scale_same}
 use Rattle.cell_loading.proofs.cell_files.read_body.Goals as goal
 

@@ -3,8 +3,8 @@ use Rattle.std.proofs.lemmas.Result.{IfOk-weaker}
 use Rattle.session_model.specs.Effects.{GivesFetching}
 use Rattle.session_model.specs.FileTrees.{StopsAsking}
 use Rattle.session_model.proofs.StopLaws.{refusal_told}
-use Rattle.cell_library.specs.Libraries.{seen}
-use Rattle.cell_library.specs.Views.{cell_named}
+use Rattle.mag_text.specs.CellLibrary.Libraries.{seen}
+use Rattle.mag_text.specs.CellLibrary.Views.{cell_named}
 use Rattle.cell_loading.specs.Arrivals.{Arrives}
 use Rattle.cell_loading.specs.Loads.{LoadGives}
 use Rattle.cell_loading.specs.Readings.{cell_files}

@@ -6,8 +6,8 @@ use Rattle.session_model.proofs.FetchLaws.{calm_from, calm_then}
 use Rattle.session_model.proofs.FileTreeLaws.{stops_asking_later}
 use Rattle.session_model.proofs.StopLaws.{refusal_weaker}
 use Rattle.session_model.specs.Effects.{after_fetches}
-use Rattle.cell_bodies.specs.declared.bodies.CellBody.{CellBody}
-use Rattle.cell_library.specs.Libraries.{seen}
+use Rattle.mag_text.specs.CellBodies.declared.bodies.CellBody.{CellBody}
+use Rattle.mag_text.specs.CellLibrary.Libraries.{seen}
 use Rattle.cell_loading.specs.Loads.{cause_of_load}
 use Rattle.cell_loading.specs.Readings.{cell_files}
 use Rattle.cell_loading.specs.steps.Walks.{files_read, names_left}

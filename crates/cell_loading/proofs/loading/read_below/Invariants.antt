@@ -2,7 +2,7 @@ use Rattle.std.proofs.Common.{◌≡◌, ◌<◌, [], ◌∷◌, length, Some}
 use Rattle.outside_io.specs.Files.{Files}
 use Rattle.session_model.specs.Causes.{IsCalm}
 use Rattle.session_model.specs.Effects.{after_fetches}
-use Rattle.cell_library.specs.Libraries.{seen}
+use Rattle.mag_text.specs.CellLibrary.Libraries.{seen}
 use Rattle.cell_loading.specs.steps.Walks.{files_read, names_left, work_left, AreFrames, AreSoFar, GoesOnToBodies}
 use Rattle.cell_loading.proofs.loading.read_below.Given as goal
 

@@ -1,6 +1,6 @@
 use Rattle.std.proofs.Common.{◌∷◌, ◌+◌, ap, ◌∙◌, sym, List, ℕ}
-use Rattle.cell_bodies.specs.declared.bodies.CellUse.{CellUse}
-use Rattle.cell_library.specs.Libraries.{seen}
+use Rattle.mag_text.specs.CellBodies.declared.bodies.CellUse.{CellUse}
+use Rattle.mag_text.specs.CellLibrary.Libraries.{seen}
 use Rattle.cell_loading.specs.steps.ReadCells.{is_among}
 use Rattle.cell_loading.specs.steps.Walks.{rest_of}
 use Rattle.cell_loading.proofs.LeftLaws.{rest_of-next}

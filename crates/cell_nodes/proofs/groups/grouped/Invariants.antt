@@ -1,7 +1,7 @@
 use Rattle.std.proofs.Common.{◌≡◌, ℕ, ◌<◌, length}
 use Rattle.std.specs.Prelude.{slice_index}
-use Rattle.flood_nodes.specs.Renumbered.{with_region}
-use Rattle.flood_nodes.specs.TileShares.{tile_at}
+use Rattle.measures.specs.FloodNodes.Renumbered.{with_region}
+use Rattle.measures.specs.FloodNodes.TileShares.{tile_at}
 use Rattle.cell_nodes.proofs.groups.grouped.Given as goal
 
 abbrev pub invariant-loop-tile : goal.invariant-loop-tile

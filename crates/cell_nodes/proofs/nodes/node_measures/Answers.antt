@@ -6,8 +6,8 @@ use Rattle.layout_model.specs.declared.region_tiles.RegionTile.{RegionTile}
 use Rattle.layout_model.specs.Layouts.{Layout}
 use Rattle.layout_model.specs.RegionTiles.{AreLayoutTiles, AreMeasured}
 use Rattle.layout_model.specs.Technologies.{class_of}
-use Rattle.flood_nodes.specs.Renumbered.{AreRenumbered}
-use Rattle.flood_nodes.specs.SoundTiles.{IsSoundTile}
+use Rattle.measures.specs.FloodNodes.Renumbered.{AreRenumbered}
+use Rattle.measures.specs.FloodNodes.SoundTiles.{IsSoundTile}
 use Rattle.cell_nodes.specs.steps.NodeNumbers.{numbers_at}
 use Rattle.cell_nodes.proofs.GroupLaws.{groups_sound}
 use Rattle.cell_nodes.proofs.nodes.node_measures.Goals as goal

@@ -3,7 +3,7 @@ use Rattle.std.specs.Option.{option_copied}
 use Rattle.std.proofs.lemmas.Bool.{false≢true}
 use Rattle.finite_sets.proofs.Searches.{find-In, find-passes, find-none, list_any-source}
 use Rattle.tech_model.specs.declared.raw.FetRule.{FetRule}
-use Rattle.flood_nodes.proofs.StackLaws.{same_from_test}
+use Rattle.fet_regions.proofs.FloodNodes.StackLaws.{same_from_test}
 use Rattle.cell_records.proofs.fet_records.rule_of.Goals as goal
 
 pub unreachable-requires : goal.unreachable-requires

@@ -5,18 +5,18 @@ use Rattle.tech_model.specs.declared.raw.TypeRec.{TypeRec}
 use Rattle.tech_model.specs.WellFormed.{IsWellFormed}
 use Rattle.ext_model.specs.declared.records.FetRec.{FetRec}
 use Rattle.ext_model.specs.declared.records.NodeRec.{NodeRec}
-use Rattle.layout_model.specs.LayerTypes.{HasTypesOf}
-use Rattle.layout_model.specs.Layouts.{IsMaterial}
-use Rattle.layout_model.specs.Places.{Place}
-use Rattle.layout_model.specs.RegionTiles.{IsInRegion}
-use Rattle.layout_model.specs.Transistors.{AreTransistors}
+use Rattle.cell_paint.specs.LayoutModel.LayerTypes.{HasTypesOf}
+use Rattle.cell_paint.specs.LayoutModel.Layouts.{IsMaterial}
+use Rattle.cell_paint.specs.LayoutModel.Places.{Place}
+use Rattle.cell_paint.specs.LayoutModel.RegionTiles.{IsInRegion}
+use Rattle.cell_paint.specs.LayoutModel.Transistors.{AreTransistors}
 use Rattle.fet_regions.specs.Measures.Bounds.{IsNearPlace}
 use Rattle.cell_paint.specs.Paints.{Paint, layout_of, IsSoundPaint}
 use Rattle.cell_paint.proofs.PaintTypes.{paint_has_types}
 use Rattle.fet_regions.specs.declared.transistors.Fet.{Fet}
 use Rattle.fet_regions.specs.Transistors.{transistor_of}
-use Rattle.cell_nodes.specs.NodeRecords.{AreNodeRecords}
-use Rattle.cell_nodes.proofs.PaintLaws.{paint_is_near}
+use Rattle.own_record_laws.specs.CellNodes.NodeRecords.{AreNodeRecords}
+use Rattle.own_record_laws.proofs.CellNodes.PaintLaws.{paint_is_near}
 use Rattle.own_record_laws.specs.TreeRecords.FetRecords.{AreFetRecords, IsNodeBefore}
 use Rattle.cell_records.specs.steps.Exts.{IsExtOf}
 use Rattle.cell_records.specs.steps.FetsOfRegions.{IsSmallFet, AreRecordsOfFets}

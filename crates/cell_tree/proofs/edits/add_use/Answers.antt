@@ -2,7 +2,7 @@ use Rattle.std.proofs.Common.{◌<◌, length, ap, sym, subst, ◌∙◌, arith}
 use Rattle.std.specs.Prelude.{slice_get}
 use Rattle.std.proofs.lemmas.List.{length-set}
 use Rattle.std.proofs.lemmas.Option.{same_Some}
-use Rattle.finite_sets.proofs.Places.{slice_get-set_same}
+use Rattle.geo_core.proofs.FiniteSets.Places.{slice_get-set_same}
 use Rattle.cell_tree.specs.Uses.{HasChild}
 use Rattle.cell_tree.specs.Sizes.{CellState}
 use Rattle.cell_tree.specs.Cells.{states}

@@ -2,7 +2,7 @@ use Rattle.std.proofs.Common.{List, inl, inr, sym, subst, rules}
 use Rattle.std.proofs.lemmas.Result.{IfOk-weaker}
 use Rattle.session_model.specs.declared.report.ReportLine.{ReportLine}
 use Rattle.circuit_model.specs.Refusals.{IsFlatFaultOf}
-use Rattle.plain_records.specs.Plains.{plains}
+use Rattle.ext_loading.specs.PlainRecords.Plains.{plains}
 use Rattle.flatten.specs.Sinks.{with_fets}
 use Rattle.circuit_commands.specs.declared.circuits.CircuitFile.TheVariants.{Sim}
 use Rattle.line_answers.specs.LineEffects.{IsOfInside}

@@ -7,7 +7,7 @@ use Rattle.geo_core.specs.declared.squares.Rect.{Rect}
 use Rattle.geo_core.specs.Covering.{Covers}
 use Rattle.geo_core.specs.Strips.{IsInUnion}
 use Rattle.tech_model.specs.declared.raw.RawTech.{RawTech}
-use Rattle.offences.specs.LayoutModel.Places.{Place}
+use Rattle.hierarchy_model.specs.Offences.LayoutModel.Places.{Place}
 use Rattle.cell_library.specs.declared.part_tiles.PartTile.{PartTile}
 use Rattle.cell_library.specs.LayoutTrees.{tree_at}
 use Rattle.cell_library.specs.Libraries.{LibraryParts, seen}

@@ -1,7 +1,7 @@
 use Rattle.std.proofs.Common.{◌≤◌, ◌<◌, ℕ, List, length, sym, subst, arith}
 use Rattle.std.specs.Prelude.{All}
 use Rattle.finite_sets.proofs.Searches.{All-In, All-from_In}
-use Rattle.offences.specs.LayoutModel.FlatSets.{flat_sets}
+use Rattle.hierarchy_model.specs.Offences.LayoutModel.FlatSets.{flat_sets}
 use Rattle.cell_library.specs.LayoutTrees.{tree_at}
 use Rattle.cell_library.specs.Libraries.{seen}
 use Rattle.drc_rules.specs.declared.rules.Rule.{Rule}

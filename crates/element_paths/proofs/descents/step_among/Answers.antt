@@ -1,9 +1,9 @@
 use Rattle.std.proofs.Common.{ℕ, ◌+◌, ◌-◌, ◌/◌, ◌%◌, ◌<◌, length, get_or, sym, ap, subst, arith}
 use Rattle.cell_tree.specs.Uses.{displacements}
-use Rattle.cell_library.specs.LayoutTrees.{tree_at}
-use Rattle.cell_library.specs.Libraries.{seen}
-use Rattle.cell_library.specs.Views.{view_at}
-use Rattle.cell_library.proofs.ElementCounts.{use_is_lawful}
+use Rattle.library_trees.specs.CellLibrary.LayoutTrees.{tree_at}
+use Rattle.library_trees.specs.CellLibrary.Libraries.{seen}
+use Rattle.library_trees.specs.CellLibrary.Views.{view_at}
+use Rattle.library_trees.proofs.CellLibrary.ElementCounts.{use_is_lawful}
 use Rattle.element_paths.specs.declared.starts.UseStart.{UseStart}
 use Rattle.element_paths.specs.UseStarts.{IsStepDown}
 use Rattle.element_paths.proofs.DescentLaws.{element_is_within, has_begun, position_fits, some_stand, step_to, use_above}

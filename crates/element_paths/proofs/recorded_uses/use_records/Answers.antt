@@ -6,9 +6,9 @@ use Rattle.std.proofs.lemmas.Option.{slice_get-map, slice_get_within}
 use Rattle.geo_core.specs.Images.{six_of}
 use Rattle.ext_model.specs.declared.arrays.ArrayUse.{ArrayUse}
 use Rattle.cell_tree.specs.declared.use_tables.UseBody.{UseBody}
-use Rattle.cell_library.specs.Libraries.{seen}
-use Rattle.cell_library.specs.Views.{view_at}
-use Rattle.cell_library.proofs.ElementCounts.{use_is_lawful}
+use Rattle.library_trees.specs.CellLibrary.Libraries.{seen}
+use Rattle.library_trees.specs.CellLibrary.Views.{view_at}
+use Rattle.library_trees.proofs.CellLibrary.ElementCounts.{use_is_lawful}
 use Rattle.library_trees.specs.CellRecords.{library_use, library_uses}
 use Rattle.element_paths.proofs.RecordLaws.{added_on, few_uses}
 use Rattle.element_paths.proofs.StartLaws.{none_past}

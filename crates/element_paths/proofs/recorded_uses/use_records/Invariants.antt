@@ -1,6 +1,6 @@
 use Rattle.std.proofs.Common.{◌≡◌, ◌-◌, length, take}
-use Rattle.cell_library.specs.Libraries.{seen}
-use Rattle.cell_library.specs.Views.{view_at}
+use Rattle.library_trees.specs.CellLibrary.Libraries.{seen}
+use Rattle.library_trees.specs.CellLibrary.Views.{view_at}
 use Rattle.library_trees.specs.CellRecords.{library_uses}
 use Rattle.element_paths.proofs.recorded_uses.use_records.Given as goal
 

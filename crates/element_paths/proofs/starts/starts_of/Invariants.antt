@@ -1,7 +1,7 @@
 use Rattle.std.proofs.Common.{◌-◌, length, vec_len}
-use Rattle.cell_library.specs.LayoutTrees.{tree_at}
-use Rattle.cell_library.specs.Libraries.{seen}
-use Rattle.cell_library.specs.Views.{view_at}
+use Rattle.library_trees.specs.CellLibrary.LayoutTrees.{tree_at}
+use Rattle.library_trees.specs.CellLibrary.Libraries.{seen}
+use Rattle.library_trees.specs.CellLibrary.Views.{view_at}
 use Rattle.element_paths.proofs.StartLaws.{AreFirstStarts}
 use Rattle.element_paths.proofs.starts.starts_of.Given as goal
 

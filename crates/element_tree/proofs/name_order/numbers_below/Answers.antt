@@ -1,5 +1,5 @@
 use Rattle.std.proofs.Common.{◌++◌, [], ◌∷◌, sym, ◌∙◌, ap}
-use Rattle.finite_sets.proofs.Searches.{range_one_more}
+use Rattle.name_index.proofs.FiniteSets.Searches.{range_one_more}
 use Rattle.element_tree.proofs.name_order.numbers_below.Goals as goal
 
 pub loop-number-preserved : goal.loop-number-preserved

@@ -2,7 +2,7 @@ use Rattle.std.proofs.Common.{◌≡◌, ◌≤◌, ◌<◌, ◌+◌, ◌∙◌,
 use Rattle.std.proofs.Common.{ap, sym, subst, arith, length-append}
 use Rattle.std.proofs.lemmas.List.{length-map}
 use Rattle.ext_model.specs.declared.tables.CellKey.{CellKey}
-use Rattle.cell_library.specs.Libraries.{seen}
+use Rattle.tree_merges.specs.CellLibrary.Libraries.{seen}
 use Rattle.ext_cache.specs.Caches.{dirty_cells, is_dirty, stamp_in, with_record}
 use Rattle.ext_cache.specs.declared.extraction.Extracted.{Extracted}
 use Rattle.ext_cache.specs.declared.undo.Undo.{Undo}

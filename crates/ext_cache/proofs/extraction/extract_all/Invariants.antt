@@ -1,5 +1,5 @@
 use Rattle.std.proofs.Common.{ℕ, ◌≤◌, ◌+◌, length, take, vec_capacity}
-use Rattle.cell_library.specs.Libraries.{seen}
+use Rattle.tree_merges.specs.CellLibrary.Libraries.{seen}
 use Rattle.ext_cache.specs.Caches.{IsWorkOfAll, dirty_cells}
 use Rattle.tree_merges.proofs.HierMerge.CleanOrders.{numbers}
 use Rattle.ext_cache.proofs.LoopLaws.{IsMadeTo}

@@ -2,9 +2,9 @@ use Rattle.std.proofs.Common.{◌≡◌, ℕ, List, map, subst, sym}
 use Rattle.ext_model.specs.declared.tables.CellKey.{CellKey}
 use Rattle.use_orders.specs.LibraryOrder.{IsLibraryOrder}
 use Rattle.hierarchy_model.specs.Laws.{CleanCellsKeepWhatTheyHave}
-use Rattle.cell_library.specs.Additions.{children_in}
-use Rattle.cell_library.specs.LayoutTrees.{tree_at}
-use Rattle.cell_library.specs.Libraries.{seen}
+use Rattle.tree_merges.specs.CellLibrary.Additions.{children_in}
+use Rattle.tree_merges.specs.CellLibrary.LayoutTrees.{tree_at}
+use Rattle.tree_merges.specs.CellLibrary.Libraries.{seen}
 use Rattle.ext_cache.proofs.CleanLaws.{root_is_clean}
 use Rattle.ext_cache.proofs.SerialLaws.{extraction_is_counted, serials_are_new}
 use Rattle.ext_cache.proofs.extraction.extract_dirty.Goals as goal

@@ -1,6 +1,6 @@
 use Rattle.std.proofs.Common.{◌≡◌, ◌++◌, List, inl, sym, subst, rules}
 use Rattle.session_model.specs.declared.report.ReportLine.{ReportLine}
-use Rattle.cell_library.specs.Libraries.{LibraryParts, seen}
+use Rattle.layout_gen.specs.CellLibrary.Libraries.{LibraryParts, seen}
 use Rattle.workspace.specs.declared.cells.Edited.{Edited}
 use Rattle.workspace.specs.declared.extractions.Extracting.{Extracting}
 use Rattle.workspace.specs.declared.extractions.Extracting.TheVariants.{Done}

@@ -2,13 +2,13 @@ use Rattle.std.proofs.Common.{◌≡◌, List, sym, subst, rules}
 use Rattle.std.proofs.lemmas.Result.{IfOk-weaker}
 use Rattle.session_model.specs.declared.report.ReportLine.{ReportLine}
 use Rattle.session_model.specs.Effects.{Effect}
-use Rattle.cell_library.specs.Libraries.{LibraryParts, seen}
+use Rattle.layout_gen.specs.CellLibrary.Libraries.{LibraryParts, seen}
 use Rattle.workspace.specs.declared.cells.Edited.{Edited}
 use Rattle.workspace.specs.declared.extractions.Extracting.{Extracting}
 use Rattle.workspace.specs.declared.extractions.Extracting.TheVariants.{Done}
 use Rattle.line_answers.specs.LineEffects.{IsOfInside}
 use Rattle.workspace.specs.KeptSessions.{edited_state}
-use Rattle.circuit_commands.specs.Circuits.{lines_of}
+use Rattle.uniqueness.specs.CircuitCommands.Circuits.{lines_of}
 use Rattle.extract_commands.specs.CommandCircuits.{IsWrittenAt, WritesCircuit}
 use Rattle.workspace.specs.Extracting.{IsExtracted}
 use Rattle.workspace.specs.States.{State}

@@ -1,7 +1,7 @@
 use Rattle.std.proofs.Common.{rules}
 use Rattle.std.proofs.lemmas.Result.{IfOk-weaker}
-use Rattle.cell_library.specs.Libraries.{seen}
-use Rattle.circuit_commands.specs.declared.circuits.CircuitFile.TheVariants.{Flat}
+use Rattle.layout_gen.specs.CellLibrary.Libraries.{seen}
+use Rattle.uniqueness.specs.CircuitCommands.declared.circuits.CircuitFile.TheVariants.{Flat}
 use Rattle.workspace.specs.CellCircuits.{IsSimulableCircuitAt}
 use Rattle.extract_commands.proofs.CircuitLaws.{written_at}
 use Rattle.extract_commands.proofs.command_circuits.write_flat_kept.Goals as goal

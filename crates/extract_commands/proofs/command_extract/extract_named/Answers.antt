@@ -1,9 +1,9 @@
 use Rattle.std.proofs.Common.{◌≡◌, ◌⊎◌, ℕ, Some, None, [], rules}
 use Rattle.std.proofs.lemmas.Result.{IfOk-weaker}
 use Rattle.session_model.specs.Effects.{Effect}
-use Rattle.cell_library.specs.Libraries.{seen}
-use Rattle.cell_library.specs.Views.{cell_named}
-use Rattle.library_answers.proofs.EditScript.CellLaws.{found_there}
+use Rattle.layout_gen.specs.CellLibrary.Libraries.{seen}
+use Rattle.layout_gen.specs.CellLibrary.Views.{cell_named}
+use Rattle.workspace.proofs.LibraryAnswers.EditScript.CellLaws.{found_there}
 use Rattle.workspace.specs.KeptSessions.{edited_state}
 use Rattle.extract_commands.specs.CommandExtract.{ExtractsCell}
 use Rattle.workspace.specs.Extractions.{RefusesUnclean}

@@ -2,7 +2,7 @@ use Rattle.std.proofs.Common.{◌≡◌, ℕ, List, [], ◌∷◌, Ok, Err, Some
 use Rattle.std.proofs.lemmas.Result.{IfOk-weaker}
 use Rattle.session_model.specs.declared.fetching.Fetched.{Fetched}
 use Rattle.session_model.specs.Fetches.{FetchMeans, text_in}
-use Rattle.network_runs.specs.declared.network_runs.NetworkRun.{NetworkRun}
+use Rattle.workspace.specs.NetworkRuns.declared.network_runs.NetworkRun.{NetworkRun}
 use Rattle.workspace.specs.KeptSessions.{edited_state}
 use Rattle.extract_commands.specs.CellRuns.{RunsExtracted}
 use Rattle.workspace.specs.States.{State}

@@ -1,11 +1,11 @@
 use Rattle.std.proofs.Common.{List, ℕ, subst, ◌≡◌, Some, rules}
-use Rattle.cell_library.specs.Libraries.{seen}
-use Rattle.cell_library.specs.Views.{cell_named}
-use Rattle.library_answers.proofs.EditScript.CellLaws.{found_there}
+use Rattle.layout_gen.specs.CellLibrary.Libraries.{seen}
+use Rattle.layout_gen.specs.CellLibrary.Views.{cell_named}
+use Rattle.workspace.proofs.LibraryAnswers.EditScript.CellLaws.{found_there}
 use Rattle.std.proofs.lemmas.Result.{IfOk-weaker}
 use Rattle.session_model.specs.Effects.{AnswersFetching, Effect}
 use Rattle.session_model.specs.Fetches.{text_in}
-use Rattle.network_runs.specs.Simulations.{vec_file}
+use Rattle.workspace.specs.NetworkRuns.Simulations.{vec_file}
 use Rattle.workspace.specs.KeptSessions.{edited_state}
 use Rattle.workspace.specs.States.{State, Workspace}
 use Rattle.workspace.proofs.CellCommands.{answers_on_cell}

@@ -3,8 +3,8 @@ use Rattle.std.specs.List.{list_any, zip}
 use Rattle.std.proofs.lemmas.List.{length_push, take_all}
 use Rattle.std.proofs.lemmas.List.Folds.{list_any_at, list_any_more}
 use Rattle.std.proofs.lemmas.Slice.Zip.{get_or-zip, length-zip, zip_end, zip_turn}
-use Rattle.vector_runs.specs.declared.watching.Seen.{Seen}
-use Rattle.vector_runs.specs.Running.{states_of}
+use Rattle.fault_replay.specs.VectorRuns.declared.watching.Seen.{Seen}
+use Rattle.fault_replay.specs.VectorRuns.Running.{states_of}
 use Rattle.fault_grade.specs.steps.Comparing.{is_shown_apart}
 use Rattle.fault_grade.proofs.comparing.are_apart.Goals as goal
 

@@ -1,6 +1,6 @@
 use Rattle.std.proofs.Common.{◌≡◌, false, length, take}
 use Rattle.std.specs.List.{list_any, zip}
-use Rattle.vector_runs.specs.Running.{states_of}
+use Rattle.fault_replay.specs.VectorRuns.Running.{states_of}
 use Rattle.fault_grade.specs.steps.Comparing.{is_shown_apart}
 use Rattle.fault_grade.proofs.comparing.are_apart.Given as goal
 

@@ -4,8 +4,8 @@ use Rattle.switch_net.proofs.Sound.{sound_of}
 use Rattle.switch_net.specs.declared.switches.Level.{Level}
 use Rattle.switch_net.specs.Names.{NameNodesBelow}
 use Rattle.switch_net.specs.Net.{network_of}
-use Rattle.vector_runs.specs.Running.{watched}
-use Rattle.vector_runs.specs.Watching.{begun_with}
+use Rattle.fault_replay.specs.VectorRuns.Running.{watched}
+use Rattle.fault_replay.specs.VectorRuns.Watching.{begun_with}
 use Rattle.fault_grade.specs.steps.Comparing.{HasShown}
 use Rattle.fault_grade.proofs.GradeLaws.{found_grade}
 use Rattle.fault_grade.proofs.detecting.detect_from_start.Goals as goal

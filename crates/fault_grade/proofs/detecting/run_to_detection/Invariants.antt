@@ -1,6 +1,6 @@
 use Rattle.std.proofs.Common.{◌≡◌, ◌≤◌, drop, true}
-use Rattle.vector_runs.specs.Running.{watched}
-use Rattle.vector_runs.specs.Watching.{Watched}
+use Rattle.fault_replay.specs.VectorRuns.Running.{watched}
+use Rattle.fault_replay.specs.VectorRuns.Watching.{Watched}
 use Rattle.fault_replay.specs.Runs.{IsBeside, IsReady}
 use Rattle.fault_grade.specs.steps.Comparing.{HasShown}
 use Rattle.fault_grade.proofs.Comparisons.{AreCompared}

@@ -4,7 +4,7 @@ use Rattle.switch_net.specs.Net.{network_of}
 use Rattle.switch_net.specs.Network.{Network}
 use Rattle.vector_files.specs.LineForms.{is_rail}
 use Rattle.vector_files.specs.NodeLookup.{is_either_node}
-use Rattle.vector_runs.specs.declared.stuck_faults.StuckFault.{StuckFault}
+use Rattle.fault_replay.specs.VectorRuns.declared.stuck_faults.StuckFault.{StuckFault}
 use Rattle.fault_grade.specs.Grades.{IsGrade, faults_but}
 use Rattle.fault_grade.proofs.GradeLaws.{faults_left, graded_more, same_faults}
 use Rattle.fault_grade.proofs.grading.grade_all.Goals as goal

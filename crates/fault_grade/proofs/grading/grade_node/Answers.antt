@@ -3,7 +3,7 @@ use Rattle.std.specs.List.{AllZip}
 use Rattle.switch_net.specs.declared.switches.Level.TheVariants.{Zero, One}
 use Rattle.switch_net.specs.Net.{network_of}
 use Rattle.switch_net.specs.Network.{Network}
-use Rattle.vector_runs.specs.declared.stuck_faults.StuckFault.{StuckFault}
+use Rattle.fault_replay.specs.VectorRuns.declared.stuck_faults.StuckFault.{StuckFault}
 use Rattle.fault_grade.specs.declared.grading.Graded.{Graded}
 use Rattle.fault_grade.specs.Grades.{IsGrade, faults_at}
 use Rattle.fault_grade.proofs.GradeLaws.{two_more}

@@ -1,5 +1,5 @@
 use Rattle.std.proofs.Common.{[], rules}
-use Rattle.full_names.specs.Names.{elements_in}
+use Rattle.name_classes.specs.FullNames.Names.{elements_in}
 use Rattle.flatten.proofs.GivenLaws.{given_is}
 use Rattle.flatten.proofs.circuits.circuit_of.Goals as goal
 

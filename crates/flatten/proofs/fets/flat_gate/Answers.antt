@@ -1,5 +1,5 @@
 use Rattle.std.proofs.Common.{length, sym, ◌∙◌, ap, arith}
-use Rattle.full_names.specs.Names.{elements_in}
+use Rattle.name_classes.specs.FullNames.Names.{elements_in}
 use Rattle.circuit_model.specs.FullNames.{name_in}
 use Rattle.flatten.specs.steps.Spots.{element_at}
 use Rattle.flatten.proofs.GroupLaws.{label_below}

@@ -6,7 +6,7 @@ use Rattle.ext_model.specs.Lawful.{IsLawfulFet}
 use Rattle.circuit_model.specs.Elements.{Element}
 use Rattle.circuit_model.specs.FlatFets.{fets_of}
 use Rattle.element_tree.specs.declared.tree.ElementTree.{ElementTree}
-use Rattle.full_names.specs.Names.{elements_in}
+use Rattle.name_classes.specs.FullNames.Names.{elements_in}
 use Rattle.flatten.specs.declared.spots.FetSpots.{FetSpots}
 use Rattle.flatten.specs.Sinks.{GivesFets}
 use Rattle.flatten.specs.steps.Spots.{AreFetSpotsOf, element_at, cell_at, no_element}

@@ -1,6 +1,6 @@
 use Rattle.std.proofs.Common.{take}
 use Rattle.circuit_model.specs.FlatFets.{fets_of}
-use Rattle.full_names.specs.Names.{elements_in}
+use Rattle.name_classes.specs.FullNames.Names.{elements_in}
 use Rattle.flatten.specs.Sinks.{GivesFets}
 use Rattle.flatten.proofs.fets.give_flat_fets.Given as goal
 

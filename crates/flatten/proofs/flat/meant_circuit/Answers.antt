@@ -7,7 +7,7 @@ use Rattle.circuit_model.specs.Elements.{Element, elements_of}
 use Rattle.circuit_model.specs.Circuits.{IsCircuitOf}
 use Rattle.circuit_model.specs.Refusals.{node_count, merge_count, class_fault}
 use Rattle.circuit_model.specs.declared.limits.TheConstants.{MOST_NODES, MOST_MERGES}
-use Rattle.full_names.specs.Names.{elements_in}
+use Rattle.name_classes.specs.FullNames.Names.{elements_in}
 use Rattle.flatten.specs.Sinks.{with_fets}
 use Rattle.flatten.proofs.FaultLaws.{few_nodes, few_merges, alike_classes, elements_at_root, root_here}
 use Rattle.flatten.specs.steps.Spots.{no_element}

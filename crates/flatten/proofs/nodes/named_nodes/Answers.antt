@@ -5,7 +5,7 @@ use Rattle.std.proofs.lemmas.Option.{slice_get_read}
 use Rattle.finite_sets.proofs.Places.{In-slice_get}
 use Rattle.ext_model.specs.declared.records.NodeRec.{NodeRec}
 use Rattle.ext_model.specs.RecordNames.{names_of}
-use Rattle.full_names.specs.Names.{elements_in}
+use Rattle.name_classes.specs.FullNames.Names.{elements_in}
 use Rattle.flatten.specs.steps.Named.{HasAlias, ArePlaced}
 use Rattle.flatten.proofs.PlacedLaws.{placed_alias, placed_set, placed_push}
 use Rattle.flatten.proofs.ScanLaws.{AreNamedUpTo, scan_alias, scan_new, next_label, scan_all}

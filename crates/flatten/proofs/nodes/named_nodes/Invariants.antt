@@ -1,6 +1,6 @@
 use Rattle.std.proofs.Common.{ℕ, List}
-use Rattle.full_names.specs.NameLists.{IsFullNameList}
-use Rattle.full_names.specs.Names.{elements_in}
+use Rattle.name_classes.specs.FullNames.NameLists.{IsFullNameList}
+use Rattle.name_classes.specs.FullNames.Names.{elements_in}
 use Rattle.flatten.specs.steps.Named.{ArePlaced}
 use Rattle.flatten.proofs.ScanLaws.{AreNamedUpTo}
 use Rattle.flatten.proofs.nodes.named_nodes.Given as goal

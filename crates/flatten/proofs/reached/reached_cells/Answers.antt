@@ -4,8 +4,8 @@ use Rattle.std.proofs.Math.ListN.{set, length-set}
 use Rattle.std.proofs.lemmas.Bool.{cases_lt}
 use Rattle.std.proofs.lemmas.Option.{slice_get_within}
 use Rattle.name_classes.proofs.TreeLaws.{tree_of_names}
-use Rattle.full_names.specs.Names.{IsReached}
-use Rattle.flat_limits.proofs.TreeLaws.{no_flat}
+use Rattle.name_classes.specs.FullNames.Names.{IsReached}
+use Rattle.plain_records.proofs.FlatLimits.TreeLaws.{no_flat}
 use Rattle.flatten.specs.steps.Spots.{cell_at}
 use Rattle.flatten.proofs.PlaceLaws.{place_set, place_set_cases, place_set_again}
 use Rattle.flatten.proofs.SpotLaws.{element_here}

@@ -1,6 +1,6 @@
 use Rattle.std.proofs.Common.{◌≡◌, ℕ, ◌<◌, length, true}
 use Rattle.std.specs.Prelude.{Some, slice_get}
-use Rattle.full_names.specs.Names.{IsReached}
+use Rattle.name_classes.specs.FullNames.Names.{IsReached}
 use Rattle.flatten.specs.steps.Spots.{cell_at}
 use Rattle.flatten.proofs.reached.reached_cells.Given as goal
 

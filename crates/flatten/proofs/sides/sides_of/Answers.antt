@@ -3,8 +3,8 @@ use Rattle.std.specs.Int.{w128}
 use Rattle.std.proofs.lemmas.Int.{to_z-of_z}
 use Rattle.std.proofs.lemmas.List.{map_more}
 use Rattle.ext_model.specs.declared.records.TermRec.{TermRec}
-use Rattle.full_names.specs.declared.names.Spot.TheVariants.{Local}
-use Rattle.full_names.specs.Names.{IsSpotOf}
+use Rattle.name_classes.specs.FullNames.declared.names.Spot.TheVariants.{Local}
+use Rattle.name_classes.specs.FullNames.Names.{IsSpotOf}
 use Rattle.flatten.specs.steps.Spots.{element_at, cell_at}
 use Rattle.flatten.proofs.PlaceLaws.{AreAlong-at}
 use Rattle.flatten.specs.declared.sides.Side.{Side}

@@ -1,6 +1,6 @@
 use Rattle.std.proofs.Common.{◌≡◌, ℕ, List, map, take}
-use Rattle.full_names.specs.NameLists.{IsFullNameList}
-use Rattle.full_names.specs.Names.{elements_in}
+use Rattle.name_classes.specs.FullNames.NameLists.{IsFullNameList}
+use Rattle.name_classes.specs.FullNames.Names.{elements_in}
 use Rattle.flatten.specs.steps.Spots.{element_at}
 use Rattle.flatten.specs.steps.Sides.{side_of}
 use Rattle.flatten.proofs.sides.sides_of.Given as goal

@@ -1,8 +1,8 @@
 use Rattle.std.proofs.Common.{◌+◌, ℕ, List, map, take, sym, subst}
 use Rattle.finite_sets.proofs.Members.{In-map}
 use Rattle.ext_model.specs.declared.records.NodeRec.{NodeRec}
-use Rattle.full_names.specs.declared.names.Spot.{Spot}
-use Rattle.full_names.specs.Names.{IsSpotOf}
+use Rattle.name_classes.specs.FullNames.declared.names.Spot.{Spot}
+use Rattle.name_classes.specs.FullNames.Names.{IsSpotOf}
 use Rattle.flatten.specs.steps.Spots.{AreSpotsOf}
 use Rattle.flatten.proofs.PlaceLaws.{AreAlong-more, In-read}
 use Rattle.flatten.proofs.spots.node_spots.Goals as goal

@@ -2,7 +2,7 @@ use Rattle.std.proofs.Common.{List, map, ◌∙◌, ap, subst, arith}
 use Rattle.std.proofs.Math.ListN.{length-set}
 use Rattle.std.proofs.lemmas.List.{take_all}
 use Rattle.ext_model.specs.declared.records.MergeRec.{MergeRec}
-use Rattle.full_names.specs.declared.names.Spot.TheVariants.{Local}
+use Rattle.name_classes.specs.FullNames.declared.names.Spot.TheVariants.{Local}
 use Rattle.name_classes.specs.declared.classes.MergeEnd.{MergeEnd}
 use Rattle.flatten.specs.steps.Labels.{label_of}
 use Rattle.flatten.specs.steps.Spots.{element_at}

@@ -1,6 +1,6 @@
 use Rattle.std.proofs.Common.{◌≡◌, ℕ, List, length, map, take}
-use Rattle.full_names.specs.NameLists.{IsFullNameList}
-use Rattle.full_names.specs.Names.{elements_in}
+use Rattle.name_classes.specs.FullNames.NameLists.{IsFullNameList}
+use Rattle.name_classes.specs.FullNames.Names.{elements_in}
 use Rattle.flatten.specs.steps.Spots.{element_at}
 use Rattle.flatten.specs.steps.Sums.{AddAll, merge_addend}
 use Rattle.flatten.proofs.sums.add_merges.Given as goal

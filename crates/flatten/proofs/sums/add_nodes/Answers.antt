@@ -2,8 +2,8 @@ use Rattle.std.proofs.Common.{ℕ, List, map, ◌∙◌, subst}
 use Rattle.std.proofs.Math.ListN.{length-set}
 use Rattle.std.proofs.lemmas.List.{take_all}
 use Rattle.ext_model.specs.declared.records.NodeRec.{NodeRec}
-use Rattle.full_names.specs.declared.names.Spot.TheVariants.{Local}
-use Rattle.full_names.specs.Names.{IsSpotOf}
+use Rattle.name_classes.specs.FullNames.declared.names.Spot.TheVariants.{Local}
+use Rattle.name_classes.specs.FullNames.Names.{IsSpotOf}
 use Rattle.flatten.specs.steps.Spots.{element_at, cell_at}
 use Rattle.flatten.proofs.PlaceLaws.{AreAlong-at}
 use Rattle.flatten.specs.steps.Sums.{AddAll, node_addend}

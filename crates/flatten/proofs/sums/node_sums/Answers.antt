@@ -5,9 +5,9 @@ use Rattle.ext_model.specs.declared.records.CellExt.{CellExt}
 use Rattle.circuit_model.specs.Elements.{Element}
 use Rattle.element_tree.specs.declared.tree.ElementTree.{ElementTree}
 use Rattle.element_tree.specs.declared.tree.TreeElement.{TreeElement}
-use Rattle.full_names.specs.declared.names.FullNames.{FullNames}
-use Rattle.full_names.specs.NameLists.{IsFullNameList}
-use Rattle.full_names.specs.Names.{elements_in}
+use Rattle.name_classes.specs.FullNames.declared.names.FullNames.{FullNames}
+use Rattle.name_classes.specs.FullNames.NameLists.{IsFullNameList}
+use Rattle.name_classes.specs.FullNames.Names.{elements_in}
 use Rattle.name_classes.specs.declared.classes.MergeEnd.{MergeEnd}
 use Rattle.name_classes.specs.declared.classes.NameClasses.{NameClasses}
 use Rattle.name_classes.specs.Classes.{AreClasses, HasEnds}

@@ -1,6 +1,6 @@
 use Rattle.std.proofs.Common.{◌≡◌, ◌+◌, ◌<◌, length, inl, inr, sym, ◌∙◌, ap, subst, arith}
 use Rattle.std.proofs.lemmas.Bool.{cases_lt}
-use Rattle.finite_sets.specs.Lists.{Lists}
+use Rattle.geo_core.specs.FiniteSets.Lists.{Lists}
 use Rattle.tech_model.specs.declared.raw.RawTech.{RawTech}
 use Rattle.flood_nodes.specs.Stacking.{IsCrossing}
 use Rattle.flood_nodes.proofs.LinkLaws.{adds_more}

@@ -1,7 +1,7 @@
 -- One tile more is tried.
 use Rattle.std.proofs.Common.{◌+◌, ℕ, sym, ◌∙◌, ap, subst, arith, Vec, Global}
-use Rattle.finite_sets.specs.Lists.{Lists}
-use Rattle.finite_sets.proofs.Listings.{Lists-iff}
+use Rattle.geo_core.specs.FiniteSets.Lists.{Lists}
+use Rattle.geo_core.proofs.FiniteSets.Listings.{Lists-iff}
 use Rattle.flood_nodes.specs.Stacking.{has_other_images, IsCrossing}
 use Rattle.flood_nodes.specs.TileShares.{tile_at}
 use Rattle.flood_nodes.proofs.LinkLaws.{PassesBelow, passes_one_more, passes_no_more}

@@ -1,4 +1,4 @@
-use Rattle.finite_sets.specs.Lists.{Lists}
+use Rattle.geo_core.specs.FiniteSets.Lists.{Lists}
 use Rattle.flood_nodes.specs.Stacking.{has_other_images}
 use Rattle.flood_nodes.specs.TileShares.{tile_at}
 use Rattle.flood_nodes.proofs.LinkLaws.{PassesBelow}

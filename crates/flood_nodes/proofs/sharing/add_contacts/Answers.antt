@@ -6,8 +6,8 @@ use Rattle.std.proofs.lemmas.List.Elements.{All-map}
 use Rattle.geo_core.specs.declared.squares.Rect.{Rect}
 use Rattle.geo_core.specs.Areas.{AreDisjoint, IsNear}
 use Rattle.geo_core.specs.Covering.{IsProper}
-use Rattle.finite_sets.specs.Lists.{Lists}
-use Rattle.finite_sets.proofs.Members.{In-get_or}
+use Rattle.geo_core.specs.FiniteSets.Lists.{Lists}
+use Rattle.geo_core.proofs.FiniteSets.Members.{In-get_or}
 use Rattle.layout_model.specs.declared.region_tiles.RegionTile.{RegionTile}
 use Rattle.rect_contacts.specs.declared.contacts.Contact.{Contact}
 use Rattle.rect_contacts.specs.Contacts.{IsSharedEdge}

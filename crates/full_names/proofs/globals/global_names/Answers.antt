@@ -1,6 +1,6 @@
 use Rattle.std.proofs.Common.{List, Vec, Global, subst}
 use Rattle.std.proofs.lemmas.Result.{IfOk-weaker}
-use Rattle.finite_sets.specs.Lists.{In}
+use Rattle.ext_model.specs.FiniteSets.Lists.{In}
 use Rattle.full_names.specs.declared.globals.GlobalName.{GlobalName}
 use Rattle.full_names.specs.Globals.{AreOnce, AreGlobalNames}
 use Rattle.full_names.proofs.GlobalLaws.{found_once}

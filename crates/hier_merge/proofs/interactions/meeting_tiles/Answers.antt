@@ -5,7 +5,7 @@ use Rattle.geo_core.specs.Areas.{AreDisjoint, IsNear}
 use Rattle.geo_core.specs.Strips.{IsStrips}
 use Rattle.geo_core.proofs.StripSets.{strips_apart}
 use Rattle.interact.specs.NearBoxes.{IsShared}
-use Rattle.cell_tree.specs.Hulls.{IsLawfulBox}
+use Rattle.cell_library.specs.CellTree.Hulls.{IsLawfulBox}
 use Rattle.cell_library.specs.LayoutTrees.{tree_at}
 use Rattle.cell_library.specs.Libraries.{seen}
 use Rattle.hier_merge.specs.steps.Visits.{AreVisits}

@@ -2,10 +2,10 @@ use Rattle.std.proofs.Common.{List, ◌++◌, ap, subst, sym, ◌∙◌}
 use Rattle.std.specs.Option.{option_to_list}
 use Rattle.std.specs.Prelude.{All}
 use Rattle.geo_core.specs.declared.squares.Rect.{Rect}
-use Rattle.layout_model.specs.Layouts.{Layout}
-use Rattle.layout_model.specs.FlatSets.{parts_in}
+use Rattle.cell_library.specs.LayoutModel.Layouts.{Layout}
+use Rattle.cell_library.specs.LayoutModel.FlatSets.{parts_in}
 use Rattle.cell_library.specs.CellPaint.Paints.{layout_of}
-use Rattle.cell_tree.specs.Hulls.{IsLawfulBox}
+use Rattle.cell_library.specs.CellTree.Hulls.{IsLawfulBox}
 use Rattle.cell_library.specs.Libraries.{seen}
 use Rattle.cell_library.specs.LayoutTrees.{tree_at}
 use Rattle.cell_library.specs.ElementBoxes.{HoldParts}

@@ -1,7 +1,7 @@
 use Rattle.std.proofs.Common.{◌≡◌, ◌+◌, ◌++◌, List, length, pos, ap, subst, ◌∙◌, arith}
 use Rattle.std.specs.Prelude.{slice_index_or}
 use Rattle.geo_core.specs.declared.squares.Rect.{Rect}
-use Rattle.layout_model.specs.CellTrees.{CellTree}
+use Rattle.cell_library.specs.LayoutModel.CellTrees.{CellTree}
 use Rattle.cell_library.specs.declared.part_tiles.PartTile.{PartTile}
 use Rattle.cell_library.specs.Libraries.{LibraryParts, seen}
 use Rattle.cell_library.specs.LayoutTrees.{tree_at}

@@ -1,8 +1,8 @@
 use Rattle.std.proofs.Common.{◌≡◌, List, [], ◌∷◌, ◌++◌, length, map, sym, ap, ◌∙◌, arith}
 use Rattle.std.proofs.lemmas.List.{append-nil, append_assoc, map-append, nil_from_length}
 use Rattle.std.specs.Vec.Iter.{into_iter_items}
-use Rattle.offences.specs.declared.plane_stacks.PlaneStack.{PlaneStack}
-use Rattle.offences.specs.declared.stacks.TypedStack.{TypedStack}
+use Rattle.meeting_laws.specs.Offences.declared.plane_stacks.PlaneStack.{PlaneStack}
+use Rattle.meeting_laws.specs.Offences.declared.stacks.TypedStack.{TypedStack}
 use Rattle.hier_merge.specs.steps.PlanePieces.{plane_stack}
 use Rattle.hier_merge.proofs.meetings.add_stacks.Goals as goal
 

@@ -2,7 +2,7 @@ use Rattle.std.proofs.Common.{◌≡◌, ◌+◌, ◌++◌, ℕ, suc, List, leng
 use Rattle.geo_core.specs.declared.squares.Rect.{Rect}
 use Rattle.geo_core.specs.declared.squares.Square.{Square}
 use Rattle.tech_model.specs.declared.raw.RawTech.{RawTech}
-use Rattle.offences.specs.Offences.{OffendsOn}
+use Rattle.meeting_laws.specs.Offences.Offences.{OffendsOn}
 use Rattle.hier_merge.specs.steps.PlanePieces.{parts_of_plane}
 use Rattle.hier_merge.specs.StripLists.{AreStripsByPlane}
 use Rattle.hier_merge.proofs.PlaneStrips.{plane_more}

@@ -1,8 +1,8 @@
 use Rattle.std.proofs.Common.{List, length, sym, subst, arith}
 use Rattle.tech_model.specs.declared.raw.RawTech.{RawTech}
-use Rattle.layout_model.specs.FlatSets.{parts_in}
-use Rattle.offences.specs.Offences.{OffendsOn}
-use Rattle.hierarchy_model.specs.Laws.{CleanCellsKeepWhatTheyHave}
+use Rattle.cell_library.specs.LayoutModel.FlatSets.{parts_in}
+use Rattle.meeting_laws.specs.Offences.Offences.{OffendsOn}
+use Rattle.meeting_laws.specs.HierarchyModel.Laws.{CleanCellsKeepWhatTheyHave}
 use Rattle.cell_library.specs.declared.part_tiles.PartTile.{PartTile}
 use Rattle.cell_library.specs.LayoutTrees.{tree_at}
 use Rattle.cell_library.specs.Libraries.{seen}

@@ -5,7 +5,7 @@ use Rattle.std.specs.Vec.Iter.{into_iter_items}
 use Rattle.finite_sets.specs.Lists.{In}
 use Rattle.finite_sets.proofs.Members.{In-append_right}
 use Rattle.finite_sets.proofs.Searches.{All-In}
-use Rattle.offences.specs.declared.stacks.TypedStack.{TypedStack}
+use Rattle.meeting_laws.specs.Offences.declared.stacks.TypedStack.{TypedStack}
 use Rattle.hier_merge.specs.steps.Seams.{renumbered}
 use Rattle.hier_merge.proofs.plane_pieces.add_all.Goals as goal
 

@@ -8,10 +8,10 @@ use Rattle.finite_sets.proofs.Places.{In-drop, In-take}
 use Rattle.finite_sets.proofs.Searches.{All-from_In, All-In}
 use Rattle.geo_core.specs.Areas.{IsNear}
 use Rattle.cell_library.specs.declared.part_tiles.PartTile.{PartTile}
-use Rattle.offences.specs.declared.set_tiles.SetTile.{SetTile}
-use Rattle.offences.specs.declared.stacks.TypedStack.{TypedStack}
-use Rattle.offences.specs.PartSets.{AreInPartOrder}
-use Rattle.offences.specs.TypedStacks.{HasMembers, StandForTiles}
+use Rattle.meeting_laws.specs.Offences.declared.set_tiles.SetTile.{SetTile}
+use Rattle.meeting_laws.specs.Offences.declared.stacks.TypedStack.{TypedStack}
+use Rattle.meeting_laws.specs.Offences.PartSets.{AreInPartOrder}
+use Rattle.meeting_laws.specs.Offences.TypedStacks.{HasMembers, StandForTiles}
 use Rattle.hier_merge.specs.declared.plane_tiles.NumberedTile.{NumberedTile}
 use Rattle.hier_merge.specs.steps.PlanePieces.{HasTiles}
 use Rattle.hier_merge.specs.steps.Seams.{numbered_on, renumbered}

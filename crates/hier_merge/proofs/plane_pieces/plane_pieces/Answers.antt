@@ -4,8 +4,8 @@ use Rattle.finite_sets.proofs.Members.{In-get_or}
 use Rattle.finite_sets.proofs.Searches.{All-from_In}
 use Rattle.geo_core.specs.Areas.{AreDisjoint, IsNear}
 use Rattle.geo_core.specs.Covering.{IsProper}
-use Rattle.offences.specs.declared.stacks.TypedStack.{TypedStack}
-use Rattle.offences.specs.TypedStacks.{AreByPart, AreTypedStacks, typed_stack_areas}
+use Rattle.meeting_laws.specs.Offences.declared.stacks.TypedStack.{TypedStack}
+use Rattle.meeting_laws.specs.Offences.TypedStacks.{AreByPart, AreTypedStacks, typed_stack_areas}
 use Rattle.hier_merge.specs.steps.PlanePieces.{HasTiles}
 use Rattle.hier_merge.specs.steps.Seams.{AreTilePieces}
 use Rattle.hier_merge.proofs.JoinedPieces.{no_pieces}

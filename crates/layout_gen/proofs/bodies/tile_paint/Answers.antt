@@ -1,4 +1,4 @@
-use Rattle.cell_paint.specs.Paints.{layout_of}
+use Rattle.cell_library.specs.CellPaint.Paints.{layout_of}
 use Rattle.layout_gen.proofs.MadeCells.{two_paints}
 use Rattle.layout_gen.proofs.bodies.tile_paint.Goals as goal
 

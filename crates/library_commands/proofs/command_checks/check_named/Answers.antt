@@ -2,7 +2,7 @@ use Rattle.std.proofs.Common.{◌≡◌, Some, refl, rules}
 use Rattle.std.proofs.lemmas.Result.{IfOk-weaker}
 use Rattle.cell_library.specs.Libraries.{seen}
 use Rattle.cell_library.specs.Views.{cell_named}
-use Rattle.edit_script.proofs.CellLaws.{found_there}
+use Rattle.uniqueness.proofs.EditScript.CellLaws.{found_there}
 use Rattle.workspace.proofs.CellCommands.{answers_on_cell}
 use Rattle.workspace.specs.KeptSessions.{edited_state}
 use Rattle.library_commands.specs.CommandChecks.{ChecksIn}

@@ -4,7 +4,7 @@ use Rattle.std.proofs.lemmas.Result.{IfOk-weaker}
 use Rattle.session_model.specs.Effects.{AnswersAlone}
 use Rattle.cell_library.specs.Libraries.{seen}
 use Rattle.cell_library.specs.Views.{cell_named}
-use Rattle.edit_script.proofs.CellLaws.{found_there}
+use Rattle.uniqueness.proofs.EditScript.CellLaws.{found_there}
 use Rattle.workspace.proofs.CellCommands.{answers_on_cell}
 use Rattle.workspace.specs.KeptSessions.{edited_state, state_of}
 use Rattle.workspace.specs.States.{State}

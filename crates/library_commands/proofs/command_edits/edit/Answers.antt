@@ -1,8 +1,8 @@
 use Rattle.std.proofs.Common.{◌≡◌, [], ◌∷◌, Some, sym, subst, rules}
 use Rattle.std.specs.Prelude.{codes}
 use Rattle.session_model.specs.Effects.{AnswersAlone}
-use Rattle.edit_script.specs.Editing.{editing_of}
-use Rattle.edit_script.specs.Refusals.{ApplyIsRefused}
+use Rattle.uniqueness.specs.EditScript.Editing.{editing_of}
+use Rattle.uniqueness.specs.EditScript.Refusals.{ApplyIsRefused}
 use Rattle.workspace.proofs.RecordLaws.{agrees_same}
 use Rattle.workspace.specs.KeptSessions.{IsEdited, edited_state, state_of}
 use Rattle.library_commands.specs.CommandEdits.{EditMeans}

@@ -2,12 +2,12 @@ use Rattle.std.proofs.Common.{◌≡◌, [], ◌∷◌, refl, subst, rules}
 use Rattle.session_model.specs.declared.answer.Answer.{Answer}
 use Rattle.session_model.specs.Effects.{GivesFetching}
 use Rattle.cell_library.specs.Libraries.{IsSame, seen}
-use Rattle.cell_loading.specs.declared.loading.Loaded.{Loaded}
-use Rattle.cell_loading.specs.Arrivals.{ArriveWithStamps}
-use Rattle.cell_loading.specs.Loads.{HasMoreIfLoaded, KeepsIfRefused, LoadGives}
+use Rattle.uniqueness.specs.CellLoading.declared.loading.Loaded.{Loaded}
+use Rattle.uniqueness.specs.CellLoading.Arrivals.{ArriveWithStamps}
+use Rattle.uniqueness.specs.CellLoading.Loads.{HasMoreIfLoaded, KeepsIfRefused, LoadGives}
 use Rattle.workspace.proofs.ArrivalLaws.{agrees_all, dirty_cells}
 use Rattle.workspace.proofs.RecordLaws.{agrees_same}
-use Rattle.library_answers.specs.Replies.{loaded_text}
+use Rattle.workspace.specs.LibraryAnswers.Replies.{loaded_text}
 use Rattle.line_answers.specs.LineEffects.{reply}
 use Rattle.line_answers.proofs.AnswerLaws.{both_ok}
 use Rattle.workspace.proofs.WorkspaceLaws.{same_current}

@@ -1,6 +1,6 @@
 use Rattle.std.proofs.Common.{◌≡◌, ◌⊎◌, subst, sym}
 use Rattle.std.specs.Prelude.{IfErr, OnOk}
-use Rattle.undo_log.specs.declared.faults.UndoFault.TheVariants.{Memory}
+use Rattle.look_commands.specs.UndoLog.declared.faults.UndoFault.TheVariants.{Memory}
 use Rattle.workspace.specs.KeptSessions.{edited_state}
 use Rattle.workspace.proofs.WorkspaceLaws.{workspace_of}
 use Rattle.library_commands.specs.declared.command_returns.Way.{Way}

@@ -5,7 +5,7 @@ use Rattle.tech_file.specs.Reading.{technology_of}
 use Rattle.cell_library.specs.Libraries.{seen}
 use Rattle.workspace.specs.Caches.{Agrees}
 use Rattle.workspace.proofs.RecordLaws.{agrees_none}
-use Rattle.library_answers.specs.Replies.{tech_text}
+use Rattle.workspace.specs.LibraryAnswers.Replies.{tech_text}
 use Rattle.line_answers.specs.LineEffects.{IsOfInside, reply}
 use Rattle.line_answers.proofs.AnswerLaws.{both_ok}
 use Rattle.workspace.specs.KeptSessions.{state_of}

@@ -4,7 +4,7 @@ use Rattle.std.proofs.lemmas.Result.{IfOk-weaker}
 use Rattle.session_model.specs.declared.report.ReportLine.{ReportLine}
 use Rattle.tech_model.specs.declared.raw.Label.{Label}
 use Rattle.tech_model.specs.declared.raw.RawTech.{RawTech}
-use Rattle.cell_nodes.specs.Names.Labels.{IsLabelOf}
+use Rattle.library_trees.specs.CellNodes.Names.Labels.{IsLabelOf}
 use Rattle.library_trees.proofs.LabelLaws.{labels_may_name}
 use Rattle.line_answers.specs.LineEffects.{IsOfInside}
 use Rattle.look_commands.proofs.NodesLaws.{node_lines_inside}

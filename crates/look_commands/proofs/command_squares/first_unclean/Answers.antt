@@ -4,8 +4,8 @@ use Rattle.std.proofs.lemmas.List.{length-map, take_all}
 use Rattle.geo_core.specs.declared.squares.Rect.{Rect}
 use Rattle.ext_model.specs.declared.tables.CellKey.{CellKey}
 use Rattle.cell_library.specs.Libraries.{seen}
-use Rattle.hier_merge.specs.UncleanCells.{IsCleanCell, IsUncleanBelow}
-use Rattle.hier_merge.proofs.CleanOrders.{clean_before, numbers, one_more_clean, ordered_there}
+use Rattle.library_answers.specs.HierMerge.UncleanCells.{IsCleanCell, IsUncleanBelow}
+use Rattle.library_answers.proofs.HierMerge.CleanOrders.{clean_before, numbers, one_more_clean, ordered_there}
 use Rattle.look_commands.proofs.SquaresLaws.{unclean_there}
 use Rattle.look_commands.proofs.command_squares.first_unclean.Goals as goal
 

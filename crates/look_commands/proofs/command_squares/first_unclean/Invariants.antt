@@ -1,7 +1,7 @@
 use Rattle.std.proofs.Common.{map, take}
 use Rattle.std.specs.Prelude.{All}
 use Rattle.cell_library.specs.Libraries.{seen}
-use Rattle.hier_merge.specs.UncleanCells.{IsCleanCell}
+use Rattle.library_answers.specs.HierMerge.UncleanCells.{IsCleanCell}
 use Rattle.look_commands.proofs.command_squares.first_unclean.Given as goal
 
 -- the cells so far are clean

@@ -3,7 +3,7 @@ use Rattle.std.specs.Int.{w64}
 use Rattle.std.proofs.lemmas.Int.{to_z-of_z}
 use Rattle.std.proofs.lemmas.List.{take_more}
 use Rattle.layout_model.specs.Technologies.{class_of}
-use Rattle.rect_contacts.specs.declared.contacts.Contact.{Contact}
+use Rattle.flood_nodes.specs.RectContacts.declared.contacts.Contact.{Contact}
 use Rattle.flood_nodes.specs.TileShares.{tile_at}
 use Rattle.measures.specs.steps.Sizes.{shared_in, shared_amounts}
 use Rattle.measures.proofs.AmountLaws.{shared_amounts-append, adds_two}

@@ -1,5 +1,5 @@
 use Rattle.std.proofs.Common.{◌≡◌, ◌⊎◌, ◌&&◌, pos, ◌-ℤ◌, take}
-use Rattle.layout_model.specs.Technologies.{class_of}
+use Rattle.offences.specs.LayoutModel.Technologies.{class_of}
 use Rattle.offences.specs.TypedStacks.{kind_in}
 use Rattle.meeting_sums.specs.steps.Counts.{flat_kind, for_both, AddAmounts}
 use Rattle.meeting_sums.proofs.AmountLaws.{gated}

@@ -3,7 +3,7 @@ use Rattle.std.proofs.Common.{◌≡◌, pos, ◌-ℤ◌, Bool, List, take, get_
 use Rattle.std.specs.Int.{w64}
 use Rattle.std.proofs.lemmas.Int.{ints}
 use Rattle.std.proofs.lemmas.List.{take_more, take_all}
-use Rattle.layout_model.specs.Technologies.{class_of}
+use Rattle.offences.specs.LayoutModel.Technologies.{class_of}
 use Rattle.offences.specs.declared.stacks.PartKind.{PartKind}
 use Rattle.meeting_sums.specs.steps.Counts.{flat_kind, for_group, AddAmounts}
 use Rattle.meeting_sums.proofs.AmountLaws.{gated, no_entry, stack_more}

@@ -3,7 +3,7 @@ use Rattle.std.specs.Int.{w128}
 use Rattle.std.proofs.lemmas.Int.{ints}
 use Rattle.tech_model.specs.declared.raw.ClassRec.{ClassRec}
 use Rattle.tech_model.specs.declared.raw.RawTech.{RawTech}
-use Rattle.layout_model.specs.Technologies.{capacitance, class_of}
+use Rattle.offences.specs.LayoutModel.Technologies.{capacitance, class_of}
 use Rattle.meeting_laws.proofs.CellNodes.CapacitanceLaws.{counted_in, capacitance_more}
 use Rattle.meeting_sums.proofs.capacitances.capacitance_of.Goals as goal
 

@@ -1,6 +1,6 @@
 use Rattle.std.proofs.Common.{subst}
 use Rattle.tech_model.specs.declared.raw.ClassRec.{ClassRec}
-use Rattle.layout_model.specs.Technologies.{class_of}
+use Rattle.offences.specs.LayoutModel.Technologies.{class_of}
 use Rattle.meeting_sums.specs.declared.columns.Column.{Column}
 use Rattle.meeting_sums.specs.steps.Counts.{IsColumn}
 use Rattle.meeting_sums.proofs.ColumnLaws.{columns_more}

@@ -2,7 +2,7 @@ use Rattle.std.proofs.Common.{◌<◌, pos, ◌-ℤ◌, sym, subst}
 use Rattle.std.specs.Prelude.{All}
 use Rattle.finite_sets.specs.Lists.{In}
 use Rattle.key_sums.specs.declared.Amount.{Amount}
-use Rattle.layout_model.specs.Technologies.{class_of}
+use Rattle.offences.specs.LayoutModel.Technologies.{class_of}
 use Rattle.meeting_sums.specs.steps.Counts.{alone_beyond, shared_beyond, perimeter_beyond}
 use Rattle.meeting_sums.proofs.AmountLaws.{adds_then}
 use Rattle.meeting_sums.proofs.ColumnLaws.{group_keys, alone_less_shared}

@@ -1,6 +1,6 @@
 use Rattle.std.proofs.Common.{ℕ, List, length, sym, ◌∙◌, ap, subst}
-use Rattle.element_tree.specs.declared.tree.TreeElement.{TreeElement}
-use Rattle.element_tree.specs.declared.tree.ElementTree.{ElementTree}
+use Rattle.full_names.specs.ElementTree.declared.tree.TreeElement.{TreeElement}
+use Rattle.full_names.specs.ElementTree.declared.tree.ElementTree.{ElementTree}
 use Rattle.full_names.specs.Names.{elements_in}
 use Rattle.name_classes.specs.declared.links.RecordLinks.{RecordLinks}
 use Rattle.name_classes.specs.Classes.{AreLabels}

@@ -1,6 +1,6 @@
 use Rattle.std.proofs.Common.{List, ◌++◌, ◌∙◌, subst}
-use Rattle.finite_sets.specs.Lists.{In}
-use Rattle.finite_sets.proofs.Members.{In-append_left, In-append_right}
+use Rattle.partition.specs.FiniteSets.Lists.{In}
+use Rattle.partition.proofs.FiniteSets.Members.{In-append_left, In-append_right}
 use Rattle.name_classes.specs.declared.links.Link.{Link}
 use Rattle.name_classes.specs.steps.Joins.{AddsJoins, once_at}
 use Rattle.name_classes.proofs.JoinLaws.{adds_append}

@@ -4,8 +4,8 @@ use Rattle.std.proofs.lemmas.Option.{slice_get_read}
 use Rattle.std.specs.Prelude.{Bool, true, false, Some, slice_get, replicate}
 use Rattle.circuit_model.specs.declared.faults.FlatFault.TheVariants.{Memory}
 use Rattle.ext_model.specs.declared.records.CellExt.{CellExt}
-use Rattle.element_tree.specs.declared.tree.TreeElement.{TreeElement}
-use Rattle.element_tree.specs.declared.tree.ElementTree.{ElementTree}
+use Rattle.full_names.specs.ElementTree.declared.tree.TreeElement.{TreeElement}
+use Rattle.full_names.specs.ElementTree.declared.tree.ElementTree.{ElementTree}
 use Rattle.name_classes.specs.Classes.{IsPathFaultOf}
 use Rattle.name_classes.proofs.FaultLaws.{err_same}
 use Rattle.name_classes.proofs.RecordLaws.{no_element, stands_read, cell_read}

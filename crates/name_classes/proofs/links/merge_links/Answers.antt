@@ -1,6 +1,6 @@
 use Rattle.std.proofs.Common.{◌≡◌, ◌⊎◌, List, length, take, refl, sym, subst}
 use Rattle.std.proofs.lemmas.Option.{slice_get_read}
-use Rattle.finite_sets.proofs.Places.{take-slice_get}
+use Rattle.partition.proofs.FiniteSets.Places.{take-slice_get}
 use Rattle.ext_model.specs.declared.records.MergeRec.{MergeRec}
 use Rattle.circuit_model.specs.declared.faults.FlatFault.TheVariants.{Memory}
 use Rattle.name_classes.specs.steps.Links.{AreMergeLinks, IsMergeFault}

@@ -1,6 +1,6 @@
 use Rattle.std.proofs.Common.{List, length, take, refl, sym, subst}
 use Rattle.std.proofs.lemmas.Option.{slice_get_read}
-use Rattle.finite_sets.proofs.Places.{In-slice_get, take-slice_get}
+use Rattle.partition.proofs.FiniteSets.Places.{In-slice_get, take-slice_get}
 use Rattle.ext_model.specs.declared.records.NodeRec.{NodeRec}
 use Rattle.name_classes.specs.steps.Links.{AreNodeLinks}
 use Rattle.name_classes.proofs.LinkLaws.{no_nodes, node_added}

@@ -1,6 +1,6 @@
 use Rattle.std.proofs.Common.{List, ◌∷◌, [], ◌++◌, take, length, refl, sym, subst}
 use Rattle.std.proofs.lemmas.Option.{slice_get_read}
-use Rattle.finite_sets.proofs.Places.{take-slice_get}
+use Rattle.partition.proofs.FiniteSets.Places.{take-slice_get}
 use Rattle.ext_model.specs.declared.records.UseRec.{UseRec}
 use Rattle.ext_model.specs.declared.records.CellExt.{CellExt}
 use Rattle.name_classes.specs.declared.tables.UseTable.{UseTable}

@@ -1,6 +1,6 @@
 use Rattle.std.proofs.Common.{◌≡◌, ◌<◌, ℕ, List, Option, None, length, IsTrue, sym, subst, arith}
 use Rattle.std.specs.Prelude.{All, IfSome}
-use Rattle.finite_sets.specs.Lists.{In}
+use Rattle.geo_core.specs.FiniteSets.Lists.{In}
 use Rattle.partition.specs.Divides.{Divides, IsPair}
 use Rattle.tech_model.specs.Types.{is_type}
 use Rattle.layout_model.specs.declared.region_tiles.RegionTile.{RegionTile}

@@ -1,8 +1,8 @@
 use Rattle.std.proofs.Common.{◌≡◌, inl, List, [], ◌∷◌, ◌++◌, length, refl, sym, ap, subst, ◌∙◌, arith}
 use Rattle.std.proofs.lemmas.List.{append-nil, append_assoc, nil_from_length}
 use Rattle.std.specs.Vec.Iter.{into_iter_items}
-use Rattle.finite_sets.specs.Lists.{In}
-use Rattle.finite_sets.proofs.Members.{In-append_right}
+use Rattle.geo_core.specs.FiniteSets.Lists.{In}
+use Rattle.geo_core.proofs.FiniteSets.Members.{In-append_right}
 use Rattle.rect_overlays.specs.declared.stacks.Stack.{Stack}
 use Rattle.offences.specs.TypedStacks.{StandForAll}
 use Rattle.offences.proofs.StackLaws.{members_within, no_typed_stacks, with_typed_stack}

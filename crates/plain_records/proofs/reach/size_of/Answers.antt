@@ -3,7 +3,7 @@ use Rattle.std.proofs.lemmas.Grind.{common_steps}
 use Rattle.std.proofs.lemmas.List.{get_or_default}
 use Rattle.ext_model.specs.Plain.{plain_uses}
 use Rattle.circuit_model.specs.declared.limits.TheConstants.{MOST_FLAT_ELEMENTS}
-use Rattle.element_tree.specs.Sizes.{value_at}
+use Rattle.flat_limits.specs.ElementTree.Sizes.{value_at}
 use Rattle.plain_records.proofs.SizeLaws.{rest_step}
 use Rattle.plain_records.proofs.reach.size_of.Goals as goal
 

@@ -1,6 +1,6 @@
 use Rattle.std.proofs.Common.{◌≡◌, suc, ◌+◌, ◌≤◌, min, map}
 use Rattle.circuit_model.specs.declared.limits.TheConstants.{MOST_FLAT_ELEMENTS}
-use Rattle.element_tree.specs.Sizes.{value_at, size_from}
+use Rattle.flat_limits.specs.ElementTree.Sizes.{value_at, size_from}
 use Rattle.plain_records.specs.Reached.{spread}
 use Rattle.plain_records.proofs.SizeLaws.{rest_of}
 use Rattle.plain_records.proofs.reach.size_of.Given as goal

@@ -2,8 +2,8 @@ use Rattle.std.proofs.Common.{suc, ◌≤◌, length, map, ◌∙◌, sym, ap, a
 use Rattle.std.proofs.lemmas.List.{length-map, length-set}
 use Rattle.std.proofs.lemmas.List.Elements.{All-set}
 use Rattle.circuit_model.specs.declared.limits.TheConstants.{MOST_FLAT_ELEMENTS}
-use Rattle.element_tree.specs.Sizes.{value_at, size_from}
-use Rattle.element_tree.proofs.Measures.{row_read, read_within, read_measured}
+use Rattle.flat_limits.specs.ElementTree.Sizes.{value_at, size_from}
+use Rattle.flat_limits.proofs.ElementTree.Measures.{row_read, read_within, read_measured}
 use Rattle.plain_records.specs.Plains.{plains}
 use Rattle.plain_records.specs.Thin.{thin}
 use Rattle.plain_records.specs.Reached.{spread, spread_graph}

@@ -1,6 +1,6 @@
 use Rattle.std.proofs.Common.{◌≡◌, suc, ◌≤◌, All, length, reverse, take}
 use Rattle.circuit_model.specs.declared.limits.TheConstants.{MOST_FLAT_ELEMENTS}
-use Rattle.element_tree.specs.Sizes.{size_from, AreMeasured}
+use Rattle.flat_limits.specs.ElementTree.Sizes.{size_from, AreMeasured}
 use Rattle.plain_records.specs.Reached.{spreads}
 use Rattle.plain_records.proofs.reach.sizes.Given as goal
 

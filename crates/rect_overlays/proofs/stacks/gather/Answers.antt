@@ -1,6 +1,6 @@
 use Rattle.std.proofs.Common.{◌≡◌, ◌+◌, ◌++◌, ◌∷◌, [], ℕ, List, Bool, true, cond, take, get_or, sym, ◌∙◌, ap, subst}
 use Rattle.std.proofs.lemmas.List.{take_more}
-use Rattle.finite_sets.proofs.Members.{In-get_or}
+use Rattle.geo_core.proofs.FiniteSets.Members.{In-get_or}
 use Rattle.geo_core.specs.declared.squares.Rect.{Rect}
 use Rattle.geo_core.specs.Areas.{joined_rect}
 use Rattle.geo_core.specs.Covering.{IsProper}

@@ -1,6 +1,6 @@
 use Rattle.std.proofs.Common.{sym, subst}
 use Rattle.geo_core.specs.Reach.{MovesInReach}
-use Rattle.cell_library.proofs.RowSpots.{inverted_in_reach}
+use Rattle.element_paths.proofs.CellLibrary.RowSpots.{inverted_in_reach}
 use Rattle.tile_members.proofs.opened_cells.own_corner.Goals as goal
 
 pub square-requires-clause-moves : goal.square-requires-clause-moves

@@ -1,6 +1,6 @@
 -- The tiles have only grown, and the column is tall below the tile at which the walk is.
 use Rattle.std.proofs.Common.{pos, ◌-ℤ◌}
-use Rattle.finite_sets.specs.Range.{extent}
+use Rattle.geo_core.specs.FiniteSets.Range.{extent}
 use Rattle.tile_plane.specs.Tiles.{tile_at}
 use Rattle.tile_plane.specs.Tall.{AreJoining}
 use Rattle.tile_plane.proofs.KeepLaws.{IsTallBelow}

@@ -1,9 +1,9 @@
 use Rattle.std.proofs.Common.{◌≡◌, ℕ, ◌++◌, ◌∷◌, [], List, map, take, get_or, w64, to_z, of_z, ◌∙◌, ap, subst, arith, rules}
 use Rattle.std.proofs.lemmas.Int.{ints, to_z-of_z}
 use Rattle.std.proofs.lemmas.List.{take_all}
-use Rattle.finite_sets.specs.Lists.{In}
-use Rattle.finite_sets.proofs.Members.{In-get_or}
-use Rattle.finite_sets.proofs.Searches.{All-from_In}
+use Rattle.geo_core.specs.FiniteSets.Lists.{In}
+use Rattle.geo_core.proofs.FiniteSets.Members.{In-get_or}
+use Rattle.geo_core.proofs.FiniteSets.Searches.{All-from_In}
 use Rattle.geo_core.specs.Areas.{corner_of}
 use Rattle.geo_core.specs.declared.squares.Piece.{Piece}
 use Rattle.tile_plane.specs.declared.tiles.Tile.{Tile}

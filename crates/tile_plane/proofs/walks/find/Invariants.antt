@@ -1,6 +1,6 @@
 -- The tile has squares in the row of the square, and once it does not end left of the square it never does again.
 use Rattle.std.proofs.Common.{pos, ◌+ℤ◌, ◌≤ℤ◌, ◌<ℤ◌}
-use Rattle.finite_sets.specs.Range.{extent}
+use Rattle.geo_core.specs.FiniteSets.Range.{extent}
 use Rattle.tile_plane.specs.Tiles.{tile_at, IsTaken}
 use Rattle.tile_plane.proofs.walks.find.Given as goal
 

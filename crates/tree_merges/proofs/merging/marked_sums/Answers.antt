@@ -9,9 +9,9 @@ use Rattle.offences.specs.declared.plane_stacks.PlaneStack.{PlaneStack}
 use Rattle.offences.specs.Offences.{SetLayout}
 use Rattle.offences.specs.PlaneStacks.{ArePlaneStacks}
 use Rattle.offences.specs.TypedStacks.{AreByPart}
-use Rattle.meeting_sums.specs.declared.limits.TheConstants.{MOST_PARTS}
-use Rattle.meeting_sums.specs.StackTiles.{tiles_of}
-use Rattle.meeting_sums.specs.Sums.{AreMeetingSums}
+use Rattle.piece_groups.specs.MeetingSums.declared.limits.TheConstants.{MOST_PARTS}
+use Rattle.piece_groups.specs.MeetingSums.StackTiles.{tiles_of}
+use Rattle.piece_groups.specs.MeetingSums.Sums.{AreMeetingSums}
 use Rattle.piece_groups.specs.MemberMarks.{AreMemberMarks, mark_at}
 use Rattle.tree_merges.specs.steps.MemberPairs.{member_pairs}
 use Rattle.tree_merges.specs.steps.Pieces.{AreNumbered}

@@ -1,9 +1,9 @@
 use Rattle.std.proofs.Common.{List, arith, length, ap, sym, subst}
 use Rattle.std.specs.Prelude.{All, IfOk}
-use Rattle.cell_library.specs.declared.part_tiles.PartTile.{PartTile}
-use Rattle.cell_library.specs.LayoutTrees.{tree_at}
-use Rattle.cell_library.specs.Libraries.{seen}
-use Rattle.library_trees.specs.NamedCells.{named_tree_at}
+use Rattle.hier_merge.specs.CellLibrary.declared.part_tiles.PartTile.{PartTile}
+use Rattle.hier_merge.specs.CellLibrary.LayoutTrees.{tree_at}
+use Rattle.hier_merge.specs.CellLibrary.Libraries.{seen}
+use Rattle.tile_members.specs.LibraryTrees.NamedCells.{named_tree_at}
 use Rattle.tile_members.specs.TileMembers.{AreTileMembers, IsPartTile}
 use Rattle.tree_merges.proofs.merging.members_of.Goals as goal
 

@@ -1,9 +1,9 @@
 use Rattle.std.proofs.Common.{◌≡◌, List, sym, subst}
 use Rattle.tech_model.specs.declared.raw.RawTech.{RawTech}
-use Rattle.group_meetings.specs.Laws.{RecordedPartsHaveMembers}
-use Rattle.cell_library.specs.LayoutTrees.{tree_at}
-use Rattle.cell_library.specs.Libraries.{seen}
-use Rattle.library_trees.specs.NamedCells.{named_tree_at}
+use Rattle.tile_members.specs.GroupMeetings.Laws.{RecordedPartsHaveMembers}
+use Rattle.hier_merge.specs.CellLibrary.LayoutTrees.{tree_at}
+use Rattle.hier_merge.specs.CellLibrary.Libraries.{seen}
+use Rattle.tile_members.specs.LibraryTrees.NamedCells.{named_tree_at}
 use Rattle.offences.specs.declared.plane_stacks.PlaneStack.{PlaneStack}
 use Rattle.piece_groups.specs.Laws.{MarkedGroupsAreRecorded}
 use Rattle.tile_members.specs.TileMembers.{AreTileMembers}

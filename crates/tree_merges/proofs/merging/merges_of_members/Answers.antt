@@ -1,6 +1,6 @@
 use Rattle.std.proofs.Common.{◌≡◌, ◌<◌, ◌+◌, ℕ, List, length, ap, subst, arith}
 use Rattle.std.specs.Prelude.{slice_index}
-use Rattle.meeting_sums.specs.declared.sums.MeetingSum.{MeetingSum}
+use Rattle.piece_groups.specs.MeetingSums.declared.sums.MeetingSum.{MeetingSum}
 use Rattle.piece_groups.specs.MarkMerges.{AreMergesOfMarks}
 use Rattle.tree_merges.proofs.merging.merges_of_members.Goals as goal
 

@@ -1,7 +1,7 @@
 use Rattle.std.proofs.Common.{arith, length, subst, sym, ◌∙◌}
 use Rattle.hierarchy_model.specs.Laws.{CleanCellsKeepWhatTheyHave}
-use Rattle.cell_library.specs.LayoutTrees.{tree_at}
-use Rattle.cell_library.specs.Libraries.{seen}
+use Rattle.hier_merge.specs.CellLibrary.LayoutTrees.{tree_at}
+use Rattle.hier_merge.specs.CellLibrary.Libraries.{seen}
 use Rattle.tree_merges.proofs.relating.relate.Goals as goal
 
 pub returns-in_err-meeting-clause-steps : goal.returns-in_err-meeting-clause-steps

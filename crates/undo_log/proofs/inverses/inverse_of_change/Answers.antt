@@ -2,9 +2,9 @@ use Rattle.std.proofs.Common.{◌≡◌, ℕ, ℤ, List, map, subst, sym, refl, 
 use Rattle.std.proofs.lemmas.Result.{IfOk-weaker}
 use Rattle.geo_core.specs.FiniteSets.Lists.{Distinct}
 use Rattle.cell_tree.specs.declared.use_tables.UseBody.{UseBody}
-use Rattle.cell_library.specs.Libraries.{seen}
-use Rattle.cell_library.specs.LawfulViews.{IsLawfulView}
-use Rattle.cell_library.specs.Views.{CellView, LibraryView, view_at}
+use Rattle.edit_script.specs.CellLibrary.Libraries.{seen}
+use Rattle.edit_script.specs.CellLibrary.LawfulViews.{IsLawfulView}
+use Rattle.edit_script.specs.CellLibrary.Views.{CellView, LibraryView, view_at}
 use Rattle.undo_log.specs.declared.changes.Change.{Change}
 use Rattle.undo_log.specs.declared.changes.Change.TheVariants.{AddLabel, DeleteUse, DropLabel, InsertUse, MoveUse, Repaint, SetGrid, SetLabels}
 use Rattle.undo_log.specs.Inverses.{CanBeMade, TakesBack, changed}

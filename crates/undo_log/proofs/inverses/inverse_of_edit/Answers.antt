@@ -5,14 +5,14 @@ use Rattle.cell_paint.specs.Painting.{is_in_range}
 use Rattle.geo_core.specs.Areas.{has_square}
 use Rattle.ext_model.specs.declared.tables.CellKey.{CellKey}
 use Rattle.geo_core.specs.declared.grids.Grid.{Grid}
-use Rattle.cell_library.specs.Libraries.{LibraryParts, edits_of, seen}
-use Rattle.cell_library.specs.Refusals.{has_id}
-use Rattle.cell_library.specs.Views.{LibraryView, view_at}
-use Rattle.cell_library.proofs.UseLists.{has_there}
-use Rattle.cell_library.proofs.ViewLaws.{count_seen}
-use Rattle.script_lines.specs.declared.commands.Command.{Command}
-use Rattle.script_lines.specs.declared.commands.Command.TheVariants as command
-use Rattle.script_lines.specs.Forms.{IsFormed}
+use Rattle.edit_script.specs.CellLibrary.Libraries.{LibraryParts, edits_of, seen}
+use Rattle.edit_script.specs.CellLibrary.Refusals.{has_id}
+use Rattle.edit_script.specs.CellLibrary.Views.{LibraryView, view_at}
+use Rattle.edit_script.proofs.CellLibrary.UseLists.{has_there}
+use Rattle.edit_script.proofs.CellLibrary.ViewLaws.{count_seen}
+use Rattle.edit_script.specs.ScriptLines.declared.commands.Command.{Command}
+use Rattle.edit_script.specs.ScriptLines.declared.commands.Command.TheVariants as command
+use Rattle.edit_script.specs.ScriptLines.Forms.{IsFormed}
 use Rattle.edit_script.specs.Editing.{editing_of}
 use Rattle.edit_script.specs.Edits.{applied, grid_of}
 use Rattle.undo_log.specs.declared.changes.Change.{Change}

@@ -1,6 +1,6 @@
 use Rattle.std.proofs.Common.{◌≡◌, ◌<◌, ℕ, List, ◌∷◌, drop, length, ap, refl, subst, ◌∙◌}
-use Rattle.cell_library.specs.Libraries.{LibraryParts, edits_of, seen}
-use Rattle.cell_library.proofs.ViewLaws.{count_seen}
+use Rattle.edit_script.specs.CellLibrary.Libraries.{LibraryParts, edits_of, seen}
+use Rattle.edit_script.proofs.CellLibrary.ViewLaws.{count_seen}
 use Rattle.undo_log.specs.declared.changes.Inverse.{Inverse}
 use Rattle.undo_log.specs.Inverses.{LeadTo}
 use Rattle.undo_log.specs.Versions.{Version}

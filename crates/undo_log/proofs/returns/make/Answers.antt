@@ -1,11 +1,11 @@
 use Rattle.std.proofs.Common.{◌≡◌, ℕ, ℤ, List, refl, subst, sym}
 use Rattle.std.specs.Int.{w64}
-use Rattle.cell_library.specs.CellBodies.Bodies.{IsLabel}
+use Rattle.edit_script.specs.CellLibrary.CellBodies.Bodies.{IsLabel}
 use Rattle.tech_model.specs.declared.raw.Label.{Label}
-use Rattle.cell_library.specs.declared.faults.LibFault.{LibFault}
-use Rattle.cell_library.specs.Libraries.{IsLawfulLibrary, LibraryParts, edits_of, seen}
-use Rattle.cell_library.specs.Refusals.{DeleteIsRefused, LabelIsRefused, MoveIsRefused}
-use Rattle.cell_library.specs.Views.{LibraryView}
+use Rattle.edit_script.specs.CellLibrary.declared.faults.LibFault.{LibFault}
+use Rattle.edit_script.specs.CellLibrary.Libraries.{IsLawfulLibrary, LibraryParts, edits_of, seen}
+use Rattle.edit_script.specs.CellLibrary.Refusals.{DeleteIsRefused, LabelIsRefused, MoveIsRefused}
+use Rattle.edit_script.specs.CellLibrary.Views.{LibraryView}
 use Rattle.undo_log.specs.declared.changes.Change.{Change}
 use Rattle.undo_log.specs.declared.changes.Change.TheVariants.{AddLabel, DeleteUse, MoveUse}
 use Rattle.undo_log.specs.Inverses.{CanBeMade}

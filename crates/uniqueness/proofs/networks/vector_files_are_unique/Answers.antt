@@ -1,4 +1,4 @@
-use Rattle.vector_files.proofs.Alike.{vectors-alike}
+use Rattle.vector_runs.proofs.VectorFiles.Alike.{vectors-alike}
 use Rattle.uniqueness.proofs.AlikeNames.{like_named}
 use Rattle.uniqueness.proofs.SameNetworks.{one_node_each, same_names}
 use Rattle.uniqueness.proofs.networks.vector_files_are_unique.Goals as goal

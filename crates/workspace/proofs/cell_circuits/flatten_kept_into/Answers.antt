@@ -4,9 +4,9 @@ use Rattle.finite_sets.specs.Lists.{Distinct}
 use Rattle.ext_model.specs.declared.arrays.ArrayExt.{ArrayExt}
 use Rattle.ext_model.specs.declared.tables.CellKey.{CellKey}
 use Rattle.ext_loading.specs.PlainRecords.Plains.{AreArrayRecords, plains}
-use Rattle.cell_library.specs.Libraries.{LibraryParts, seen}
+use Rattle.ext_cache.specs.CellLibrary.Libraries.{LibraryParts, seen}
 use Rattle.ext_cache.specs.Caches.{Agrees, Records, record_in}
-use Rattle.library_trees.specs.NamedCells.{named_tree_at}
+use Rattle.ext_cache.specs.LibraryTrees.NamedCells.{named_tree_at}
 use Rattle.circuit_laws.specs.TreeRecords.TreeRecords.{HasTreeRecords}
 use Rattle.workspace.specs.declared.cells.Edited.{Edited}
 use Rattle.workspace.specs.CellCircuits.{IsGivenAt}

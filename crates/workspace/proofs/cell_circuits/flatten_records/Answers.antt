@@ -7,8 +7,8 @@ use Rattle.circuit_model.specs.Refusals.{IsFlatFaultOf, IsFlatOf}
 use Rattle.flatten.specs.Sinks.{with_fets}
 use Rattle.ext_loading.specs.PlainRecords.Plains.{plains}
 use Rattle.ext_loading.proofs.PlainRecords.PlainLaws.{plains_are_records}
-use Rattle.cell_library.specs.Libraries.{seen}
-use Rattle.cell_library.specs.Views.{view_at}
+use Rattle.ext_cache.specs.CellLibrary.Libraries.{seen}
+use Rattle.ext_cache.specs.CellLibrary.Views.{view_at}
 use Rattle.circuit_laws.specs.NetworkLaws.{FlatCircuitsHaveLetters}
 use Rattle.workspace.proofs.CellCircuitLaws.{simulable_is, no_other_fault, passes_limit, root_found}
 use Rattle.workspace.proofs.cell_circuits.flatten_records.Goals as goal

@@ -1,7 +1,7 @@
 use Rattle.std.proofs.Common.{◌≡◌, ◌<◌, List, Some, length, map, sym, subst}
 use Rattle.std.specs.Prelude.{All}
 use Rattle.std.specs.List.{flat_map}
-use Rattle.cell_library.specs.Libraries.{LibraryParts, seen}
+use Rattle.ext_cache.specs.CellLibrary.Libraries.{LibraryParts, seen}
 use Rattle.ext_cache.specs.declared.extraction.Extracted.{Extracted}
 use Rattle.ext_cache.specs.Caches.{Agrees, Extracts}
 use Rattle.workspace.specs.Extracting.{HasLawfulRecord, kept_store, told_lines}

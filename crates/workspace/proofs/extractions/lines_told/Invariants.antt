@@ -1,6 +1,6 @@
 use Rattle.std.proofs.Common.{◌≡◌, ◌++◌, drop}
 use Rattle.std.specs.List.{flat_map}
-use Rattle.cell_library.specs.Libraries.{seen}
+use Rattle.ext_cache.specs.CellLibrary.Libraries.{seen}
 use Rattle.workspace.specs.Extracting.{told_lines}
 use Rattle.workspace.proofs.extractions.lines_told.Given as goal
 

@@ -1,5 +1,5 @@
 use Rattle.std.proofs.Common.{◌≡◌, ◌++◌, Some, drop, map}
-use Rattle.cell_library.specs.Libraries.{seen}
+use Rattle.ext_cache.specs.CellLibrary.Libraries.{seen}
 use Rattle.workspace.specs.Extracting.{kept_store}
 use Rattle.workspace.proofs.extractions.records_stored.Given as goal
 

@@ -2,7 +2,7 @@ use Rattle.std.proofs.Common.{sym, ap, ◌∙◌, List}
 use Rattle.std.specs.Map.{values_of}
 use Rattle.std.proofs.lemmas.Result.{on_ok_weaker, on_err_weaker}
 use Rattle.std.proofs.Common.{refl}
-use Rattle.cell_paint.specs.Painting.{with_paint}
+use Rattle.cell_bodies.specs.CellPaint.Painting.{with_paint}
 use Rattle.cell_library.specs.Contents.{Held, held_at}
 use Rattle.cell_library.proofs.ContentLaws.{held_value, repainted}
 use Rattle.cell_library.proofs.KeptContents.{still_kept}

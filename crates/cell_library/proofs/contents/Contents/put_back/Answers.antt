@@ -1,8 +1,8 @@
 use Rattle.std.proofs.Common.{◌≡◌, sym, ap, subst, ◌∙◌, List, length, refl}
 use Rattle.std.specs.Map.{values_of}
 use Rattle.std.proofs.lemmas.Result.{on_ok_weaker, on_err_weaker}
-use Rattle.cell_paint.specs.Paints.{layout_of, IsSoundPaint}
-use Rattle.cell_paint.specs.Pieces.{with_pieces, CanStandIn}
+use Rattle.cell_bodies.specs.CellPaint.Paints.{layout_of, IsSoundPaint}
+use Rattle.cell_bodies.specs.CellPaint.Pieces.{with_pieces, CanStandIn}
 use Rattle.cell_library.specs.Contents.{Held, held_at, held_of}
 use Rattle.cell_library.proofs.ContentLaws.{held_value, repainted}
 use Rattle.cell_library.proofs.KeptContents.{still_kept}

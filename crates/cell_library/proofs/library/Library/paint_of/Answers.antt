@@ -1,5 +1,5 @@
 use Rattle.std.proofs.Common.{◌<◌, ◌∙◌, length, sym, ap, subst}
-use Rattle.cell_paint.specs.Paints.{layout_of}
+use Rattle.cell_bodies.specs.CellPaint.Paints.{layout_of}
 use Rattle.cell_library.specs.Contents.{Held}
 use Rattle.cell_library.specs.Libraries.{LibraryParts, uses_in}
 use Rattle.cell_library.specs.Views.{CellView}

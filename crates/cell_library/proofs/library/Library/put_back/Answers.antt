@@ -1,7 +1,7 @@
 use Rattle.std.proofs.Common.{ℕ, length, refl, subst, sym, inl, inr}
 use Rattle.std.proofs.lemmas.Result.{on_ok_weaker, on_err_weaker}
-use Rattle.cell_paint.specs.Paints.{IsSoundPaint}
-use Rattle.cell_paint.specs.Pieces.{with_pieces, CanStandIn}
+use Rattle.cell_bodies.specs.CellPaint.Paints.{IsSoundPaint}
+use Rattle.cell_bodies.specs.CellPaint.Pieces.{with_pieces, CanStandIn}
 use Rattle.cell_library.specs.LawfulViews.{IsLawfulView}
 use Rattle.cell_library.specs.Libraries.{LibraryParts, seen}
 use Rattle.cell_library.specs.Restorations.{repainted}

@@ -1,8 +1,8 @@
 use Rattle.std.proofs.Common.{◌<◌, length, sym, ap, subst}
 use Rattle.tech_model.specs.declared.raw.TypeRec.{TypeRec}
 use Rattle.std.specs.Prelude.{List}
-use Rattle.layout_model.specs.Layouts.{Layout}
-use Rattle.cell_paint.specs.Paints.{layout_of, IsSoundPaint}
+use Rattle.cell_bodies.specs.LayoutModel.Layouts.{Layout}
+use Rattle.cell_bodies.specs.CellPaint.Paints.{layout_of, IsSoundPaint}
 use Rattle.cell_library.specs.Contents.{held_at, no_held}
 use Rattle.cell_library.specs.Libraries.{LibraryParts, uses_in}
 use Rattle.cell_library.specs.Views.{CellView}

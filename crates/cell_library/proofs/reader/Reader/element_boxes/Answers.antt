@@ -3,7 +3,7 @@ use Rattle.std.specs.Prelude.{All, IfOk, Vec}
 use Rattle.std.specs.declared.alloc.Global.{Global}
 use Rattle.std.proofs.lemmas.Result.{IfOk-weaker}
 use Rattle.geo_core.specs.declared.squares.Rect.{Rect}
-use Rattle.layout_model.specs.FlatSets.{element_parts, elements_in}
+use Rattle.cell_bodies.specs.LayoutModel.FlatSets.{element_parts, elements_in}
 use Rattle.cell_tree.specs.Hulls.{IsLawfulBox}
 use Rattle.cell_tree.specs.Sizes.{hulls_below, size_at}
 use Rattle.cell_library.specs.ElementBoxes.{AreElementBoxes, HoldParts}

@@ -1,5 +1,5 @@
 use Rattle.std.proofs.Common.{◌≡◌, ◌+◌, suc, length, sym, subst, ◌∙◌, arith}
-use Rattle.layout_model.specs.FlatSets.{parts_in}
+use Rattle.cell_bodies.specs.LayoutModel.FlatSets.{parts_in}
 use Rattle.cell_library.specs.LayoutTrees.{tree_at}
 use Rattle.cell_library.specs.Libraries.{LibraryParts, seen}
 use Rattle.cell_library.specs.PartCounts.{element_count}

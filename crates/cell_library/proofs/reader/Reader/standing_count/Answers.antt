@@ -1,5 +1,5 @@
 use Rattle.std.proofs.Common.{◌≡◌, ◌<◌, length, sym, ap, subst, ◌∙◌}
-use Rattle.layout_model.specs.CellTrees.{standings}
+use Rattle.cell_bodies.specs.LayoutModel.CellTrees.{standings}
 use Rattle.cell_tree.specs.Sizes.{size_at}
 use Rattle.cell_tree.specs.Trees.{Tree}
 use Rattle.cell_library.specs.LayoutTrees.{tree_at}

@@ -1,5 +1,5 @@
 use Rattle.std.proofs.Common.{subst}
-use Rattle.layout_model.specs.FlatSets.{IsTyped}
+use Rattle.cell_bodies.specs.LayoutModel.FlatSets.{IsTyped}
 use Rattle.cell_library.specs.LayoutTrees.{tree_at}
 use Rattle.cell_library.specs.Libraries.{LibraryParts, seen}
 use Rattle.cell_library.proofs.TreeTypes.{library_is_typed}

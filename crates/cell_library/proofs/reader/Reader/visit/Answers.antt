@@ -1,8 +1,8 @@
 use Rattle.std.proofs.Common.{◌≡◌, ℕ, subst}
 use Rattle.std.specs.Prelude.{IfOk}
-use Rattle.finite_sets.specs.Lists.{Lists}
+use Rattle.geo_core.specs.FiniteSets.Lists.{Lists}
 use Rattle.geo_core.specs.Covering.{Covers}
-use Rattle.layout_model.specs.Places.{Place}
+use Rattle.cell_bodies.specs.LayoutModel.Places.{Place}
 use Rattle.cell_library.specs.LayoutTrees.{tree_at}
 use Rattle.cell_library.specs.Libraries.{LibraryParts, seen}
 use Rattle.cell_library.specs.PartTiles.{set_of_part, set_of_tiles, IsPartTileIn}

@@ -4,8 +4,8 @@ use Rattle.std.proofs.lemmas.Result.{on_ok_weaker}
 use Rattle.outside_io.specs.CallPlans.{told_after_call}
 use Rattle.session_model.specs.FileTrees.{StopsAsking}
 use Rattle.session_model.proofs.StopLaws.{refusal_weaker, refused_asking}
-use Rattle.cell_bodies.specs.declared.bodies.CellBody.{CellBody}
-use Rattle.cell_library.specs.Libraries.{seen}
+use Rattle.mag_text.specs.CellBodies.declared.bodies.CellBody.{CellBody}
+use Rattle.mag_text.specs.CellLibrary.Libraries.{seen}
 use Rattle.cell_loading.specs.CellFiles.{file_gives}
 use Rattle.cell_loading.specs.Readings.{cell_files}
 use Rattle.cell_loading.specs.steps.Walks.{names_left}

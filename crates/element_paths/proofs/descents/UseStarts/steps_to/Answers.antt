@@ -1,5 +1,5 @@
 use Rattle.std.proofs.Common.{List, sym, subst, arith}
-use Rattle.cell_library.specs.Libraries.{seen}
+use Rattle.library_trees.specs.CellLibrary.Libraries.{seen}
 use Rattle.element_paths.specs.declared.steps.Step.{Step}
 use Rattle.element_paths.proofs.DescentLaws.{at_end, none_yet, one_more, LeadsOn}
 use Rattle.element_paths.proofs.descents.UseStarts.steps_to.Goals as goal

@@ -1,5 +1,5 @@
 use Rattle.std.proofs.Common.{List, sym, subst}
-use Rattle.finite_sets.specs.Lists.{Lists}
+use Rattle.geo_core.specs.FiniteSets.Lists.{Lists}
 use Rattle.rect_contacts.specs.declared.contacts.Contact.{Contact}
 use Rattle.flood_nodes.specs.TileShares.{IsTileContact}
 use Rattle.flood_nodes.proofs.Renumbering.{contacts_listed}

@@ -1,6 +1,6 @@
 use Rattle.std.proofs.Common.{List, sym, subst, ap, ◌∙◌}
-use Rattle.finite_sets.specs.Lists.{In}
-use Rattle.finite_sets.proofs.Places.{In-slice_get}
+use Rattle.ext_model.specs.FiniteSets.Lists.{In}
+use Rattle.ext_model.proofs.FiniteSets.Places.{In-slice_get}
 use Rattle.full_names.specs.declared.globals.GlobalName.{GlobalName}
 use Rattle.full_names.specs.OwnNames.{texts_of}
 use Rattle.full_names.specs.Globals.{global_texts}

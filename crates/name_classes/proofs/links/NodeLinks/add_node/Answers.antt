@@ -1,7 +1,7 @@
 use Rattle.std.proofs.Common.{◌≡◌, ℕ, true, List, length, take, inl, inr, refl, sym, subst}
 use Rattle.std.proofs.lemmas.Option.{slice_get_read}
-use Rattle.finite_sets.specs.Lists.{In}
-use Rattle.finite_sets.proofs.Places.{In-slice_get, take-slice_get}
+use Rattle.partition.specs.FiniteSets.Lists.{In}
+use Rattle.partition.proofs.FiniteSets.Places.{In-slice_get, take-slice_get}
 use Rattle.ext_model.specs.RecordNames.{names_of}
 use Rattle.name_classes.specs.steps.Paths.{IsEndFrom}
 use Rattle.name_classes.specs.steps.Links.{IsGlobalName}

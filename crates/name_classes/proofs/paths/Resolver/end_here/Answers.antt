@@ -1,7 +1,7 @@
 use Rattle.std.proofs.Common.{List, length, sym, ap, subst, arith}
 use Rattle.std.proofs.lemmas.Option.{slice_get_within}
-use Rattle.element_tree.specs.declared.tree.TreeElement.{TreeElement}
-use Rattle.element_tree.specs.declared.tree.ElementTree.{ElementTree}
+use Rattle.full_names.specs.ElementTree.declared.tree.TreeElement.{TreeElement}
+use Rattle.full_names.specs.ElementTree.declared.tree.ElementTree.{ElementTree}
 use Rattle.full_names.specs.Names.{IsReached, IsSpotOf, LacksName}
 use Rattle.name_classes.proofs.TreeLaws.{element_at, reached}
 use Rattle.name_classes.proofs.PathLaws.{name_here, name_end}

@@ -1,6 +1,6 @@
 use Rattle.std.proofs.Common.{◌<◌, ◌+◌, ◌-◌, length, refl, ap, subst, arith}
-use Rattle.element_tree.specs.declared.tree.TreeElement.{TreeElement}
-use Rattle.element_tree.specs.declared.tree.ElementTree.{ElementTree}
+use Rattle.full_names.specs.ElementTree.declared.tree.TreeElement.{TreeElement}
+use Rattle.full_names.specs.ElementTree.declared.tree.ElementTree.{ElementTree}
 use Rattle.full_names.specs.Names.{IsSpotOf, LacksName}
 use Rattle.name_classes.specs.steps.Paths.{IsBranchOf, LacksUse}
 use Rattle.name_classes.proofs.PathLaws.{walk_start, walk_step, walk_end, walk_lost, walk_stuck, walk_here, walk_inside, walk_reaches}

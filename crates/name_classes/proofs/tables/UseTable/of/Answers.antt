@@ -4,7 +4,7 @@ use Rattle.std.specs.Str.{bytes_eq}
 use Rattle.std.proofs.lemmas.List.{length-take-le}
 use Rattle.std.proofs.lemmas.Option.{slice_get_read}
 use Rattle.std.proofs.lemmas.Map.Text.{hash_map_updates_str}
-use Rattle.finite_sets.proofs.Places.{take-slice_get}
+use Rattle.partition.proofs.FiniteSets.Places.{take-slice_get}
 use Rattle.ext_model.specs.declared.records.UseRec.{UseRec}
 use Rattle.name_classes.specs.steps.UseTables.{IsTableOf, number_of}
 use Rattle.name_classes.proofs.TableLaws.{table_push}

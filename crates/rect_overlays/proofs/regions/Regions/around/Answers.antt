@@ -1,6 +1,6 @@
 use Rattle.std.proofs.Common.{◌≡◌, ℕ, List, length, sym, subst, arith}
 use Rattle.std.specs.List.{range_with_len}
-use Rattle.finite_sets.proofs.Searches.{range_one_more}
+use Rattle.geo_core.proofs.FiniteSets.Searches.{range_one_more}
 use Rattle.rect_overlays.specs.declared.regions.Regions.{Regions}
 use Rattle.rect_overlays.specs.steps.Regions.{IsWholeOf}
 use Rattle.rect_overlays.proofs.Begin.{whole_of_none, whole_more, whole_begins}

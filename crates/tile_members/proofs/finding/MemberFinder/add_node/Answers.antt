@@ -2,8 +2,8 @@ use Rattle.std.proofs.Common.{List, ℕ, Some, subst, ◌≡◌, ◌∙◌}
 use Rattle.std.specs.Prelude.{slice_get}
 use Rattle.std.proofs.lemmas.Option.{slice_get_within}
 use Rattle.layout_model.specs.CellTrees.{standings}
-use Rattle.cell_library.specs.LayoutTrees.{tree_at}
-use Rattle.cell_library.specs.Libraries.{seen}
+use Rattle.element_paths.specs.CellLibrary.LayoutTrees.{tree_at}
+use Rattle.element_paths.specs.CellLibrary.Libraries.{seen}
 use Rattle.tile_members.proofs.FoundTiles.{new_member}
 use Rattle.tile_members.proofs.KnownLaws.{added_or_none, known_more}
 use Rattle.tile_members.proofs.NodesFound.{node_below}

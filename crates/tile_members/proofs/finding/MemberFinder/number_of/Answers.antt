@@ -1,7 +1,7 @@
 use Rattle.std.proofs.Common.{sym, subst}
 use Rattle.std.proofs.lemmas.Result.{IfOk-weaker}
-use Rattle.cell_library.specs.Libraries.{seen}
-use Rattle.library_trees.specs.NamedCells.{named_tree_at}
+use Rattle.element_paths.specs.CellLibrary.Libraries.{seen}
+use Rattle.element_paths.specs.LibraryTrees.NamedCells.{named_tree_at}
 use Rattle.tile_members.specs.TileLaws.{MembersHaveWholeTiles}
 use Rattle.tile_members.specs.steps.KnownMembers.{IsOfMember}
 use Rattle.tile_members.specs.TileMembers.{HasTile}

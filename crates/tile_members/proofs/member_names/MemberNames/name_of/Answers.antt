@@ -1,7 +1,7 @@
 use Rattle.std.proofs.Common.{List, sym, subst}
 use Rattle.std.specs.Prelude.{All, IsSome}
 use Rattle.ext_model.specs.Tables.{ext_of}
-use Rattle.cell_library.specs.Libraries.{LibraryParts, seen}
+use Rattle.element_paths.specs.CellLibrary.Libraries.{LibraryParts, seen}
 use Rattle.element_paths.specs.declared.steps.Step.{Step}
 use Rattle.element_paths.specs.ElementPaths.{AreStepsTo}
 use Rattle.tile_members.proofs.Climbs.{all_kept}

@@ -2,8 +2,8 @@ use Rattle.std.proofs.Common.{List, sym, subst}
 use Rattle.std.specs.Prelude.{All}
 use Rattle.tech_model.specs.declared.raw.Label.{Label}
 use Rattle.tech_model.specs.declared.raw.RawTech.{RawTech}
-use Rattle.names.specs.Labels.{IsLabelOf}
-use Rattle.library_trees.proofs.LabelLaws.{labels_may_name}
+use Rattle.group_meetings.specs.Names.Labels.{IsLabelOf}
+use Rattle.element_paths.proofs.LibraryTrees.LabelLaws.{labels_may_name}
 use Rattle.tile_members.proofs.opened_cells.OpenedCell.of.Goals as goal
 
 pub cell_regions-requires-clause-labels : goal.cell_regions-requires-clause-labels

@@ -1,4 +1,4 @@
-use Rattle.cell_library.specs.Libraries.{seen}
+use Rattle.element_paths.specs.CellLibrary.Libraries.{seen}
 use Rattle.tile_members.proofs.OpenedLaws.{opened_more, opened_same}
 use Rattle.tile_members.proofs.opened_cells.OpenedCells.enter.Goals as goal
 

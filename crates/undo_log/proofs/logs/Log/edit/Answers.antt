@@ -2,8 +2,8 @@ use Rattle.std.proofs.Common.{◌≡◌, List, ◌∷◌, ap, refl, subst, sym, 
 use Rattle.std.specs.Prelude.{Option, Some}
 use Rattle.std.specs.Option.{option_map}
 use Rattle.ext_model.specs.declared.tables.CellKey.{CellKey}
-use Rattle.cell_library.specs.Libraries.{LibraryParts, seen}
-use Rattle.cell_library.specs.Views.{LibraryView}
+use Rattle.edit_script.specs.CellLibrary.Libraries.{LibraryParts, seen}
+use Rattle.edit_script.specs.CellLibrary.Views.{LibraryView}
 use Rattle.edit_script.specs.Editing.{Editing, editing_of}
 use Rattle.edit_script.specs.Edits.{applied}
 use Rattle.undo_log.specs.declared.changes.Change.{Change}
