@@ -3,6 +3,8 @@ ghost use Rattle.std.specs.Prelude.{◌≡◌, ◌<◌, length, All, IfOk, IfSom
 ghost use Rattle.geo_core.specs.Areas.{IsNear, IsSmall};
 ghost use Rattle.names.specs.Labels.{IsLabelOf, IsLayerOf};
 
+use crate::nm::NM;
+use crate::rects::{Bounds, rect};
 use cell_paint::{CellPaint, PaintFault};
 use flood_nodes::regions;
 use geo_core::{PLANE_EDGE, Rect};
@@ -13,20 +15,6 @@ use std::test::Fail;
 use tech_file::read_tech;
 use tech_model::{Label, LayerId, Tech};
 
-/// nMOS: contacts and a composed type. Its types are poly, diff, efet, dfet, pc, dc, metal, pc/metal, dc/metal, numbered
-/// from 1; plane 0 is active and 1 metal.
-const NM: &[u8] = b"\
-tech\n nm\nend\n\
-planes\n active\n metal\nend\n\
-types\n active poly,p,red\n active diff,d,green\n active efet\n active dfet\n active pc\n active dc\n metal metal,m,blue\nend\n\
-contact\n pc poly metal\n dc diff metal\nend\n\
-compose\n compose efet poly diff\nend\n\
-connect\n poly,pc/active,efet,dfet poly,pc/active,efet,dfet\n diff,dc/active diff,dc/active\n \
-metal,pc/metal,dc/metal metal,pc/metal,dc/metal\nend\n\
-extract\n resist poly,pc/active 30000\n resist diff,dc/active 10000\n resist metal,pc/metal,dc/metal 30\n \
-cap poly,pc/active 400 100\n cap diff,dc/active 1000 200\n cap metal,pc/metal,dc/metal 300 100\n \
-fet efet diff,dc efet GND!\n fet dfet diff,dc dfet GND!\nend\n";
-
 /// All squares that the cells of the table have.
 const WINDOW: Rect = Rect {
     xlo: -999,
@@ -34,9 +22,6 @@ const WINDOW: Rect = Rect {
     xhi: 999,
     yhi: 999,
 };
-
-/// The bounds `xlo ylo xhi yhi` of a rectangle.
-type Bounds = [i64; 4];
 
 /// A layer, or `space`, an area and a text.
 type LabelRow = (&'static [u8], Bounds, &'static [u8]);
@@ -212,11 +197,6 @@ const ROWS: &[Row] = &[
         unattached: &[b"a!"],
     },
 ];
-
-fn rect(bounds: Bounds) -> Rect {
-    let [xlo, ylo, xhi, yhi] = bounds;
-    Rect { xlo, ylo, xhi, yhi }
-}
 
 /// The layer of a name, if the technology has it.
 fn layer_of(tech: &Tech, name: &[u8]) -> Option<LayerId>
