@@ -12,19 +12,24 @@ pub const GROUND: u32 = 0;
 /// The node of power.
 pub const POWER: u32 = 1;
 
-/// A switch: its kind, its gate and its two ends.
-pub type Entry = (SwitchKind, u32, u32, u32);
+/// A part of a network.
+#[derive(Clone, Copy)]
+pub enum Part {
+    /// An inverter from its input to its output.
+    Inverter(u32, u32),
+    /// A switch: its kind, its gate and its two ends.
+    Switch(SwitchKind, u32, u32, u32),
+}
 
-/// A network: its switches, the nodes that are inputs, and the sizes that are not 1.
+/// A network: its parts, the nodes that are inputs, and the sizes that are not 1.
 #[derive(Clone, Copy)]
 pub struct Circuit {
-    pub switches: &'static [Entry],
+    pub parts: &'static [Part],
     pub inputs: &'static [u32],
     pub sizes: &'static [(u32, u8)],
 }
 
-/// The switch of an entry.
-pub fn switch((kind, gate, left, right): Entry) -> Switch {
+fn switch(kind: SwitchKind, gate: u32, left: u32, right: u32) -> Switch {
     Switch {
         kind,
         gate,
@@ -36,8 +41,8 @@ pub fn switch((kind, gate, left, right): Entry) -> Switch {
 /// An inverter: the switch that pulls its output down, and the load that pulls it up.
 pub fn inverter(input: u32, output: u32) -> [Switch; 2] {
     [
-        switch((SwitchKind::N, input, GROUND, output)),
-        switch((SwitchKind::D, output, POWER, output)),
+        switch(SwitchKind::N, input, GROUND, output),
+        switch(SwitchKind::D, output, POWER, output),
     ]
 }
 
@@ -75,13 +80,26 @@ fn add_sizes(net: &mut Net, sizes: &[(u32, u8)]) {
     }
 }
 
-fn switches_of(alloc: Global, entries: &[Entry]) -> Result<Vec<Switch>, AllocError> {
-    entries.iter().map(|entry| switch(*entry)).collect(alloc)
+fn switches_of(alloc: Global, parts: &[Part]) -> Result<Vec<Switch>, AllocError> {
+    let mut switches = Vec::with_capacity(alloc, parts.len())?;
+    for part in parts {
+        match *part {
+            Part::Inverter(input, output) => {
+                let [down, up] = inverter(input, output);
+                switches.push(down)?;
+                switches.push(up)?;
+            }
+            Part::Switch(kind, gate, left, right) => switches.push(switch(
+                kind, gate, left, right,
+            ))?,
+        }
+    }
+    Ok(switches)
 }
 
 /// The network of a circuit, or none where a switch of it names a node too many.
 pub fn network(alloc: Global, nodes: usize, circuit: Circuit) -> Result<Option<Net>, AllocError> {
-    let switches = switches_of(alloc, circuit.switches)?;
+    let switches = switches_of(alloc, circuit.parts)?;
     let Some(mut net) = build(alloc, nodes, &switches)? else {
         return Ok(None);
     };

@@ -1,11 +1,13 @@
 //! Small networks, and what becomes of their states.
 
-use crate::circuits::{Circuit, Entry, GROUND, POWER, network};
+use crate::circuits::Part::{Inverter, Switch};
+use crate::circuits::{Circuit, GROUND, POWER, Part, network};
 use std::alloc::{AllocError, Global};
 use std::test::Fail;
 use steady_state::{Settled, settle, step, step_within};
 use switch_net::Level::{One, X, Zero};
-use switch_net::{Level, Net, SwitchKind};
+use switch_net::SwitchKind::{D, N, P};
+use switch_net::{Level, Net};
 
 /// The budget of the phases that settle.
 const BUDGET: u32 = 5;
@@ -33,135 +35,97 @@ struct Row {
 }
 
 /// An inverter from node 2 to node 3.
-const INVERTER: &[Entry] = &[(SwitchKind::N, 2, GROUND, 3), (SwitchKind::D, 3, POWER, 3)];
+const INVERTER: &[Part] = &[Inverter(2, 3)];
 
 /// Inverters from node 2 to node 3 and from node 4 to node 5.
-const TWO_INVERTERS: &[Entry] = &[
-    (SwitchKind::N, 2, GROUND, 3),
-    (SwitchKind::D, 3, POWER, 3),
-    (SwitchKind::N, 4, GROUND, 5),
-    (SwitchKind::D, 5, POWER, 5),
-];
+const TWO_INVERTERS: &[Part] = &[Inverter(2, 3), Inverter(4, 5)];
 
 /// A ring of three inverters.
-const RING: &[Entry] = &[
-    (SwitchKind::N, 4, GROUND, 2),
-    (SwitchKind::D, 2, POWER, 2),
-    (SwitchKind::N, 2, GROUND, 3),
-    (SwitchKind::D, 3, POWER, 3),
-    (SwitchKind::N, 3, GROUND, 4),
-    (SwitchKind::D, 4, POWER, 4),
-];
+const RING: &[Part] = &[Inverter(4, 2), Inverter(2, 3), Inverter(3, 4)];
 
 /// That ring, and an inverter from its node 4 to node 5.
-const RING_AND_INVERTER: &[Entry] = &[
-    (SwitchKind::N, 4, GROUND, 2),
-    (SwitchKind::D, 2, POWER, 2),
-    (SwitchKind::N, 2, GROUND, 3),
-    (SwitchKind::D, 3, POWER, 3),
-    (SwitchKind::N, 3, GROUND, 4),
-    (SwitchKind::D, 4, POWER, 4),
-    (SwitchKind::N, 4, GROUND, 5),
-    (SwitchKind::D, 5, POWER, 5),
+const RING_AND_INVERTER: &[Part] = &[
+    Inverter(4, 2),
+    Inverter(2, 3),
+    Inverter(3, 4),
+    Inverter(4, 5),
 ];
 
 /// That ring, and a nand of its node 2 and of node 7: its output is node 5, and node 6 stands between its switches.
-const RING_AND_NAND: &[Entry] = &[
-    (SwitchKind::N, 4, GROUND, 2),
-    (SwitchKind::D, 2, POWER, 2),
-    (SwitchKind::N, 2, GROUND, 3),
-    (SwitchKind::D, 3, POWER, 3),
-    (SwitchKind::N, 3, GROUND, 4),
-    (SwitchKind::D, 4, POWER, 4),
-    (SwitchKind::D, 5, POWER, 5),
-    (SwitchKind::N, 2, 6, 5),
-    (SwitchKind::N, 7, GROUND, 6),
+const RING_AND_NAND: &[Part] = &[
+    Inverter(4, 2),
+    Inverter(2, 3),
+    Inverter(3, 4),
+    Switch(D, 5, POWER, 5),
+    Switch(N, 2, 6, 5),
+    Switch(N, 7, GROUND, 6),
 ];
 
 /// That ring, and one of nodes 5, 6 and 7.
-const TWO_RINGS: &[Entry] = &[
-    (SwitchKind::N, 4, GROUND, 2),
-    (SwitchKind::D, 2, POWER, 2),
-    (SwitchKind::N, 2, GROUND, 3),
-    (SwitchKind::D, 3, POWER, 3),
-    (SwitchKind::N, 3, GROUND, 4),
-    (SwitchKind::D, 4, POWER, 4),
-    (SwitchKind::N, 7, GROUND, 5),
-    (SwitchKind::D, 5, POWER, 5),
-    (SwitchKind::N, 5, GROUND, 6),
-    (SwitchKind::D, 6, POWER, 6),
-    (SwitchKind::N, 6, GROUND, 7),
-    (SwitchKind::D, 7, POWER, 7),
+const TWO_RINGS: &[Part] = &[
+    Inverter(4, 2),
+    Inverter(2, 3),
+    Inverter(3, 4),
+    Inverter(7, 5),
+    Inverter(5, 6),
+    Inverter(6, 7),
 ];
 
 /// A ring of three inverters that is closed by a switch of node 6 between nodes 4 and 5.
-const RING_WITH_SWITCH: &[Entry] = &[
-    (SwitchKind::N, 5, GROUND, 2),
-    (SwitchKind::D, 2, POWER, 2),
-    (SwitchKind::N, 2, GROUND, 3),
-    (SwitchKind::D, 3, POWER, 3),
-    (SwitchKind::N, 3, GROUND, 4),
-    (SwitchKind::D, 4, POWER, 4),
-    (SwitchKind::N, 6, 4, 5),
+const RING_WITH_SWITCH: &[Part] = &[
+    Inverter(5, 2),
+    Inverter(2, 3),
+    Inverter(3, 4),
+    Switch(N, 6, 4, 5),
 ];
 
 /// An inverter whose output is its input.
-const OWN_INVERTER: &[Entry] = &[(SwitchKind::N, 2, GROUND, 2), (SwitchKind::D, 2, POWER, 2)];
+const OWN_INVERTER: &[Part] = &[Inverter(2, 2)];
 
 /// The same of an n and a p device.
-const OWN_PAIR: &[Entry] = &[(SwitchKind::N, 2, GROUND, 2), (SwitchKind::P, 2, POWER, 2)];
+const OWN_PAIR: &[Part] = &[Switch(N, 2, GROUND, 2), Switch(P, 2, POWER, 2)];
 
 /// Two inverters, of nodes 2 and 3, each of which has the other's output.
-const LATCH: &[Entry] = &[
-    (SwitchKind::N, 2, GROUND, 3),
-    (SwitchKind::D, 3, POWER, 3),
-    (SwitchKind::N, 3, GROUND, 2),
-    (SwitchKind::D, 2, POWER, 2),
-];
+const LATCH: &[Part] = &[Inverter(2, 3), Inverter(3, 2)];
 
 /// Five inverters in a row, from node 2 to node 7.
-const INVERTERS: &[Entry] = &[
-    (SwitchKind::N, 2, GROUND, 3),
-    (SwitchKind::D, 3, POWER, 3),
-    (SwitchKind::N, 3, GROUND, 4),
-    (SwitchKind::D, 4, POWER, 4),
-    (SwitchKind::N, 4, GROUND, 5),
-    (SwitchKind::D, 5, POWER, 5),
-    (SwitchKind::N, 5, GROUND, 6),
-    (SwitchKind::D, 6, POWER, 6),
-    (SwitchKind::N, 6, GROUND, 7),
-    (SwitchKind::D, 7, POWER, 7),
+const INVERTERS: &[Part] = &[
+    Inverter(2, 3),
+    Inverter(3, 4),
+    Inverter(4, 5),
+    Inverter(5, 6),
+    Inverter(6, 7),
 ];
 
 /// Two inverters in a row, of n and p devices, from node 2 to node 4.
-const PAIRS: &[Entry] = &[
-    (SwitchKind::N, 2, GROUND, 3),
-    (SwitchKind::P, 2, POWER, 3),
-    (SwitchKind::N, 3, GROUND, 4),
-    (SwitchKind::P, 3, POWER, 4),
+const PAIRS: &[Part] = &[
+    Switch(N, 2, GROUND, 3),
+    Switch(P, 2, POWER, 3),
+    Switch(N, 3, GROUND, 4),
+    Switch(P, 3, POWER, 4),
 ];
 
 /// A switch of node 2 that joins nodes 3 and 4.
-const JOINED: &[Entry] = &[(SwitchKind::N, 2, 3, 4)];
+const JOINED: &[Part] = &[Switch(N, 2, 3, 4)];
 
 /// Nodes 2, 3 and 4 in a row.
-const ROW: &[Entry] = &[(SwitchKind::D, 0, 2, 3), (SwitchKind::D, 0, 3, 4)];
+const ROW: &[Part] = &[Switch(D, 0, 2, 3), Switch(D, 0, 3, 4)];
 
 /// A p device from power to node 3.
-const PULL_UP: &[Entry] = &[(SwitchKind::P, 2, POWER, 3)];
+const PULL_UP: &[Part] = &[Switch(P, 2, POWER, 3)];
 
 /// A chain of pass transistors from power, the second one's gate being node 2.
-const CHAIN: &[Entry] = &[
-    (SwitchKind::N, POWER, POWER, 3),
-    (SwitchKind::N, 2, 3, 4),
-    (SwitchKind::N, POWER, 4, 5),
+const CHAIN: &[Part] = &[
+    Switch(N, POWER, POWER, 3),
+    Switch(N, 2, 3, 4),
+    Switch(N, POWER, 4, 5),
 ];
 
 /// A switch of node 0 that joins nodes 1 and 2.
-const PAIR: &[Entry] = &[(SwitchKind::N, 0, 1, 2)];
+const PAIR: &[Part] = &[Switch(N, 0, 1, 2)];
 
 /// A switch whose two ends are one node.
-const LOOP: &[Entry] = &[(SwitchKind::N, 0, 1, 1)];
+const LOOP: &[Part] = &[Switch(N, 0, 1, 1)];
 
 const RAILS: &[u32] = &[GROUND, POWER];
 
@@ -171,7 +135,7 @@ const ROWS: &[Row] = &[
     // Two nodes that are joined share their charge: equal ones that disagree are X, and the larger wins.
     Row {
         circuit: Circuit {
-            switches: JOINED,
+            parts: JOINED,
             inputs: DRIVEN,
             sizes: &[],
         },
@@ -181,7 +145,7 @@ const ROWS: &[Row] = &[
     },
     Row {
         circuit: Circuit {
-            switches: JOINED,
+            parts: JOINED,
             inputs: DRIVEN,
             sizes: &[(3, 2)],
         },
@@ -192,7 +156,7 @@ const ROWS: &[Row] = &[
     // Nodes of sizes 1, 2 and 3 in a row: the largest wins over both others together.
     Row {
         circuit: Circuit {
-            switches: ROW,
+            parts: ROW,
             inputs: RAILS,
             sizes: &[(3, 2), (4, 3)],
         },
@@ -202,7 +166,7 @@ const ROWS: &[Row] = &[
     },
     Row {
         circuit: Circuit {
-            switches: ROW,
+            parts: ROW,
             inputs: RAILS,
             sizes: &[(3, 2), (4, 3)],
         },
@@ -213,7 +177,7 @@ const ROWS: &[Row] = &[
     // The pull-down of an inverter is stronger than its load, and blocks it only where it is closed.
     Row {
         circuit: Circuit {
-            switches: INVERTER,
+            parts: INVERTER,
             inputs: DRIVEN,
             sizes: &[],
         },
@@ -223,7 +187,7 @@ const ROWS: &[Row] = &[
     },
     Row {
         circuit: Circuit {
-            switches: INVERTER,
+            parts: INVERTER,
             inputs: DRIVEN,
             sizes: &[],
         },
@@ -233,7 +197,7 @@ const ROWS: &[Row] = &[
     },
     Row {
         circuit: Circuit {
-            switches: INVERTER,
+            parts: INVERTER,
             inputs: DRIVEN,
             sizes: &[],
         },
@@ -244,7 +208,7 @@ const ROWS: &[Row] = &[
     // A p device conducts while its gate is low. Where it may conduct, a node that it would change is X.
     Row {
         circuit: Circuit {
-            switches: PULL_UP,
+            parts: PULL_UP,
             inputs: DRIVEN,
             sizes: &[],
         },
@@ -254,7 +218,7 @@ const ROWS: &[Row] = &[
     },
     Row {
         circuit: Circuit {
-            switches: PULL_UP,
+            parts: PULL_UP,
             inputs: DRIVEN,
             sizes: &[],
         },
@@ -264,7 +228,7 @@ const ROWS: &[Row] = &[
     },
     Row {
         circuit: Circuit {
-            switches: PULL_UP,
+            parts: PULL_UP,
             inputs: DRIVEN,
             sizes: &[],
         },
@@ -275,7 +239,7 @@ const ROWS: &[Row] = &[
     // Behind a gate that is X nodes are X, but where they were at one.
     Row {
         circuit: Circuit {
-            switches: CHAIN,
+            parts: CHAIN,
             inputs: DRIVEN,
             sizes: &[],
         },
@@ -285,7 +249,7 @@ const ROWS: &[Row] = &[
     },
     Row {
         circuit: Circuit {
-            switches: CHAIN,
+            parts: CHAIN,
             inputs: DRIVEN,
             sizes: &[],
         },
@@ -296,7 +260,7 @@ const ROWS: &[Row] = &[
     // A ring of three inverters whose nodes are all low goes up and down with each step. All of them would change in the step past the budget.
     Row {
         circuit: Circuit {
-            switches: RING,
+            parts: RING,
             inputs: RAILS,
             sizes: &[],
         },
@@ -306,7 +270,7 @@ const ROWS: &[Row] = &[
     },
     Row {
         circuit: Circuit {
-            switches: RING,
+            parts: RING,
             inputs: RAILS,
             sizes: &[],
         },
@@ -316,7 +280,7 @@ const ROWS: &[Row] = &[
     },
     Row {
         circuit: Circuit {
-            switches: RING,
+            parts: RING,
             inputs: RAILS,
             sizes: &[],
         },
@@ -327,7 +291,7 @@ const ROWS: &[Row] = &[
     // Where its states differ one node would change, and then each behind a node that is X.
     Row {
         circuit: Circuit {
-            switches: RING,
+            parts: RING,
             inputs: RAILS,
             sizes: &[],
         },
@@ -338,7 +302,7 @@ const ROWS: &[Row] = &[
     // From X it rests.
     Row {
         circuit: Circuit {
-            switches: RING,
+            parts: RING,
             inputs: RAILS,
             sizes: &[],
         },
@@ -349,7 +313,7 @@ const ROWS: &[Row] = &[
     // What hangs on the ring is forced with it, but not where it is held by something else.
     Row {
         circuit: Circuit {
-            switches: RING_AND_INVERTER,
+            parts: RING_AND_INVERTER,
             inputs: RAILS,
             sizes: &[],
         },
@@ -359,7 +323,7 @@ const ROWS: &[Row] = &[
     },
     Row {
         circuit: Circuit {
-            switches: RING_AND_NAND,
+            parts: RING_AND_NAND,
             inputs: &[GROUND, POWER, 7],
             sizes: &[],
         },
@@ -369,7 +333,7 @@ const ROWS: &[Row] = &[
     },
     Row {
         circuit: Circuit {
-            switches: TWO_RINGS,
+            parts: TWO_RINGS,
             inputs: &[GROUND, POWER, 5],
             sizes: &[],
         },
@@ -380,7 +344,7 @@ const ROWS: &[Row] = &[
     // A ring that is X stays so when it is cut.
     Row {
         circuit: Circuit {
-            switches: RING_WITH_SWITCH,
+            parts: RING_WITH_SWITCH,
             inputs: &[GROUND, POWER, 6],
             sizes: &[],
         },
@@ -390,7 +354,7 @@ const ROWS: &[Row] = &[
     },
     Row {
         circuit: Circuit {
-            switches: RING_WITH_SWITCH,
+            parts: RING_WITH_SWITCH,
             inputs: &[GROUND, POWER, 6],
             sizes: &[],
         },
@@ -401,7 +365,7 @@ const ROWS: &[Row] = &[
     // Inverters into themselves.
     Row {
         circuit: Circuit {
-            switches: OWN_INVERTER,
+            parts: OWN_INVERTER,
             inputs: RAILS,
             sizes: &[],
         },
@@ -411,7 +375,7 @@ const ROWS: &[Row] = &[
     },
     Row {
         circuit: Circuit {
-            switches: OWN_PAIR,
+            parts: OWN_PAIR,
             inputs: RAILS,
             sizes: &[],
         },
@@ -422,7 +386,7 @@ const ROWS: &[Row] = &[
     // A latch whose nodes are equal, and one that holds.
     Row {
         circuit: Circuit {
-            switches: LATCH,
+            parts: LATCH,
             inputs: RAILS,
             sizes: &[],
         },
@@ -432,7 +396,7 @@ const ROWS: &[Row] = &[
     },
     Row {
         circuit: Circuit {
-            switches: LATCH,
+            parts: LATCH,
             inputs: RAILS,
             sizes: &[],
         },
@@ -443,7 +407,7 @@ const ROWS: &[Row] = &[
     // A chain from X, with a budget for two of its inverters: the third would become 0, and is X already. The next phase goes on, and the third ends.
     Row {
         circuit: Circuit {
-            switches: INVERTERS,
+            parts: INVERTERS,
             inputs: DRIVEN,
             sizes: &[],
         },
@@ -453,7 +417,7 @@ const ROWS: &[Row] = &[
     },
     Row {
         circuit: Circuit {
-            switches: INVERTERS,
+            parts: INVERTERS,
             inputs: DRIVEN,
             sizes: &[],
         },
@@ -463,7 +427,7 @@ const ROWS: &[Row] = &[
     },
     Row {
         circuit: Circuit {
-            switches: INVERTERS,
+            parts: INVERTERS,
             inputs: DRIVEN,
             sizes: &[],
         },
@@ -474,7 +438,7 @@ const ROWS: &[Row] = &[
     // The same chain at rest, whose input turns over: behind the node that is taken each becomes X in a round of its own.
     Row {
         circuit: Circuit {
-            switches: INVERTERS,
+            parts: INVERTERS,
             inputs: DRIVEN,
             sizes: &[],
         },
@@ -485,7 +449,7 @@ const ROWS: &[Row] = &[
     // Two inverters of n and p devices whose input turns over: the second comes one step late, and settles in the next phase.
     Row {
         circuit: Circuit {
-            switches: PAIRS,
+            parts: PAIRS,
             inputs: DRIVEN,
             sizes: &[],
         },
@@ -495,7 +459,7 @@ const ROWS: &[Row] = &[
     },
     Row {
         circuit: Circuit {
-            switches: PAIRS,
+            parts: PAIRS,
             inputs: DRIVEN,
             sizes: &[],
         },
@@ -506,7 +470,7 @@ const ROWS: &[Row] = &[
     // One step of two nodes that are joined: one of size 2 at 1 wins over one of size 1 at 0, and equal ones are X.
     Row {
         circuit: Circuit {
-            switches: PAIR,
+            parts: PAIR,
             inputs: &[0],
             sizes: &[(1, 2)],
         },
@@ -516,7 +480,7 @@ const ROWS: &[Row] = &[
     },
     Row {
         circuit: Circuit {
-            switches: PAIR,
+            parts: PAIR,
             inputs: &[0],
             sizes: &[(1, 1)],
         },
@@ -527,7 +491,7 @@ const ROWS: &[Row] = &[
     // Two inverters that share only the rails: a step within the vicinity of the first output leaves the second output as it was.
     Row {
         circuit: Circuit {
-            switches: TWO_INVERTERS,
+            parts: TWO_INVERTERS,
             inputs: RAILS,
             sizes: &[],
         },
@@ -538,7 +502,7 @@ const ROWS: &[Row] = &[
     // A seed that stands twice counts once, and an input has no vicinity.
     Row {
         circuit: Circuit {
-            switches: TWO_INVERTERS,
+            parts: TWO_INVERTERS,
             inputs: DRIVEN,
             sizes: &[],
         },
@@ -549,7 +513,7 @@ const ROWS: &[Row] = &[
     // Without a seed nothing changes.
     Row {
         circuit: Circuit {
-            switches: TWO_INVERTERS,
+            parts: TWO_INVERTERS,
             inputs: RAILS,
             sizes: &[],
         },
@@ -560,7 +524,7 @@ const ROWS: &[Row] = &[
     // A switch from a node to itself brings it nothing.
     Row {
         circuit: Circuit {
-            switches: LOOP,
+            parts: LOOP,
             inputs: &[0],
             sizes: &[],
         },
@@ -571,7 +535,7 @@ const ROWS: &[Row] = &[
     // A network without a node is settled.
     Row {
         circuit: Circuit {
-            switches: &[],
+            parts: &[],
             inputs: &[],
             sizes: &[],
         },
