@@ -1,5 +1,5 @@
 -- A part of one tile is given to another, which holds it: along which sides stitches are to be mended then, and that all are right once they are.
-use Rattle.std.proofs.Common.{◌≡◌, inl, inr, ℕ, ℤ, pos, ◌-ℤ◌, ◌≤ℤ◌, ◌<ℤ◌, sym, ◌∙◌, ap, subst, arith}
+use Rattle.std.proofs.Common.{◌≡◌, ◌⊎◌, inl, inr, ℕ, ℤ, pos, ◌-ℤ◌, sym, ◌∙◌, ap, subst, arith}
 use Rattle.std.proofs.lemmas.Int.{ints, by_lt_z}
 use Rattle.geo_core.specs.declared.squares.Square.{Square}
 use Rattle.geo_core.specs.declared.squares.Rect.{Rect}
@@ -7,13 +7,14 @@ use Rattle.geo_core.specs.Areas.{LiesWithin}
 use Rattle.geo_core.specs.Covering.{Covers, IsProper}
 use Rattle.geo_core.specs.Planes.{plane_range, AreSame}
 use Rattle.tile_plane.specs.declared.tiles.Tile.{Tile}
-use Rattle.tile_plane.specs.Tiles.{Tiles, tile_at, IsTaken, Owns, Leads, IsPartition, HasStitches, square_above, square_right, square_below, square_left, value_at}
+use Rattle.tile_plane.specs.Tiles.{Tiles, tile_at, IsTaken, Owns, Leads, IsPartition, HasStitches, value_at}
 use Rattle.tile_plane.specs.Walks.{square_at}
-use Rattle.tile_plane.specs.steps.Cuts.{IsHandedOver}
-use Rattle.tile_plane.specs.steps.Mends.{Side, Above, Right, Below, Left, stitch_of, square_of, AreRedirected, IsUpperSide, IsRightSide, IsLowerSide}
-use Rattle.tile_plane.specs.steps.Mends.{IsLeftSide}
+use Rattle.tile_plane.specs.steps.Cuts.{IsHandedOver, opposite}
+use Rattle.tile_plane.specs.steps.Mends.{Side, Above, Right, Below, Left, stitch_of, square_of, AreRedirected, IsSideOf, IsEnd}
+use Rattle.tile_plane.specs.steps.Sides.{along, end_of, first_of, HasLine, square_beside}
 use Rattle.tile_plane.proofs.TileLaws.{owner_taken}
-use Rattle.tile_plane.proofs.SideLaws.{beside_above, beside_right, beside_below, beside_left}
+use Rattle.tile_plane.proofs.SideLaws.{apart}
+use Rattle.tile_plane.proofs.WalkLaws.{first_square}
 use Rattle.tile_plane.proofs.HandLaws.{covers_or_not, hand_partition, areas_hand}
 use Rattle.tile_plane.proofs.MendedLaws.{square_same}
 use Rattle.tile_plane.proofs.ValueLaws.{same_by_owners}
@@ -29,6 +30,47 @@ own_stitches tiles k stitches taken Above = stitches.above k taken
 own_stitches tiles k stitches taken Right = stitches.right k taken
 own_stitches tiles k stitches taken Below = stitches.below k taken
 own_stitches tiles k stitches taken Left = stitches.left k taken
+
+-- no square beside an area is in it
+beside_off : (side : Side) (area : Rect) (c : ℤ) → Covers area (square_beside side area c) → ⊥
+beside_off Above area c covers = omega (arith, ints)
+beside_off Right area c covers = omega (arith, ints)
+beside_off Below area c covers = omega (arith, ints)
+beside_off Left area c covers = omega (arith, ints)
+
+-- the square of an area beside that to which its stitch leads
+corner : Side → Rect → Square
+corner Above area = square_at (area.xhi -ℤ pos 1) (area.yhi -ℤ pos 1)
+corner Right area = square_at (area.xhi -ℤ pos 1) (area.yhi -ℤ pos 1)
+corner Below area = square_at area.xlo area.ylo
+corner Left area = square_at area.xlo area.ylo
+
+corner_in : (side : Side) (area : Rect) → IsProper area → Covers area (corner side area)
+unfolding corner
+corner_in Above area proper = omega (arith, ints)
+corner_in Right area proper = omega (arith, ints)
+corner_in Below area proper = omega (arith, ints)
+corner_in Left area proper = omega (arith, ints)
+
+-- a stitch into a part comes from it or from beside it
+stitch_from : (side : Side) (part : Rect) (tile : Tile) → IsProper tile.area → Covers part (square_of side tile) → Covers part (corner side tile.area)
+    ⊎ (HasLine side part (first_of side tile.area) × Covers tile.area (square_beside (opposite side) part (first_of side tile.area)))
+unfolding corner
+stitch_from Above part tile proper covers = by_lt_z (tile.area.yhi -ℤ pos 1) part.ylo
+    (λ under. inr ((omega (arith, ints), omega (arith, ints)), omega (arith, ints))) (λ over. inl (omega (arith, ints)))
+stitch_from Right part tile proper covers = by_lt_z (tile.area.xhi -ℤ pos 1) part.xlo
+    (λ under. inr ((omega (arith, ints), omega (arith, ints)), omega (arith, ints))) (λ over. inl (omega (arith, ints)))
+stitch_from Below part tile proper covers = by_lt_z tile.area.ylo part.yhi
+    (λ under. inl (omega (arith, ints))) (λ over. inr ((omega (arith, ints), omega (arith, ints)), omega (arith, ints)))
+stitch_from Left part tile proper covers = by_lt_z tile.area.xlo part.xhi
+    (λ under. inl (omega (arith, ints))) (λ over. inr ((omega (arith, ints), omega (arith, ints)), omega (arith, ints)))
+
+-- none at a side comes from a tile that ends there with the part
+pub end_off : (side : Side) (part : Rect) (tile : Tile) → Covers part (square_of side tile) → end_of side tile.area ≡ end_of side part → ⊥
+end_off Above part tile covers edge = omega (arith, ints)
+end_off Right part tile covers edge = omega (arith, ints)
+end_off Below part tile covers edge = omega (arith, ints)
+end_off Left part tile covers edge = omega (arith, ints)
 
 -- the part, which another tile had, is held by the tile of this number, and no stitch is wrong but those to its squares
 pub record IsGiven (part : Rect) (id : ℕ) (old new : Tiles) : Type 0 where
@@ -53,105 +95,27 @@ module _ {part : Rect} {id : ℕ} {old new : Tiles} (partition : IsPartition old
       → Leads new (stitch_of side (tile_at new k)) (square_of side (tile_at new k))
   stitch_leads k s side owns off = leads_still _ _ (given.leads k (owner_taken new k s owns) side off) off
 
-  pub upper_side : (first : ℕ) → (tile_at new id).area.yhi ≡ part.yhi → Leads old first (square_at (part.xhi -ℤ pos 1) part.yhi) → IsUpperSide new part first id
-  upper_side first edge leads = record {
+  -- the part reaches this side of the holder
+  pub given_side : (side : Side) (first : ℕ) → end_of side (tile_at new id).area ≡ end_of side part
+      → Leads old first (square_beside side part (first_of side part)) → IsSideOf side new part first id
+  given_side side first edge leads = record {
     proper = given.proper;
     within = given.holds;
     edge = edge;
-    leads = leads_still first _ leads (λ covers. omega (arith, ints));
-    along = λ k c low high owns. stitch_leads k _ Left owns (λ covers.
-        let holds = given.holds in
-        let touches = beside_above new id k c given_partition holder_taken (omega (arith, ints)) (omega (arith, ints)) (omega (arith, ints)) in
-        omega (arith, ints));
+    leads = leads_still first _ leads (beside_off side part _);
+    onward = λ k c line owns. stitch_leads k _ (along side) owns (apart c given_partition holder_taken given.holds side edge line owns);
   }
 
-  pub right_side : (first : ℕ) → (tile_at new id).area.xhi ≡ part.xhi → Leads old first (square_at part.xhi (part.yhi -ℤ pos 1)) → IsRightSide new part first id
-  right_side first edge leads = record {
-    proper = given.proper;
-    within = given.holds;
-    edge = edge;
-    leads = leads_still first _ leads (λ covers. omega (arith, ints));
-    along = λ k c low high owns. stitch_leads k _ Below owns (λ covers.
-        let holds = given.holds in
-        let touches = beside_right new id k c given_partition holder_taken (omega (arith, ints)) (omega (arith, ints)) (omega (arith, ints)) in
-        omega (arith, ints));
-  }
-
-  pub lower_side : (first : ℕ) → (tile_at new id).area.ylo ≡ part.ylo → Leads old first (square_at part.xlo (part.ylo -ℤ pos 1)) → IsLowerSide new part first id
-  lower_side first edge leads = record {
-    proper = given.proper;
-    within = given.holds;
-    edge = edge;
-    leads = leads_still first _ leads (λ covers. omega (arith, ints));
-    along = λ k c low high owns. stitch_leads k _ Right owns (λ covers.
-        let holds = given.holds in
-        let touches = beside_below new id k c given_partition holder_taken (omega (arith, ints)) (omega (arith, ints)) (omega (arith, ints)) in
-        omega (arith, ints));
-  }
-
-  pub left_side : (first : ℕ) → (tile_at new id).area.xlo ≡ part.xlo → Leads old first (square_at (part.xlo -ℤ pos 1) part.ylo) → IsLeftSide new part first id
-  left_side first edge leads = record {
-    proper = given.proper;
-    within = given.holds;
-    edge = edge;
-    leads = leads_still first _ leads (λ covers. omega (arith, ints));
-    along = λ k c low high owns. stitch_leads k _ Above owns (λ covers.
-        let holds = given.holds in
-        let touches = beside_left new id k c given_partition holder_taken (omega (arith, ints)) (omega (arith, ints)) (omega (arith, ints)) in
-        omega (arith, ints));
-  }
-
-  -- a stitch from the tile below that leads into the part
-  pub up_into : (k : ℕ) → (tile_at new id).area.yhi ≡ part.yhi → IsTaken new k → Covers part (square_above (tile_at new k))
-      → ((x : ℤ) → part.xlo ≤ℤ x → x <ℤ part.xhi → Owns new k (square_at x (part.ylo -ℤ pos 1)) → (tile_at new k).above ≡ id) → (tile_at new k).above ≡ id
-  up_into k edge taken covers below =
-      let proper = taken.proper in
-      let x = (tile_at new k).area.xhi -ℤ pos 1 in
-      by_lt_z ((tile_at new k).area.yhi -ℤ pos 1) part.ylo
-      (λ under. below x (omega (arith, ints)) (omega (arith, ints)) (omega (arith, ints)))
-      (λ over.
-      let same = given.hand.taker k (square_at x ((tile_at new k).area.yhi -ℤ pos 1)) (omega (arith, ints)) (omega (arith, ints)) in
-      let top = ap (λ (v : ℕ). (tile_at new v).area.yhi) same in
-      absurd (omega (arith, ints)))
-
-  -- one from the tile on the left
-  pub right_into : (k : ℕ) → (tile_at new id).area.xhi ≡ part.xhi → IsTaken new k → Covers part (square_right (tile_at new k))
-      → ((y : ℤ) → part.ylo ≤ℤ y → y <ℤ part.yhi → Owns new k (square_at (part.xlo -ℤ pos 1) y) → (tile_at new k).right ≡ id) → (tile_at new k).right ≡ id
-  right_into k edge taken covers before =
-      let proper = taken.proper in
-      let y = (tile_at new k).area.yhi -ℤ pos 1 in
-      by_lt_z ((tile_at new k).area.xhi -ℤ pos 1) part.xlo
-      (λ under. before y (omega (arith, ints)) (omega (arith, ints)) (omega (arith, ints)))
-      (λ over.
-      let same = given.hand.taker k (square_at ((tile_at new k).area.xhi -ℤ pos 1) y) (omega (arith, ints)) (omega (arith, ints)) in
-      let end = ap (λ (v : ℕ). (tile_at new v).area.xhi) same in
-      absurd (omega (arith, ints)))
-
-  -- one from the tile on the right
-  pub left_into : (k : ℕ) → (tile_at new id).area.xlo ≡ part.xlo → IsTaken new k → Covers part (square_left (tile_at new k))
-      → ((y : ℤ) → part.ylo ≤ℤ y → y <ℤ part.yhi → Owns new k (square_at part.xhi y) → (tile_at new k).left ≡ id) → (tile_at new k).left ≡ id
-  left_into k edge taken covers after =
-      let proper = taken.proper in
-      let y = (tile_at new k).area.ylo in
-      by_lt_z (tile_at new k).area.xlo part.xhi
-      (λ under.
-      let same = given.hand.taker k (square_at (tile_at new k).area.xlo y) (omega (arith, ints)) (omega (arith, ints)) in
-      let end = ap (λ (v : ℕ). (tile_at new v).area.xlo) same in
-      absurd (omega (arith, ints)))
-      (λ over. after y (omega (arith, ints)) (omega (arith, ints)) (omega (arith, ints)))
-
-  -- one from the tile above
-  pub down_into : (k : ℕ) → (tile_at new id).area.ylo ≡ part.ylo → IsTaken new k → Covers part (square_below (tile_at new k))
-      → ((x : ℤ) → part.xlo ≤ℤ x → x <ℤ part.xhi → Owns new k (square_at x part.yhi) → (tile_at new k).below ≡ id) → (tile_at new k).below ≡ id
-  down_into k edge taken covers above =
-      let proper = taken.proper in
-      let x = (tile_at new k).area.xlo in
-      by_lt_z (tile_at new k).area.ylo part.yhi
-      (λ under.
-      let same = given.hand.taker k (square_at x (tile_at new k).area.ylo) (omega (arith, ints)) (omega (arith, ints)) in
-      let end = ap (λ (v : ℕ). (tile_at new v).area.ylo) same in
-      absurd (omega (arith, ints)))
-      (λ over. above x (omega (arith, ints)) (omega (arith, ints)) (omega (arith, ints)))
+  -- a stitch at this side into the part, which comes from beside it
+  pub stitch_into : (side : Side) (k : ℕ) → end_of side (tile_at new id).area ≡ end_of side part → IsTaken new k → Covers part (square_of side (tile_at new k))
+      → ((c : ℤ) → HasLine side part c → Owns new k (square_beside (opposite side) part c) → stitch_of side (tile_at new k) ≡ id)
+      → stitch_of side (tile_at new k) ≡ id
+  stitch_into side k edge taken covers before = elim (stitch_from side part (tile_at new k) taken.proper covers) [
+    | inl inside ↦ (
+        let same = given.hand.taker k _ (record { covers = corner_in side (tile_at new k).area taken.proper }) inside in
+        absurd (end_off side part (tile_at new k) covers (ap (λ (v : ℕ). end_of side (tile_at new v).area) same ∙ edge)))
+    | inr beside ↦ before _ beside.0 (record { covers = beside.1 })
+  ]
 
   -- all stitches to squares of the part are redirected to the holder
   module _ {last : Tiles} (redirected : AreRedirected part id new last) where
@@ -186,3 +150,18 @@ module _ {part : Rect} {id : ℕ} {old new : Tiles} (partition : IsPartition old
       | inl covers ↦ (donor, had s covers, ap (λ (v : ℕ). (tile_at last v).value) (last_hand.taker k s owns covers) ∙ value)
       | inr off ↦ (let was = last_hand.source k s owns off in (k, was, values k (owner_taken old k s was) (owner_taken last k s owns)))
     ])
+
+-- the part is an end of the holder, whose stitches are right
+module _ {end : Tile} {id : ℕ} {old new : Tiles} (partition : IsPartition old) (given : IsGiven end.area id old new)
+    (leads : LeadsElsewhere end.area old end) where
+  own_side : (side : Side) → end_of side (tile_at new id).area ≡ end_of side end.area → IsSideOf side new end.area (stitch_of side end) id
+  own_side side edge = given_side partition given side _ edge (subst (Leads old (stitch_of side end)) (first_square side end)
+      (leads side (λ covers. beside_off side end.area _ (subst (Covers end.area) (first_square side end) covers))))
+
+  pub given_end : (side : Side) → end_of side (tile_at new id).area ≡ end_of side end.area
+      → end_of (along side) (tile_at new id).area ≡ end_of (along side) end.area
+      → end_of (opposite (along side)) (tile_at new id).area ≡ end_of (opposite (along side)) end.area
+      → ((k : ℕ) → IsTaken new k → Covers end.area (square_of side (tile_at new k)) → stitch_of side (tile_at new k) ≡ id)
+      → IsEnd side new end id
+  given_end side outer near far inner =
+      record { outer = own_side side outer; near = own_side (along side) near; far = own_side (opposite (along side)) far; inner = inner }

@@ -10,11 +10,12 @@ use Rattle.geo_core.specs.Planes.{AreSame}
 use Rattle.tile_plane.specs.declared.tiles.Tile.{Tile}
 use Rattle.tile_plane.specs.Tiles.{Tiles, tile_at, IsTaken, Owns, IsPartition, HasStitches, IsPut, value_at}
 use Rattle.tile_plane.specs.Walks.{square_at}
-use Rattle.tile_plane.specs.steps.Cuts.{AreAlike, IsHandedOver, IsJoinedUp, IsJoinedRight}
-use Rattle.tile_plane.specs.steps.Mends.{Above, Right, Below, Left, AreRedirected, IsUpperSide, IsRightSide, IsUpperEnd, IsRightEnd}
+use Rattle.tile_plane.specs.steps.Cuts.{AreAlike, IsHandedOver, opposite, stretched, IsJoined}
+use Rattle.tile_plane.specs.steps.Mends.{Side, Above, Right, Below, Left, AreRedirected, IsEnd}
+use Rattle.tile_plane.specs.steps.Sides.{along, end_of, HasLine, square_beside, IsUpward, StandsAt}
 use Rattle.tile_plane.proofs.TileLaws.{owner_taken}
 use Rattle.tile_plane.proofs.RowCuts.{IsSamePlane}
-use Rattle.tile_plane.proofs.GivenLaws.{LeadsElsewhere, own_stitches, IsGiven, given_partition, upper_side, right_side, lower_side, left_side, up_into, right_into, last_partition, last_stitches, last_values}
+use Rattle.tile_plane.proofs.GivenLaws.{LeadsElsewhere, own_stitches, IsGiven, end_off, given_partition, stitch_into, given_end, last_partition, last_stitches, last_values}
 
 -- the first tile is the whole of both now
 pub record IsJoin (old new : Tiles) (id other : ℕ) (whole : Tile) : Type 0 where
@@ -115,6 +116,11 @@ pub record IsRound (first second : Rect) : Type 0 where
   pub second_in : (s : Square) → Covers second s → Covers (rounded first second) s
   pub only : (s : Square) → Covers (rounded first second) s → (Covers second s → ⊥) → Covers first s
 
+pub whole_proper : {first second : Rect} → IsRound first second → IsProper first → IsProper (rounded first second)
+whole_proper {first = first} round proper =
+    let low = round.first_in (square_at first.xlo first.ylo) (omega (arith, ints)) in
+    omega (arith, ints)
+
 -- the whole of two tiles
 abbrev pub whole_of : Tile → Tile → Tile
 whole_of tile part = record tile { area = rounded tile.area part.area; above = part.above; right = part.right }
@@ -160,12 +166,6 @@ module _ {old mid new : Tiles} {id other : ℕ} {tile part whole : Tile} (joinin
   pub whole_partition : IsPartition new
   whole_partition = given_partition joining.partition whole_given
 
-  whole_above : IsUpperSide new (tile_at old other).area (tile_at old other).above id
-  whole_above = upper_side joining.partition whole_given _ (ap (λ (t : Tile). t.area.yhi) whole_join.here) (joining.stitches.above other joining.other_taken)
-
-  whole_right : IsRightSide new (tile_at old other).area (tile_at old other).right id
-  whole_right = right_side joining.partition whole_given _ (ap (λ (t : Tile). t.area.xhi) whole_join.here) (joining.stitches.right other joining.other_taken)
-
   -- a tile with a square of the whole ends where the second does at the latest
   whole_ends : (k : ℕ) (s : Square) → Owns new k s → Covers (rounded (tile_at old id).area (tile_at old other).area) s
       → (tile_at new k).area ≡ rounded (tile_at old id).area (tile_at old other).area
@@ -196,108 +196,81 @@ module _ {old mid new : Tiles} {id other : ℕ} {tile part whole : Tile} (joinin
     whole_others : (k : ℕ) → k ≢ id → k ≢ other → AreAlike (tile_at old k) (tile_at last k)
     whole_others = join_others joining.partition whole_join whole_given whole_redirected
 
--- the second tile stands upon the first, in the same columns
-pub record StandsUpon (old : Tiles) (id other : ℕ) : Type 0 where
-  pub taken : IsTaken old id
-  pub other_taken : IsTaken old other
-  pub meet : (tile_at old other).area.ylo ≡ (tile_at old id).area.yhi
-  pub low : (tile_at old other).area.xlo ≡ (tile_at old id).area.xlo
-  pub high : (tile_at old other).area.xhi ≡ (tile_at old id).area.xhi
+-- an area does not end where it begins
+ends_apart : (side : Side) (area : Rect) → IsProper area → end_of (opposite side) area ≡ end_of side area → ⊥
+ends_apart Above area proper same = omega (arith, ints)
+ends_apart Right area proper same = omega (arith, ints)
+ends_apart Below area proper same = omega (arith, ints)
+ends_apart Left area proper same = omega (arith, ints)
 
-module _ {old : Tiles} {id other : ℕ} (stands : StandsUpon old id other) where
-  pub up_two : id ≢ other
-  up_two e = let same = ap (λ (v : ℕ). (tile_at old v).area.ylo) e in let meet = stands.meet in let proper = stands.taken.proper in omega (arith, ints)
+-- two areas of which the second stands upon the first or to its right
+module _ (first second : Rect) where
+  -- what goes round both ends where the second does
+  round_ends : (side : Side) → IsUpward side → end_of (along side) second ≡ end_of (along side) first
+      → (end_of side (rounded first second) ≡ end_of side second) × (end_of (along side) (rounded first second) ≡ end_of (along side) second)
+      × (end_of (opposite (along side)) (rounded first second) ≡ end_of (opposite (along side)) second)
+  round_ends Above up low = (refl, sym low, refl)
+  round_ends Right up low = (refl, sym low, refl)
+  round_ends Below up low = absurd up
+  round_ends Left up low = absurd up
 
-  pub up_round : IsRound (tile_at old id).area (tile_at old other).area
-  up_round =
-      let meet = stands.meet in
-      let low = stands.low in
-      let high = stands.high in
-      let proper = stands.taken.proper in
-      let more = stands.other_taken.proper in
-      record {
-        first_in = λ s covers. omega (arith, ints);
-        second_in = λ s covers. omega (arith, ints);
-        only = λ s covers off. by_lt_z s.y (tile_at old id).area.yhi (λ under. omega (arith, ints)) (λ over. absurd (off (omega (arith, ints))));
-      }
+  round_stretched : (side : Side) → IsUpward side → end_of (opposite (along side)) second ≡ end_of (opposite (along side)) first
+      → rounded first second ≡ stretched side first second
+  round_stretched Above up high = ap (λ (z : ℤ). record (rounded first second) { xhi = z }) high
+  round_stretched Right up high = ap (λ (z : ℤ). record (rounded first second) { yhi = z }) high
+  round_stretched Below up high = absurd up
+  round_stretched Left up high = absurd up
 
-  -- it is the end of the whole
+  round_at : (side : Side) → IsUpward side → IsProper first → IsProper second → end_of (opposite side) second ≡ end_of side first
+      → end_of (along side) second ≡ end_of (along side) first → end_of (opposite (along side)) second ≡ end_of (opposite (along side)) first
+      → IsRound first second
+  round_at Above up proper more meet low high = record {
+    first_in = λ s covers. omega (arith, ints);
+    second_in = λ s covers. omega (arith, ints);
+    only = λ s covers off. by_lt_z s.y first.yhi (λ under. omega (arith, ints)) (λ over. absurd (off (omega (arith, ints))));
+  }
+  round_at Right up proper more meet low high = record {
+    first_in = λ s covers. omega (arith, ints);
+    second_in = λ s covers. omega (arith, ints);
+    only = λ s covers off. by_lt_z s.x first.xhi (λ before. omega (arith, ints)) (λ after. absurd (off (omega (arith, ints))));
+  }
+  round_at Below up proper more meet low high = absurd up
+  round_at Left up proper more meet low high = absurd up
+
+  -- what touches the second where both meet is the first
+  round_beside : (side : Side) → IsUpward side → IsProper first → IsProper second → end_of (opposite side) second ≡ end_of side first
+      → end_of (along side) second ≡ end_of (along side) first → (c : ℤ) → HasLine side second c
+      → Covers (rounded first second) (square_beside (opposite side) second c)
+  round_beside Above up proper more meet low c line = omega (arith, ints)
+  round_beside Right up proper more meet low c line = omega (arith, ints)
+  round_beside Below up proper more meet low c line = absurd up
+  round_beside Left up proper more meet low c line = absurd up
+
+module _ {side : Side} {old : Tiles} {id other : ℕ} (up : IsUpward side) (stands : StandsAt side old id other) where
+  pub join_two : id ≢ other
+  join_two e = ends_apart side _ stands.taken.proper (ap (λ (v : ℕ). end_of (opposite side) (tile_at old v).area) e ∙ stands.meet)
+
+  pub join_round : IsRound (tile_at old id).area (tile_at old other).area
+  join_round = round_at _ _ side up stands.taken.proper stands.other_taken.proper stands.meet stands.low stands.high
+
+  -- the second is the end of the whole
   module _ {mid new : Tiles} {tile part whole : Tile} (joining : IsJoining old mid new id other tile part whole) where
-    pub up_end : IsUpperEnd new part id
-    up_end = subst (λ (t : Tile). IsUpperEnd new t id) (sym joining.is_part) (record {
-      above = whole_above joining;
-      right = whole_right joining;
-      left = left_side joining.partition (whole_given joining) _ (ap (λ (t : Tile). t.area.xlo) (whole_join joining).here ∙ sym stands.low)
-          (joining.stitches.left other joining.other_taken);
-      below = λ k its covers. up_into joining.partition (whole_given joining) k (ap (λ (t : Tile). t.area.yhi) (whole_join joining).here) its covers
-          (λ w from to owns. absurd (
-          let meet = stands.meet in
-          let low = stands.low in
-          let high = stands.high in
-          let proper = stands.taken.proper in
-          let more = stands.other_taken.proper in
-          let top = ap (λ (r : Rect). r.yhi) (whole_ends joining k (square_at w ((tile_at old other).area.ylo -ℤ pos 1)) owns (omega (arith, ints))) in
-          let proper_end = its.proper in
-          omega (arith, ints)));
-    })
+    ends : (s : Side) → end_of s (rounded (tile_at old id).area (tile_at old other).area) ≡ end_of s (tile_at old other).area
+        → end_of s (tile_at new id).area ≡ end_of s (tile_at old other).area
+    ends s e = ap (λ (t : Tile). end_of s t.area) (whole_join joining).here ∙ e
 
-    pub up_joined : {last : Tiles} → AreRedirected part.area id new last → IsJoinedUp id other old last
-    up_joined all = record {
+    pub join_end : IsEnd side new part id
+    join_end = let e = round_ends _ _ side up stands.low in subst (λ (t : Tile). IsEnd side new t id) (sym joining.is_part) (given_end joining.partition
+        (whole_given joining) (λ s off. own_stitches old other joining.stitches joining.other_taken s) side (ends side e.0) (ends (along side) e.1)
+        (ends (opposite (along side)) e.2)
+        (λ k its covers. stitch_into joining.partition (whole_given joining) side k (ends side e.0) its covers
+        (λ c line owns. absurd (end_off side _ (tile_at new k) covers (ap (end_of side) (whole_ends joining k _ owns
+        (round_beside _ _ side up stands.taken.proper stands.other_taken.proper stands.meet stands.low c line)) ∙ e.0)))))
+
+    pub join_joined : {last : Tiles} → AreRedirected part.area id new last → IsJoined side id other old last
+    join_joined all = record {
       gone = whole_gone joining all;
-      whole = (whole_alike joining all).area ∙ ap (λ (z : ℤ). record (rounded (tile_at old id).area (tile_at old other).area) { xhi = z }) stands.high;
-      value = (whole_alike joining all).value;
-      others = whole_others joining all;
-    }
-
--- the second tile stands right of the first, in the same rows
-pub record StandsRight (old : Tiles) (id other : ℕ) : Type 0 where
-  pub taken : IsTaken old id
-  pub other_taken : IsTaken old other
-  pub meet : (tile_at old other).area.xlo ≡ (tile_at old id).area.xhi
-  pub low : (tile_at old other).area.ylo ≡ (tile_at old id).area.ylo
-  pub high : (tile_at old other).area.yhi ≡ (tile_at old id).area.yhi
-
-module _ {old : Tiles} {id other : ℕ} (stands : StandsRight old id other) where
-  pub right_two : id ≢ other
-  right_two e = let same = ap (λ (v : ℕ). (tile_at old v).area.xlo) e in let meet = stands.meet in let proper = stands.taken.proper in omega (arith, ints)
-
-  pub right_round : IsRound (tile_at old id).area (tile_at old other).area
-  right_round =
-      let meet = stands.meet in
-      let low = stands.low in
-      let high = stands.high in
-      let proper = stands.taken.proper in
-      let more = stands.other_taken.proper in
-      record {
-        first_in = λ s covers. omega (arith, ints);
-        second_in = λ s covers. omega (arith, ints);
-        only = λ s covers off. by_lt_z s.x (tile_at old id).area.xhi (λ under. omega (arith, ints)) (λ over. absurd (off (omega (arith, ints))));
-      }
-
-  -- it is the end of the whole
-  module _ {mid new : Tiles} {tile part whole : Tile} (joining : IsJoining old mid new id other tile part whole) where
-    pub right_end : IsRightEnd new part id
-    right_end = subst (λ (t : Tile). IsRightEnd new t id) (sym joining.is_part) (record {
-      above = whole_above joining;
-      right = whole_right joining;
-      below = lower_side joining.partition (whole_given joining) _ (ap (λ (t : Tile). t.area.ylo) (whole_join joining).here ∙ sym stands.low)
-          (joining.stitches.below other joining.other_taken);
-      left = λ k its covers. right_into joining.partition (whole_given joining) k (ap (λ (t : Tile). t.area.xhi) (whole_join joining).here) its covers
-          (λ w from to owns. absurd (
-          let meet = stands.meet in
-          let low = stands.low in
-          let high = stands.high in
-          let proper = stands.taken.proper in
-          let more = stands.other_taken.proper in
-          let top = ap (λ (r : Rect). r.xhi) (whole_ends joining k (square_at ((tile_at old other).area.xlo -ℤ pos 1) w) owns (omega (arith, ints))) in
-          let proper_end = its.proper in
-          omega (arith, ints)));
-    })
-
-    pub right_joined : {last : Tiles} → AreRedirected part.area id new last → IsJoinedRight id other old last
-    right_joined all = record {
-      gone = whole_gone joining all;
-      whole = (whole_alike joining all).area ∙ ap (λ (z : ℤ). record (rounded (tile_at old id).area (tile_at old other).area) { yhi = z }) stands.high;
+      whole = (whole_alike joining all).area ∙ round_stretched _ _ side up stands.high;
       value = (whole_alike joining all).value;
       others = whole_others joining all;
     }

@@ -9,9 +9,8 @@ use Rattle.geo_core.specs.Planes.{plane_range}
 use Rattle.tile_plane.specs.declared.tiles.Tile.{Tile}
 use Rattle.tile_plane.specs.Tiles.{Tiles, tile_at, IsTaken, Owns, IsPartition, IsPut, square_above, square_below}
 use Rattle.tile_plane.specs.Walks.{square_at}
-use Rattle.tile_plane.specs.steps.Mends.{Side, Above, Right, Below, Left, stitch_of, square_of, with_stitch, LeadTo, IsUpperSide, IsRightSide, IsLowerSide}
+use Rattle.tile_plane.specs.steps.Mends.{Side, Above, Right, Below, Left, stitch_of, square_of, with_stitch, LeadTo, IsSideOf}
 use Rattle.tile_plane.specs.steps.Cuts.{opposite}
-use Rattle.tile_plane.specs.steps.Mends.{IsLeftSide, IsSideOf}
 use Rattle.tile_plane.specs.steps.Sides.{along, GoesOn, IsLast, end_of, ComesBefore}
 use Rattle.tile_plane.proofs.TileLaws.{owner_taken}
 use Rattle.tile_plane.proofs.SideLaws.{strangers, beside_above, beside_below}
@@ -112,7 +111,7 @@ pub record IsMendingUpper (old new : Tiles) (area : Rect) (id next : ℕ) (c : �
   pub bound : c ≤ℤ area.xhi
   pub at : area.xlo <ℤ c → Owns old next (square_at (c -ℤ pos 1) area.yhi)
 
-module _ {old : Tiles} {area : Rect} {first id : ℕ} (partition : IsPartition old) (side : IsUpperSide old area first id) where
+module _ {old : Tiles} {area : Rect} {first id : ℕ} (partition : IsPartition old) (side : IsSideOf Above old area first id) where
   upper_taken : IsTaken old id
   upper_taken = let proper = side.proper in let within = side.within in omega (arith, ints)
 
@@ -205,7 +204,7 @@ module _ {old : Tiles} {area : Rect} {first id : ℕ} (partition : IsPartition o
           omega (arith, ints)) in
           let around = partition.within id holder in
           let beside = partition.within next (owner_taken old next _ owns) in
-          let leads = side.along next (c -ℤ pos 1) (omega (arith, ints)) (omega (arith, ints)) owns in
+          let leads = side.onward next (c -ℤ pos 1) (omega (arith, ints), omega (arith, ints)) owns in
           record {
             mended = mending_goes_on Below area id old new put next c tile.area.xlo walk.mended is_put (omega (arith, ints)) (omega (arith, ints))
                 (λ k passed. omega (arith, ints))
@@ -219,7 +218,7 @@ module _ {old : Tiles} {area : Rect} {first id : ℕ} (partition : IsPartition o
 abbrev pub IsMendingRight : Tiles → Tiles → Rect → ℕ → ℕ → ℤ → Type 0
 IsMendingRight old new area id next c = IsMendingUpper (transposed old) (transposed new) (swap_rect area) id next c
 
-module _ {old : Tiles} {area : Rect} {first id : ℕ} (partition : IsPartition old) (side : IsRightSide old area first id) where
+module _ {old : Tiles} {area : Rect} {first id : ℕ} (partition : IsPartition old) (side : IsSideOf Right old area first id) where
   pub right_begins : area.xhi <ℤ plane_range.xhi → IsMendingRight old old area id first area.yhi
   right_begins inside = upper_begins (partition_over old partition) (right_over side) inside
 
@@ -252,7 +251,7 @@ pub record IsMendingLower (old new : Tiles) (area : Rect) (id next : ℕ) (c : �
   pub bound : area.xlo ≤ℤ c
   pub at : c <ℤ area.xhi → Owns old next (square_at c (area.ylo -ℤ pos 1))
 
-module _ {old : Tiles} {area : Rect} {first id : ℕ} (partition : IsPartition old) (side : IsLowerSide old area first id) where
+module _ {old : Tiles} {area : Rect} {first id : ℕ} (partition : IsPartition old) (side : IsSideOf Below old area first id) where
   lower_taken : IsTaken old id
   lower_taken = let proper = side.proper in let within = side.within in omega (arith, ints)
 
@@ -345,7 +344,7 @@ module _ {old : Tiles} {area : Rect} {first id : ℕ} (partition : IsPartition o
           omega (arith, ints)) in
           let around = partition.within id holder in
           let beside = partition.within next (owner_taken old next _ owns) in
-          let leads = side.along next c (omega (arith, ints)) (omega (arith, ints)) owns in
+          let leads = side.onward next c (omega (arith, ints), omega (arith, ints)) owns in
           record {
             mended = mending_goes_on Above area id old new put next c tile.area.xhi walk.mended is_put (omega (arith, ints)) (omega (arith, ints))
                 (λ k passed. omega (arith, ints))
@@ -359,7 +358,7 @@ module _ {old : Tiles} {area : Rect} {first id : ℕ} (partition : IsPartition o
 abbrev pub IsMendingLeft : Tiles → Tiles → Rect → ℕ → ℕ → ℤ → Type 0
 IsMendingLeft old new area id next c = IsMendingLower (transposed old) (transposed new) (swap_rect area) id next c
 
-module _ {old : Tiles} {area : Rect} {first id : ℕ} (partition : IsPartition old) (side : IsLeftSide old area first id) where
+module _ {old : Tiles} {area : Rect} {first id : ℕ} (partition : IsPartition old) (side : IsSideOf Left old area first id) where
   pub left_begins : plane_range.xlo <ℤ area.xlo → IsMendingLeft old old area id first area.ylo
   left_begins inside = lower_begins (partition_over old partition) (left_over side) inside
 

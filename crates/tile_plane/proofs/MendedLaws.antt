@@ -1,17 +1,18 @@
--- Mending three sides of an area one after the other redirects all stitches into it.
-use Rattle.std.proofs.Common.{◌≡◌, ◌⊎◌, inl, inr, ℕ, ℤ, pos, ◌-ℤ◌, ◌≤ℤ◌, ◌<ℤ◌, refl, sym, ◌∙◌, ap, subst, arith}
+-- Mending the three sides of an end one after the other redirects all stitches into it.
+use Rattle.std.proofs.Common.{◌≡◌, ◌⊎◌, inl, inr, ℕ, ℤ, pos, ◌-ℤ◌, refl, sym, ◌∙◌, ap, subst, arith}
 use Rattle.std.proofs.lemmas.Int.{ints}
 use Rattle.geo_core.specs.declared.squares.Square.{Square}
 use Rattle.geo_core.specs.declared.squares.Rect.{Rect}
 use Rattle.geo_core.specs.Areas.{LiesWithin}
 use Rattle.geo_core.specs.Covering.{Covers, IsProper}
 use Rattle.tile_plane.specs.declared.tiles.Tile.{Tile}
-use Rattle.tile_plane.specs.Tiles.{Tiles, tile_at, IsTaken, Owns, Leads, IsPartition, square_above, square_right, square_below, square_left}
+use Rattle.tile_plane.specs.Tiles.{Tiles, tile_at, IsTaken, Owns, Leads, IsPartition}
 use Rattle.tile_plane.specs.Walks.{square_at}
-use Rattle.tile_plane.specs.steps.Cuts.{AreAlike}
-use Rattle.tile_plane.specs.steps.Mends.{Side, Above, Right, Below, Left, stitch_of, square_of, with_stitch, LeadTo, AreRedirected, IsUpperSide, IsRightSide, IsLowerSide, IsLeftSide}
+use Rattle.tile_plane.specs.steps.Cuts.{AreAlike, opposite}
+use Rattle.tile_plane.specs.steps.Mends.{Side, Above, Right, Below, Left, stitch_of, square_of, with_stitch, LeadTo, AreRedirected, IsSideOf, IsEnd}
+use Rattle.tile_plane.specs.steps.Sides.{along, end_of, HasLine, square_beside}
 use Rattle.tile_plane.proofs.HandLaws.{partition_moves}
-use Rattle.tile_plane.proofs.SideLaws.{strangers}
+use Rattle.tile_plane.proofs.SideLaws.{apart}
 
 -- the tiles have the same areas
 abbrev pub HaveSameAreas : Tiles → Tiles → Type 0
@@ -70,109 +71,17 @@ module _ (tiles others : Tiles) (areas : HaveSameAreas tiles others) where
       (subst (Leads tiles (stitch_of side (tile_at tiles k))) (sym (square_same side (tile_at others k) (tile_at tiles k) (areas k))) leads))
 
   -- and a side along which the stitches stay
-  module _ (area : Rect) (first id : ℕ) where
-    within_moves : LiesWithin area (tile_at tiles id).area → LiesWithin area (tile_at others id).area
-    within_moves = subst (LiesWithin area) (sym (areas id))
-
-    upper_moves : IsUpperSide tiles area first id
-        → ((k : ℕ) (c : ℤ) → area.xlo ≤ℤ c → c <ℤ area.xhi → Owns tiles k (square_at c area.yhi) → (tile_at others k).left ≡ (tile_at tiles k).left)
-        → IsUpperSide others area first id
-    upper_moves side same = record {
-      proper = side.proper;
-      within = within_moves side.within;
-      edge = ap (λ (r : Rect). r.yhi) (areas id) ∙ side.edge;
-      leads = leads_moves first _ side.leads;
-      along = λ k c low high owns. let its = owns_back k _ owns in stitch_moves Left k (same k c low high its) (side.along k c low high its);
-    }
-
-    right_moves : IsRightSide tiles area first id
-        → ((k : ℕ) (c : ℤ) → area.ylo ≤ℤ c → c <ℤ area.yhi → Owns tiles k (square_at area.xhi c) → (tile_at others k).below ≡ (tile_at tiles k).below)
-        → IsRightSide others area first id
-    right_moves side same = record {
-      proper = side.proper;
-      within = within_moves side.within;
-      edge = ap (λ (r : Rect). r.xhi) (areas id) ∙ side.edge;
-      leads = leads_moves first _ side.leads;
-      along = λ k c low high owns. let its = owns_back k _ owns in stitch_moves Below k (same k c low high its) (side.along k c low high its);
-    }
-
-    lower_moves : IsLowerSide tiles area first id
-        → ((k : ℕ) (c : ℤ) → area.xlo ≤ℤ c → c <ℤ area.xhi → Owns tiles k (square_at c (area.ylo -ℤ pos 1))
-        → (tile_at others k).right ≡ (tile_at tiles k).right)
-        → IsLowerSide others area first id
-    lower_moves side same = record {
-      proper = side.proper;
-      within = within_moves side.within;
-      edge = ap (λ (r : Rect). r.ylo) (areas id) ∙ side.edge;
-      leads = leads_moves first _ side.leads;
-      along = λ k c low high owns. let its = owns_back k _ owns in stitch_moves Right k (same k c low high its) (side.along k c low high its);
-    }
-
-    left_moves : IsLeftSide tiles area first id → ((k : ℕ) → (tile_at others k).above ≡ (tile_at tiles k).above) → IsLeftSide others area first id
-    left_moves side same = record {
-      proper = side.proper;
-      within = within_moves side.within;
-      edge = ap (λ (r : Rect). r.xlo) (areas id) ∙ side.edge;
-      leads = leads_moves first _ side.leads;
-      along = λ k c low high owns. stitch_moves Above k (same k) (side.along k c low high (owns_back k _ owns));
-    }
-
--- a tile beside the upper side of an area has no stitch to the left that leads into it
-upper_apart : (tiles : Tiles) (area : Rect) (first id k : ℕ) (c : ℤ) → IsPartition tiles → IsUpperSide tiles area first id → area.xlo ≤ℤ c → c <ℤ area.xhi
-    → Owns tiles k (square_at c area.yhi) → Covers area (square_left (tile_at tiles k)) → ⊥
-upper_apart tiles area first id k c partition side low high owns covers =
-    let within = side.within in
-    let proper = side.proper in
-    let edge = side.edge in
-    let at = owns.covers in
-    let both = strangers tiles k id (square_at c (area.yhi -ℤ pos 1)) (square_at c area.yhi) partition (omega (arith, ints)) (omega (arith, ints)) owns in
-    omega (arith, ints)
-
--- a tile beside the right side has no stitch down that leads into it
-right_apart : (tiles : Tiles) (area : Rect) (first id k : ℕ) (c : ℤ) → IsPartition tiles → IsRightSide tiles area first id → area.ylo ≤ℤ c → c <ℤ area.yhi
-    → Owns tiles k (square_at area.xhi c) → Covers area (square_below (tile_at tiles k)) → ⊥
-right_apart tiles area first id k c partition side low high owns covers =
-    let within = side.within in
-    let proper = side.proper in
-    let edge = side.edge in
-    let at = owns.covers in
-    let both = strangers tiles k id (square_at (area.xhi -ℤ pos 1) c) (square_at area.xhi c) partition (omega (arith, ints)) (omega (arith, ints)) owns in
-    omega (arith, ints)
-
--- a tile beside the lower side has no stitch to the right that leads into it
-lower_apart : (tiles : Tiles) (area : Rect) (first id k : ℕ) (c : ℤ) → IsPartition tiles → IsLowerSide tiles area first id → area.xlo ≤ℤ c → c <ℤ area.xhi
-    → Owns tiles k (square_at c (area.ylo -ℤ pos 1)) → Covers area (square_right (tile_at tiles k)) → ⊥
-lower_apart tiles area first id k c partition side low high owns covers =
-    let within = side.within in
-    let proper = side.proper in
-    let edge = side.edge in
-    let at = owns.covers in
-    let both = strangers tiles k id (square_at c area.ylo) (square_at c (area.ylo -ℤ pos 1)) partition (omega (arith, ints)) (omega (arith, ints)) owns in
-    omega (arith, ints)
-
--- the left side, once the stitches from above are mended
-pub left_after_above : (area : Rect) (first id : ℕ) (one two : Tiles) → LeadTo Below area id one two → IsLeftSide one area first id
-    → IsLeftSide two area first id
-left_after_above area first id one two down side =
-    left_moves one two (same_areas Below area id one two down) area first id side (λ k. ap (λ (t : Tile). t.above) (down.rest k))
-
--- the lower side, once the stitches from the right are mended
-pub below_after_right : (area : Rect) (first id : ℕ) (one two : Tiles) → LeadTo Left area id one two → IsLowerSide one area first id
-    → IsLowerSide two area first id
-below_after_right area first id one two left side =
-    lower_moves one two (same_areas Left area id one two left) area first id side (λ k c low high owns. ap (λ (t : Tile). t.right) (left.rest k))
-
--- the upper side, once the stitches from the left are mended
-pub above_after_left : (area : Rect) (first id : ℕ) (one two : Tiles) → LeadTo Right area id one two → IsUpperSide one area first id
-    → IsUpperSide two area first id
-above_after_left area first id one two right side =
-    upper_moves one two (same_areas Right area id one two right) area first id side (λ k c low high owns. ap (λ (t : Tile). t.left) (right.rest k))
-
--- the right side, once the stitches from the left are mended
-pub right_once_left : (area : Rect) (first id : ℕ) (one two : Tiles) → LeadTo Right area id one two → IsRightSide one area first id
-    → IsRightSide two area first id
-right_once_left area first id one two right side =
-    right_moves one two (same_areas Right area id one two right) area first id side (λ k c low high owns. ap (λ (t : Tile). t.below) (right.rest k))
+  side_moves : {area : Rect} {first id : ℕ} (side : Side) → IsSideOf side tiles area first id
+      → ((k : ℕ) (c : ℤ) → HasLine side area c → Owns tiles k (square_beside side area c)
+      → stitch_of (along side) (tile_at others k) ≡ stitch_of (along side) (tile_at tiles k))
+      → IsSideOf side others area first id
+  side_moves {area = area} {first = first} {id = id} side is same = record {
+    proper = is.proper;
+    within = subst (LiesWithin area) (sym (areas id)) is.within;
+    edge = ap (end_of side) (areas id) ∙ is.edge;
+    leads = leads_moves first _ is.leads;
+    onward = λ k c line owns. let its = owns_back k _ owns in stitch_moves (along side) k (same k c line its) (is.onward k c line its);
+  }
 
 -- a stitch at a side is not that at another
 other_stitch : (side other : Side) (tile : Tile) (n : ℕ) → (side ≡ other) ⊎ (stitch_of other (with_stitch side tile n) ≡ stitch_of other tile)
@@ -205,11 +114,17 @@ record AreRedirecting (area : Rect) (one now : Tiles) : Type 0 where
 redirecting_begins : (area : Rect) (one : Tiles) → AreRedirecting area one one
 redirecting_begins area one = record { alike = λ k. record { area = refl; value = refl }; outside = λ side k off. refl }
 
--- one more side is mended
-module _ {area : Rect} {id : ℕ} {one mid new : Tiles} (so_far : AreRedirecting area one mid) {side : Side} (led : LeadTo side area id mid new) where
+module _ {area : Rect} {one mid : Tiles} (so_far : AreRedirecting area one mid) where
   areas_so_far : HaveSameAreas one mid
   areas_so_far k = (so_far.alike k).area
 
+  -- a side that is not mended yet
+  side_so_far : {first id : ℕ} (other : Side) → IsPartition one → IsSideOf other one area first id → IsSideOf other mid area first id
+  side_so_far other partition is = side_moves one mid areas_so_far other is (λ k c line owns.
+      so_far.outside (along other) k (apart c partition (let proper = is.proper in let within = is.within in omega (arith, ints)) is.within other is.edge line owns))
+
+-- one more side is mended
+module _ {area : Rect} {id : ℕ} {one mid new : Tiles} (so_far : AreRedirecting area one mid) {side : Side} (led : LeadTo side area id mid new) where
   redirecting_goes_on : AreRedirecting area one new
   redirecting_goes_on = record {
     alike = λ k. record {
@@ -218,7 +133,7 @@ module _ {area : Rect} {id : ℕ} {one mid new : Tiles} (so_far : AreRedirecting
     };
     outside = λ other k off. elim (other_stitch side other (tile_at mid k) (stitch_of side (tile_at new k))) [
       | inl e ↦ subst (λ (v : Side). stitch_of v (tile_at new k) ≡ stitch_of v (tile_at mid k)) e
-          (led.outside k (λ covers. off (covers_back one mid areas_so_far other area k
+          (led.outside k (λ covers. off (covers_back one mid (areas_so_far so_far) other area k
           (subst (λ (v : Side). Covers area (square_of v (tile_at mid k))) e covers))))
           ∙ so_far.outside other k off
       | inr same ↦ ap (stitch_of other) (led.rest k) ∙ same ∙ so_far.outside other k off
@@ -226,7 +141,7 @@ module _ {area : Rect} {id : ℕ} {one mid new : Tiles} (so_far : AreRedirecting
   }
 
   led_now : AreLed side area id one new
-  led_now k taken covers = led.inside k (taken_moves one mid areas_so_far k taken) (covers_moves one mid areas_so_far side area k covers)
+  led_now k taken covers = led.inside k (taken_moves one mid (areas_so_far so_far) k taken) (covers_moves one mid (areas_so_far so_far) side area k covers)
 
   led_still : (other : Side) → AreLed other area id one mid → AreLed other area id one new
   led_still other was k taken covers = elim (other_stitch side other (tile_at mid k) (stitch_of side (tile_at new k))) [
@@ -235,107 +150,64 @@ module _ {area : Rect} {id : ℕ} {one mid new : Tiles} (so_far : AreRedirecting
     | inr same ↦ ap (stitch_of other) (led.rest k) ∙ same ∙ was k taken covers
   ]
 
--- the side is one of three, or its stitches into the area lead to the number already
-abbrev pub IsOneOf : Side → Side → Side → Rect → ℕ → Tiles → Side → Type 0
-IsOneOf a b d area id one side = (side ≡ a) ⊎ ((side ≡ b) ⊎ ((side ≡ d) ⊎ AreLed side area id one one))
+-- a side is that at which an end is, one of those beside it, or the opposite one
+sides_of_end : (side other : Side)
+    → (other ≡ opposite side) ⊎ ((other ≡ opposite (along side)) ⊎ ((other ≡ opposite (opposite (along side))) ⊎ (other ≡ side)))
+sides_of_end Above Above = inr (inr (inr refl))
+sides_of_end Above Right = inr (inl refl)
+sides_of_end Above Below = inl refl
+sides_of_end Above Left = inr (inr (inl refl))
+sides_of_end Right Above = inr (inl refl)
+sides_of_end Right Right = inr (inr (inr refl))
+sides_of_end Right Below = inr (inr (inl refl))
+sides_of_end Right Left = inl refl
+sides_of_end Below Above = inl refl
+sides_of_end Below Right = inr (inr (inl refl))
+sides_of_end Below Below = inr (inr (inr refl))
+sides_of_end Below Left = inr (inl refl)
+sides_of_end Left Above = inr (inr (inl refl))
+sides_of_end Left Right = inl refl
+sides_of_end Left Below = inr (inl refl)
+sides_of_end Left Left = inr (inr (inr refl))
 
--- three sides are mended one after the other
-module _ {area : Rect} {id : ℕ} {one two three four : Tiles} {a b d : Side} (first : LeadTo a area id one two) (second : LeadTo b area id two three)
-    (third : LeadTo d area id three four) where
-  after_none : AreRedirecting area one one
-  after_none = redirecting_begins area one
+-- the sides of an end are mended: first the outer one, then the two beside it
+module _ {side : Side} {end : Tile} {id : ℕ} {one two : Tiles} (partition : IsPartition one) (is : IsEnd side one end id)
+    (first : LeadTo (opposite side) end.area id one two) where
+  after_one : AreRedirecting end.area one two
+  after_one = redirecting_goes_on (redirecting_begins end.area one) first
 
-  after_one : AreRedirecting area one two
-  after_one = redirecting_goes_on after_none first
+  pub near_partition : IsPartition two
+  near_partition = mended_partition (opposite side) end.area id one two first partition
 
-  after_two : AreRedirecting area one three
-  after_two = redirecting_goes_on after_one second
+  pub near_side : IsSideOf (along side) two end.area (stitch_of (along side) end) id
+  near_side = side_so_far after_one (along side) partition is.near
 
-  after_three : AreRedirecting area one four
-  after_three = redirecting_goes_on after_two third
+  module _ {three : Tiles} (second : LeadTo (opposite (along side)) end.area id two three) where
+    after_two : AreRedirecting end.area one three
+    after_two = redirecting_goes_on after_one second
 
-  all_led : (side : Side) → IsOneOf a b d area id one side → AreLed side area id one four
-  all_led side (inl e) = subst (λ (v : Side). AreLed v area id one four) (sym e)
-      (led_still after_two third a (led_still after_one second a (led_now after_none first)))
-  all_led side (inr (inl e)) = subst (λ (v : Side). AreLed v area id one four) (sym e) (led_still after_two third b (led_now after_one second))
-  all_led side (inr (inr (inl e))) = subst (λ (v : Side). AreLed v area id one four) (sym e) (led_now after_two third)
-  all_led side (inr (inr (inr was))) = led_still after_two third side (led_still after_one second side (led_still after_none first side was))
+    pub far_partition : IsPartition three
+    far_partition = mended_partition (opposite (along side)) end.area id two three second near_partition
 
-  all_redirected : ((side : Side) → IsOneOf a b d area id one side) → AreRedirected area id one four
-  all_redirected each = record { alike = after_three.alike; inside = λ side. all_led side (each side); outside = after_three.outside }
+    pub far_side : IsSideOf (opposite (along side)) three end.area (stitch_of (opposite (along side)) end) id
+    far_side = side_so_far after_two (opposite (along side)) partition is.far
 
--- the upper end of a tile: first the stitches from above are mended, then those from the left, then those from the right
-module _ (area : Rect) (id : ℕ) (one two three : Tiles) (down : LeadTo Below area id one two) (right : LeadTo Right area id two three) where
-  areas_three : HaveSameAreas one three
-  areas_three k = same_areas Right area id two three right k ∙ same_areas Below area id one two down k
+    module _ {four : Tiles} (third : LeadTo (opposite (opposite (along side))) end.area id three four) where
+      after_three : AreRedirecting end.area one four
+      after_three = redirecting_goes_on after_two third
 
-  pub right_after_left : (first : ℕ) → IsPartition one → IsRightSide one area first id → IsRightSide three area first id
-  right_after_left first partition side = right_moves one three areas_three area first id side (λ k c low high owns.
-      ap (λ (t : Tile). t.below) (right.rest k) ∙ down.outside k (right_apart one area first id k c partition side low high owns))
+      led_last : (other : Side) → AreLed other end.area id one three → AreLed other end.area id one four
+      led_last other = led_still after_two third other
 
-  pub redirected_up : (four : Tiles) → LeadTo Left area id three four
-      → ((k : ℕ) → IsTaken one k → Covers area (square_above (tile_at one k)) → (tile_at one k).above ≡ id)
-      → AreRedirected area id one four
-  redirected_up four left up = all_redirected down right left each where
-    each : (side : Side) → IsOneOf Below Right Left area id one side
-    each Above = inr (inr (inr up))
-    each Right = inr (inl refl)
-    each Below = inl refl
-    each Left = inr (inr (inl refl))
+      all_led : (other : Side) → AreLed other end.area id one four
+      all_led other = elim (sides_of_end side other) [
+        | inl e ↦ led_of e (led_last _ (led_still after_one second _ (led_now (redirecting_begins end.area one) first)))
+        | inr (inl e) ↦ led_of e (led_last _ (led_now after_one second))
+        | inr (inr (inl e)) ↦ led_of e (led_now after_two third)
+        | inr (inr (inr e)) ↦ led_of e (led_last _ (led_still after_one second _ (led_still (redirecting_begins end.area one) first _ is.inner)))
+      ] where
+        led_of : {a b : Side} → a ≡ b → AreLed b end.area id one four → AreLed a end.area id one four
+        led_of e = subst (λ (v : Side). AreLed v end.area id one four) (sym e)
 
--- the right end: first the stitches from the right, then those from below, then those from above
-module _ (area : Rect) (id : ℕ) (one two three : Tiles) (left : LeadTo Left area id one two) (up : LeadTo Above area id two three) where
-  areas_two : HaveSameAreas one three
-  areas_two k = same_areas Above area id two three up k ∙ same_areas Left area id one two left k
-
-  pub above_after_below : (first : ℕ) → IsPartition one → IsUpperSide one area first id → IsUpperSide three area first id
-  above_after_below first partition side = upper_moves one three areas_two area first id side (λ k c low high owns.
-      ap (λ (t : Tile). t.left) (up.rest k) ∙ left.outside k (upper_apart one area first id k c partition side low high owns))
-
-  pub redirected_right : (four : Tiles) → LeadTo Below area id three four
-      → ((k : ℕ) → IsTaken one k → Covers area (square_right (tile_at one k)) → (tile_at one k).right ≡ id)
-      → AreRedirected area id one four
-  redirected_right four down right = all_redirected left up down each where
-    each : (side : Side) → IsOneOf Left Above Below area id one side
-    each Above = inr (inl refl)
-    each Right = inr (inr (inr right))
-    each Below = inr (inr (inl refl))
-    each Left = inl refl
-
--- the left end: first the stitches from the left, then those from above, then those from below
-module _ (area : Rect) (id : ℕ) (one two three : Tiles) (right : LeadTo Right area id one two) (down : LeadTo Below area id two three) where
-  areas_left : HaveSameAreas one three
-  areas_left k = same_areas Below area id two three down k ∙ same_areas Right area id one two right k
-
-  pub below_after_above : (first : ℕ) → IsPartition one → IsLowerSide one area first id → IsLowerSide three area first id
-  below_after_above first partition side = lower_moves one three areas_left area first id side (λ k c low high owns.
-      ap (λ (t : Tile). t.right) (down.rest k) ∙ right.outside k (lower_apart one area first id k c partition side low high owns))
-
-  pub redirected_left : (four : Tiles) → LeadTo Above area id three four
-      → ((k : ℕ) → IsTaken one k → Covers area (square_left (tile_at one k)) → (tile_at one k).left ≡ id)
-      → AreRedirected area id one four
-  redirected_left four up left = all_redirected right down up each where
-    each : (side : Side) → IsOneOf Right Below Above area id one side
-    each Above = inr (inr (inl refl))
-    each Right = inl refl
-    each Below = inr (inl refl)
-    each Left = inr (inr (inr left))
-
--- the lower end: first the stitches from the left, then those from the right, then those from below
-module _ (area : Rect) (id : ℕ) (one two three : Tiles) (right : LeadTo Right area id one two) (left : LeadTo Left area id two three) where
-  areas_lower : HaveSameAreas one three
-  areas_lower k = same_areas Left area id two three left k ∙ same_areas Right area id one two right k
-
-  pub below_after_sides : (first : ℕ) → IsPartition one → IsLowerSide one area first id → IsLowerSide three area first id
-  below_after_sides first partition side = lower_moves one three areas_lower area first id side (λ k c low high owns.
-      ap (λ (t : Tile). t.right) (left.rest k) ∙ right.outside k (lower_apart one area first id k c partition side low high owns))
-
-  pub redirected_down : (four : Tiles) → LeadTo Above area id three four
-      → ((k : ℕ) → IsTaken one k → Covers area (square_below (tile_at one k)) → (tile_at one k).below ≡ id)
-      → AreRedirected area id one four
-  redirected_down four up below = all_redirected right left up each where
-    each : (side : Side) → IsOneOf Right Left Above area id one side
-    each Above = inr (inr (inl refl))
-    each Right = inl refl
-    each Below = inr (inr (inr below))
-    each Left = inr (inl refl)
+      pub end_redirected : AreRedirected end.area id one four
+      end_redirected = record { alike = after_three.alike; inside = all_led; outside = after_three.outside }

@@ -2,9 +2,14 @@
 use Rattle.std.proofs.Common.{◌≡◌, ℕ, ℤ, pos, ◌-ℤ◌, ◌≤ℤ◌, ◌<ℤ◌, subst, arith}
 use Rattle.std.proofs.lemmas.Int.{ints, by_lt_z}
 use Rattle.geo_core.specs.declared.squares.Square.{Square}
+use Rattle.geo_core.specs.declared.squares.Rect.{Rect}
+use Rattle.geo_core.specs.Areas.{LiesWithin}
 use Rattle.geo_core.specs.Covering.{Covers}
 use Rattle.tile_plane.specs.Tiles.{Tiles, tile_at, IsTaken, Owns, IsPartition}
 use Rattle.tile_plane.specs.Walks.{square_at}
+use Rattle.tile_plane.specs.steps.Cuts.{opposite}
+use Rattle.tile_plane.specs.steps.Mends.{Side, Above, Right, Below, Left, square_of}
+use Rattle.tile_plane.specs.steps.Sides.{along, end_of, HasLine, square_beside}
 
 -- a tile that shares a square with another is that one, so it has no square that the other has not
 pub strangers : (tiles : Tiles) (a b : ℕ) (s t : Square) → IsPartition tiles → Owns tiles a s → Owns tiles b s → Owns tiles a t
@@ -54,3 +59,22 @@ beside_below tiles id n h partition taken low high owns =
     (omega (arith, ints)) (omega (arith, ints)) owns in
     absurd (omega (arith, ints)))
     (λ touches. omega (arith, ints))
+
+-- an area reaches the side of the tile that holds it, and another tile has a square beside it there
+module _ {tiles : Tiles} {area : Rect} {id k : ℕ} (c : ℤ) (partition : IsPartition tiles) (taken : IsTaken tiles id)
+    (within : LiesWithin area (tile_at tiles id).area) where
+  -- that one begins where the area ends
+  touches : (side : Side) → end_of side (tile_at tiles id).area ≡ end_of side area → HasLine side area c → Owns tiles k (square_beside side area c)
+      → end_of (opposite side) (tile_at tiles k).area ≡ end_of side area
+  touches Above edge line owns = let e = beside_above tiles id k c partition taken (omega (arith, ints)) (omega (arith, ints)) (omega (arith, ints)) in omega (arith, ints)
+  touches Right edge line owns = let e = beside_right tiles id k c partition taken (omega (arith, ints)) (omega (arith, ints)) (omega (arith, ints)) in omega (arith, ints)
+  touches Below edge line owns = let e = beside_below tiles id k c partition taken (omega (arith, ints)) (omega (arith, ints)) (omega (arith, ints)) in omega (arith, ints)
+  touches Left edge line owns = let e = beside_left tiles id k c partition taken (omega (arith, ints)) (omega (arith, ints)) (omega (arith, ints)) in omega (arith, ints)
+
+  -- so it has no stitch along the side that leads into the area
+  pub apart : (side : Side) → end_of side (tile_at tiles id).area ≡ end_of side area → HasLine side area c → Owns tiles k (square_beside side area c)
+      → Covers area (square_of (along side) (tile_at tiles k)) → ⊥
+  apart Above edge line owns covers = let e = touches Above edge line owns in omega (arith, ints)
+  apart Right edge line owns covers = let e = touches Right edge line owns in omega (arith, ints)
+  apart Below edge line owns covers = let e = touches Below edge line owns in omega (arith, ints)
+  apart Left edge line owns covers = let e = touches Left edge line owns in omega (arith, ints)

@@ -8,13 +8,14 @@ use Rattle.geo_core.specs.Areas.{LiesWithin}
 use Rattle.geo_core.specs.Covering.{Covers, IsProper}
 use Rattle.geo_core.specs.Planes.{AreSame}
 use Rattle.tile_plane.specs.declared.tiles.Tile.{Tile}
-use Rattle.tile_plane.specs.Tiles.{Tiles, tile_at, IsTaken, Owns, Leads, IsPartition, HasStitches, IsPut, square_above, square_right, square_below, square_left, value_at}
+use Rattle.tile_plane.specs.Tiles.{Tiles, tile_at, IsTaken, Owns, Leads, IsPartition, HasStitches, IsPut, value_at}
 use Rattle.tile_plane.specs.Walks.{square_at}
 use Rattle.tile_plane.specs.steps.Cuts.{AreAlike, IsHandedOver, opposite, low_of, high_of, part_at, square_at_cut, IsInTwo, IsCutAt}
-use Rattle.tile_plane.specs.steps.Mends.{Side, Above, Right, Below, Left, stitch_of, square_of, AreRedirected, IsUpperSide, IsRightSide, IsLowerSide, IsLeftSide, IsEnd}
+use Rattle.tile_plane.specs.steps.Mends.{Side, Above, Right, Below, Left, stitch_of, square_of, AreRedirected, IsEnd}
+use Rattle.tile_plane.specs.steps.Sides.{along, end_of, HasLine, square_beside}
 use Rattle.tile_plane.proofs.TileLaws.{owner_taken}
 use Rattle.tile_plane.proofs.RowCuts.{IsSamePlane}
-use Rattle.tile_plane.proofs.GivenLaws.{LeadsElsewhere, own_stitches, IsGiven, given_partition, upper_side, right_side, lower_side, left_side, up_into, down_into, right_into, left_into, last_partition, last_stitches, last_values}
+use Rattle.tile_plane.proofs.GivenLaws.{LeadsElsewhere, own_stitches, IsGiven, given_partition, given_end, stitch_into, last_partition, last_stitches, last_values}
 
 -- the tile of the first number has the rest now, and the second, which had no tile, the part
 pub record IsSplit (old new : Tiles) (id other : ℕ) (rest part : Tile) : Type 0 where
@@ -292,7 +293,15 @@ module _ (tile : Tile) (at : ℤ) (n m : ℕ) where
     rest_across Below proper from to = omega (arith, ints)
     rest_across Left proper from to = omega (arith, ints)
 
-  -- that of the part leads into the tile
+    -- what is beside the part across the cut is the rest
+    rest_beside : (side : Side) (c : ℤ) → low_of side tile.area <ℤ at → at <ℤ high_of side tile.area → HasLine side (part_at side at n m tile).area c
+        → Covers (part_at (opposite side) at k l tile).area (square_beside (opposite side) (part_at side at n m tile).area c)
+    rest_beside Above c from to line = omega (arith, ints)
+    rest_beside Right c from to line = omega (arith, ints)
+    rest_beside Below c from to line = omega (arith, ints)
+    rest_beside Left c from to line = omega (arith, ints)
+
+  -- the stitch of the part across the cut leads into the tile
   part_across : (side : Side) → IsProper tile.area → low_of side tile.area <ℤ at → at <ℤ high_of side tile.area
       → Covers tile.area (square_of (opposite side) (part_at side at n m tile))
   part_across Above proper from to = omega (arith, ints)
@@ -325,15 +334,17 @@ module _ {old : Tiles} {id n m : ℕ} (at : ℤ) {area : Rect} (stitches : HasSt
 
 module _ {side : Side} {old mid new : Tiles} {id other near far : ℕ} {at : ℤ} {tile part rest : Tile}
     (cut : IsCutting side old mid new id other near far at tile part rest) where
+  part_leads : LeadsElsewhere (part_at side at id near (tile_at old id)).area old (part_at side at id near (tile_at old id))
+  part_leads = half_leads at cut.off.stitches cut.off.taken side cut.near_leads
+      (λ off inside. record { covers = part_across _ _ _ _ side cut.off.taken.proper cut.from cut.to })
+
   halved : IsHalved old new id other (part_at side at id near (tile_at old id)) (part_at (opposite side) at other far (tile_at old id))
   halved = halve cut.off (part_proper _ _ _ _ side cut.off.taken.proper cut.from cut.to) (parts_whole _ _ _ _ _ _ side)
       (part_in _ _ _ _ (opposite side) (low_back side _ cut.from) (high_back side _ cut.to)) (part_in _ _ _ _ side cut.from cut.to)
       (parts_apart _ _ _ _ _ _ side)
       (half_leads at cut.off.stitches cut.off.taken (opposite side) cut.far_leads
       (λ off. absurd (off (rest_across _ _ _ _ _ _ side cut.off.taken.proper cut.from cut.to))))
-      (half_leads at cut.off.stitches cut.off.taken side cut.near_leads
-      (λ off inside. record { covers = part_across _ _ _ _ side cut.off.taken.proper cut.from cut.to }))
-      (part_value _ _ _ _ (opposite side)) (part_value _ _ _ _ side)
+      part_leads (part_value _ _ _ _ (opposite side)) (part_value _ _ _ _ side)
 
   pub cutting_partition : IsPartition new
   cutting_partition = cut_partition cut.off halved
@@ -379,48 +390,13 @@ module _ {side : Side} {old mid new : Tiles} {id other near far : ℕ} {at : ℤ
     }
 
 module _ {old mid new : Tiles} {id other near far : ℕ} {at : ℤ} {tile part rest : Tile} where
-  module _ (side : Side) (cut : IsCutting side old mid new id other near far at tile part rest) where
-    there : (tile_at new other).area ≡ (part_at side at id near (tile_at old id)).area
-    there = ap (λ (t : Tile). t.area) (halved cut).split.there
-
-    -- the sides of the part, where a stitch leads to what is beside
-    above_is : {n : ℕ} → Leads old n (square_above (part_at side at id near (tile_at old id))) → IsUpperSide new (part_at side at id near (tile_at old id)).area n other
-    above_is leads = upper_side cut.off.partition (halved cut).given _ (ap (λ (r : Rect). r.yhi) there) leads
-
-    right_is : {n : ℕ} → Leads old n (square_right (part_at side at id near (tile_at old id))) → IsRightSide new (part_at side at id near (tile_at old id)).area n other
-    right_is leads = right_side cut.off.partition (halved cut).given _ (ap (λ (r : Rect). r.xhi) there) leads
-
-    below_is : {n : ℕ} → Leads old n (square_below (part_at side at id near (tile_at old id))) → IsLowerSide new (part_at side at id near (tile_at old id)).area n other
-    below_is leads = lower_side cut.off.partition (halved cut).given _ (ap (λ (r : Rect). r.ylo) there) leads
-
-    left_is : {n : ℕ} → Leads old n (square_left (part_at side at id near (tile_at old id))) → IsLeftSide new (part_at side at id near (tile_at old id)).area n other
-    left_is leads = left_side cut.off.partition (halved cut).given _ (ap (λ (r : Rect). r.xlo) there) leads
-
-    own_leads : (s : Side) → Leads old (stitch_of s (tile_at old id)) (square_of s (tile_at old id))
-    own_leads = own_stitches old id cut.off.stitches cut.off.taken
-
-  -- stitches from the rest lead into the part
-  into_is : (side : Side) → (cut : IsCutting side old mid new id other near far at tile part rest) → (k : ℕ) → IsTaken new k
-      → Covers (part_at side at id near (tile_at old id)).area (square_of side (tile_at new k)) → stitch_of side (tile_at new k) ≡ other
-  into_is Above cut k its covers = up_into cut.off.partition (halved cut).given k (ap (λ (r : Rect). r.yhi) (there Above cut)) its covers
-      (λ w low high owns. rest_leads cut k _ owns (let from = cut.from in let to = cut.to in omega (arith, ints)))
-  into_is Right cut k its covers = right_into cut.off.partition (halved cut).given k (ap (λ (r : Rect). r.xhi) (there Right cut)) its covers
-      (λ w low high owns. rest_leads cut k _ owns (let from = cut.from in let to = cut.to in omega (arith, ints)))
-  into_is Below cut k its covers = down_into cut.off.partition (halved cut).given k (ap (λ (r : Rect). r.ylo) (there Below cut)) its covers
-      (λ w low high owns. rest_leads cut k _ owns (let from = cut.from in let to = cut.to in omega (arith, ints)))
-  into_is Left cut k its covers = left_into cut.off.partition (halved cut).given k (ap (λ (r : Rect). r.xlo) (there Left cut)) its covers
-      (λ w low high owns. rest_leads cut k _ owns (let from = cut.from in let to = cut.to in omega (arith, ints)))
-
-  -- it is the end at the side that goes to the new number
+  -- it is the end at the side that goes to the new number, and stitches from the rest lead into it
   end_is : (side : Side) → IsCutting side old mid new id other near far at tile part rest → IsEnd side new (part_at side at id near (tile_at old id)) other
-  end_is Above cut = let own = own_leads Above cut in
-      record { above = above_is Above cut (own Above); left = left_is Above cut cut.near_leads; right = right_is Above cut (own Right); below = into_is Above cut }
-  end_is Right cut = let own = own_leads Right cut in
-      record { right = right_is Right cut (own Right); below = below_is Right cut cut.near_leads; above = above_is Right cut (own Above); left = into_is Right cut }
-  end_is Below cut = let own = own_leads Below cut in
-      record { left = left_is Below cut (own Left); right = right_is Below cut cut.near_leads; below = below_is Below cut (own Below); above = into_is Below cut }
-  end_is Left cut = let own = own_leads Left cut in
-      record { left = left_is Left cut (own Left); above = above_is Left cut cut.near_leads; below = below_is Left cut (own Below); right = into_is Left cut }
+  end_is side cut = given_end cut.off.partition (halved cut).given (part_leads cut) side (ends side) (ends (along side)) (ends (opposite (along side)))
+      (λ k its covers. stitch_into cut.off.partition (halved cut).given side k (ends side) its covers
+      (λ c line owns. rest_leads cut k _ owns (rest_beside _ _ _ _ _ _ side c cut.from cut.to line))) where
+        ends : (s : Side) → end_of s (tile_at new other).area ≡ end_of s (part_at side at id near (tile_at old id)).area
+        ends s = ap (λ (t : Tile). end_of s t.area) (halved cut).split.there
 
   pub cutting_end : (side : Side) → IsCutting side old mid new id other near far at tile part rest → IsEnd side new part other
   cutting_end side cut = subst (λ (t : Tile). IsEnd side new t other) (sym (part_is cut.off)) (end_is side cut)

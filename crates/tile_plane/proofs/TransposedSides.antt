@@ -17,10 +17,7 @@ use Rattle.tile_plane.specs.steps.Mends.{
   square_of,
   with_stitch,
   LeadTo,
-  IsUpperSide,
-  IsRightSide,
-  IsLowerSide,
-  IsLeftSide,
+  IsSideOf,
 }
 use Rattle.tile_plane.proofs.Transposed.{swap_rect, swap_tile, transposed, tile_at-transposed, area_is, taken_over, owns_over, owns_back}
 
@@ -89,26 +86,26 @@ pub read_over : (id : ℕ) (tile : Tile) (tiles : Tiles) → tile ≡ tile_at ti
 read_over id tile tiles is = ap swap_tile is ∙ sym (tile_at-transposed tiles id)
 
 module _ {tiles : Tiles} {area : Rect} {first id : ℕ} where
-  pub right_over : IsRightSide tiles area first id → IsUpperSide (transposed tiles) (swap_rect area) first id
+  pub right_over : IsSideOf Right tiles area first id → IsSideOf Above (transposed tiles) (swap_rect area) first id
   right_over side = record {
     proper = let proper = side.proper in omega (arith, ints);
     within = subst (LiesWithin (swap_rect area)) (sym (area_is tiles id)) (let within = side.within in omega (arith, ints));
     edge = ap (λ (r : Rect). r.yhi) (area_is tiles id) ∙ side.edge;
     leads = λ inside. owns_over tiles first (square_at area.xhi (area.yhi -ℤ pos 1)) (side.leads (omega (arith, ints)));
-    along = λ k c low high owns.
-        let leads = side.along k c low high (owns_back tiles k (square_at area.xhi c) owns) in
+    onward = λ k c line owns.
+        let leads = side.onward k c line (owns_back tiles k (square_at area.xhi c) owns) in
         subst (λ (t : Tile). Leads (transposed tiles) (stitch_of Left t) (square_of Left t)) (sym (tile_at-transposed tiles k))
         (λ inside. owns_over tiles _ (square_below (tile_at tiles k)) (leads (omega (arith, ints))));
   }
 
-  pub left_over : IsLeftSide tiles area first id → IsLowerSide (transposed tiles) (swap_rect area) first id
+  pub left_over : IsSideOf Left tiles area first id → IsSideOf Below (transposed tiles) (swap_rect area) first id
   left_over side = record {
     proper = let proper = side.proper in omega (arith, ints);
     within = subst (LiesWithin (swap_rect area)) (sym (area_is tiles id)) (let within = side.within in omega (arith, ints));
     edge = ap (λ (r : Rect). r.ylo) (area_is tiles id) ∙ side.edge;
     leads = λ inside. owns_over tiles first (square_at (area.xlo -ℤ pos 1) area.ylo) (side.leads (omega (arith, ints)));
-    along = λ k c low high owns.
-        let leads = side.along k c low high (owns_back tiles k (square_at (area.xlo -ℤ pos 1) c) owns) in
+    onward = λ k c line owns.
+        let leads = side.onward k c line (owns_back tiles k (square_at (area.xlo -ℤ pos 1) c) owns) in
         subst (λ (t : Tile). Leads (transposed tiles) (stitch_of Right t) (square_of Right t)) (sym (tile_at-transposed tiles k))
         (λ inside. owns_over tiles _ (square_above (tile_at tiles k)) (leads (omega (arith, ints))));
   }

@@ -11,7 +11,7 @@ use Rattle.tile_plane.specs.declared.tiles.Tile.{Tile}
 use Rattle.tile_plane.specs.Tiles.{Tiles, tile_at, IsTaken, Owns, Leads, IsPartition, HasStitches}
 use Rattle.tile_plane.specs.Walks.{square_at}
 use Rattle.tile_plane.specs.steps.Mends.{Side, Above, Right, Below, Left, stitch_of, square_of}
-use Rattle.tile_plane.specs.steps.Sides.{along, GoesOn, HasLine, square_beside, IsShort, IsLast}
+use Rattle.tile_plane.specs.steps.Sides.{along, GoesOn, HasLine, first_of, square_beside, IsShort, IsLast}
 use Rattle.tile_plane.proofs.TileLaws.{owner_taken}
 use Rattle.tile_plane.proofs.SideLaws.{beside_right, beside_above, beside_left, beside_below}
 use Rattle.tile_plane.proofs.BesideLaws.{next_beside}
@@ -60,14 +60,7 @@ IsNoFurther Right y at = y ≤ℤ at
 IsNoFurther Below x at = at ≤ℤ x
 IsNoFurther Left y at = at ≤ℤ y
 
--- the first row or column of the way along an area
-abbrev first_of : Side → Rect → ℤ
-first_of Above area = area.xhi -ℤ pos 1
-first_of Right area = area.yhi -ℤ pos 1
-first_of Below area = area.xlo
-first_of Left area = area.ylo
-
--- the one after it
+-- the row or column after the way along an area
 abbrev after_of : Side → Rect → ℤ
 after_of Above area = area.xlo -ℤ pos 1
 after_of Right area = area.ylo -ℤ pos 1
@@ -137,7 +130,7 @@ module _ (area : Rect) (c : ℤ) where
     come Below covers ahead long = by_lt_z c next.xhi (λ p. omega (arith, ints)) (λ p. absurd (long p))
     come Left covers ahead long = by_lt_z c next.yhi (λ p. omega (arith, ints)) (λ p. absurd (long p))
 
-first_square : (side : Side) (tile : Tile) → square_of side tile ≡ square_beside side tile.area (first_of side tile.area)
+pub first_square : (side : Side) (tile : Tile) → square_of side tile ≡ square_beside side tile.area (first_of side tile.area)
 first_square Above tile = refl
 first_square Right tile = refl
 first_square Below tile = refl

@@ -5,10 +5,12 @@ ghost use Rattle.geo_core.specs.declared.squares.Square.{Square as OneSquare};
 ghost use Rattle.geo_core.specs.Planes.{AreSame, plane_range};
 ghost use Rattle.tile_plane.specs.Tiles.{tile_at, IsTaken, Owns, IsPartition, HasStitches, value_at};
 ghost use Rattle.tile_plane.specs.Walks.{square_at};
-ghost use Rattle.tile_plane.specs.steps.Cuts.{IsJoinedUp, IsJoinedRight};
+ghost use Rattle.tile_plane.specs.steps.Cuts.{IsJoined, IsJoinedUp, IsJoinedRight};
+ghost use Rattle.tile_plane.specs.steps.Sides.{IsUpward, StandsAt};
 ghost use Rattle.tile_plane.specs.Tall.{IsTallAt, AreGrown, AreJoining};
 
-use crate::mends::{mend_right_end, mend_upper_end};
+use crate::mends::mend_end;
+use crate::sides::Side;
 use crate::stores::Store;
 use crate::tiles::Tile;
 use crate::walks::{above_at, find};
@@ -29,12 +31,7 @@ pub fn join_up(store: &mut Store, lower: u32, upper: u32)
     ensures same { AreSame (value_at store.old) (value_at store.new) }
     ensures joined { IsJoinedUp lower upper store.old store.new }
 {
-    let tile = store.get(lower);
-    let part = store.get(upper);
-    let whole = whole_of(&tile, &part);
-    store.put(lower, whole);
-    store.remove(upper);
-    mend_upper_end(store, &part, lower);
+    join_at(store, Side::Above, lower, upper);
 }
 
 /// Joins a tile with the one to its right, of the same rows. It keeps the number of the left one.
@@ -52,12 +49,28 @@ pub fn join_right(store: &mut Store, left: u32, right: u32)
     ensures same { AreSame (value_at store.old) (value_at store.new) }
     ensures joined { IsJoinedRight left right store.old store.new }
 {
-    let tile = store.get(left);
-    let part = store.get(right);
+    join_at(store, Side::Right, left, right);
+}
+
+/// Joins a tile with the one beside its upper or its right side, which goes all along it. It keeps its number.
+#[inline(always)]
+fn join_at(store: &mut Store, side: Side, id: u32, other: u32)
+    requires partition { IsPartition store.old }
+    requires stitches { HasStitches store.old }
+    requires upward { IsUpward side }
+    requires stands { StandsAt side store.old id other }
+    requires value { (tile_at store.old other).value ≡ (tile_at store.old id).value }
+    ensures partition { IsPartition store.new }
+    ensures stitches { HasStitches store.new }
+    ensures same { AreSame (value_at store.old) (value_at store.new) }
+    ensures joined { IsJoined side id other store.old store.new }
+{
+    let tile = store.get(id);
+    let part = store.get(other);
     let whole = whole_of(&tile, &part);
-    store.put(left, whole);
-    store.remove(right);
-    mend_right_end(store, &part, left);
+    store.put(id, whole);
+    store.remove(other);
+    mend_end(store, side, &part, id);
 }
 
 /// The tile that goes round both, of which the second is the upper or the right one.

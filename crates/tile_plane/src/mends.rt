@@ -2,7 +2,7 @@
 ghost use Rattle.std.specs.Prelude.{◌↔◌, IsTrue};
 ghost use Rattle.tile_plane.specs.Tiles.{tile_at, IsTaken, IsPartition, IsPut};
 ghost use Rattle.tile_plane.specs.steps.Cuts.{opposite};
-ghost use Rattle.tile_plane.specs.steps.Mends.{with_stitch, LeadTo, AreRedirected, IsSideOf, IsUpperEnd, IsLowerEnd, IsRightEnd, IsLeftEnd, IsEnd};
+ghost use Rattle.tile_plane.specs.steps.Mends.{with_stitch, LeadTo, AreRedirected, IsSideOf, IsEnd};
 ghost use Rattle.tile_plane.specs.steps.Sides.{along, end_of, ComesBefore};
 
 use crate::sides::Side;
@@ -18,56 +18,11 @@ pub fn mend_end(store: &mut Store, side: Side, end: &Tile, id: u32)
     requires end { IsEnd side store.old end.now id }
     ensures { AreRedirected end.now.area id store.old store.new }
 {
-    match side {
-        Side::Above => mend_upper_end(store, end, id),
-        Side::Right => mend_right_end(store, end, id),
-        Side::Below => mend_lower_end(store, end, id),
-        Side::Left => mend_left_end(store, end, id),
-    }
-}
-
-/// Leads all stitches into the upper end of a tile to that tile. The end is given as a tile of its own.
-pub fn mend_upper_end(store: &mut Store, end: &Tile, id: u32)
-    requires partition { IsPartition store.old }
-    requires end { IsUpperEnd store.old end.now id }
-    ensures { AreRedirected end.now.area id store.old store.new }
-{
-    mend_side(store, Side::Above, &end.area, end.above, id);
-    mend_side(store, Side::Left, &end.area, end.left, id);
-    mend_side(store, Side::Right, &end.area, end.right, id);
-}
-
-/// Leads all stitches into the lower end of a tile to that tile. The end is given as a tile of its own.
-fn mend_lower_end(store: &mut Store, end: &Tile, id: u32)
-    requires partition { IsPartition store.old }
-    requires end { IsLowerEnd store.old end.now id }
-    ensures { AreRedirected end.now.area id store.old store.new }
-{
-    mend_side(store, Side::Left, &end.area, end.left, id);
-    mend_side(store, Side::Right, &end.area, end.right, id);
-    mend_side(store, Side::Below, &end.area, end.below, id);
-}
-
-/// Leads all stitches into the right end of a tile to that tile. The end is given as a tile of its own.
-pub fn mend_right_end(store: &mut Store, end: &Tile, id: u32)
-    requires partition { IsPartition store.old }
-    requires end { IsRightEnd store.old end.now id }
-    ensures { AreRedirected end.now.area id store.old store.new }
-{
-    mend_side(store, Side::Right, &end.area, end.right, id);
-    mend_side(store, Side::Below, &end.area, end.below, id);
-    mend_side(store, Side::Above, &end.area, end.above, id);
-}
-
-/// Leads all stitches into the left end of a tile to that tile. The end is given as a tile of its own.
-fn mend_left_end(store: &mut Store, end: &Tile, id: u32)
-    requires partition { IsPartition store.old }
-    requires end { IsLeftEnd store.old end.now id }
-    ensures { AreRedirected end.now.area id store.old store.new }
-{
-    mend_side(store, Side::Left, &end.area, end.left, id);
-    mend_side(store, Side::Above, &end.area, end.above, id);
-    mend_side(store, Side::Below, &end.area, end.below, id);
+    let near = side.along();
+    let far = near.opposite();
+    mend_side(store, side, &end.area, side.stitch(end), id);
+    mend_side(store, near, &end.area, near.stitch(end), id);
+    mend_side(store, far, &end.area, far.stitch(end), id);
 }
 
 /// Leads the stitches of the tiles at this side of an area to a tile. The first of them is the one at which a walk along the side begins.

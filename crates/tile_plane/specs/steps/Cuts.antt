@@ -94,15 +94,24 @@ abbrev pub IsPartAfter : ℕ → ℕ → ℤ → Tiles → Tiles → Type 0
 IsPartAfter id part x old new = (((tile_at old id).area.xlo ≡ x) × (part ≡ id) × (new ≡ old))
     ⊎ ((left : ℕ) × ((tile_at old id).area.xlo <ℤ x) × IsCutAlong id left part x old new)
 
--- The second tile, which stands upon the first in the same columns, is joined to it.
-pub record IsJoinedUp (lower upper : ℕ) (old new : Tiles) : Type 0 where
-  pub gone : IsTaken new upper → ⊥
-  pub whole : (tile_at new lower).area ≡ record (tile_at old lower).area { yhi = (tile_at old upper).area.yhi }
-  pub value : (tile_at new lower).value ≡ (tile_at old lower).value
-  pub others : (k : ℕ) → k ≢ lower → k ≢ upper → AreAlike (tile_at old k) (tile_at new k)
+-- the first area as far as the second at this side
+abbrev pub stretched : Side → Rect → Rect → Rect
+stretched Above area other = record area { yhi = other.yhi }
+stretched Right area other = record area { xhi = other.xhi }
+stretched Below area other = record area { ylo = other.ylo }
+stretched Left area other = record area { xlo = other.xlo }
 
-pub record IsJoinedRight (left right : ℕ) (old new : Tiles) : Type 0 where
-  pub gone : IsTaken new right → ⊥
-  pub whole : (tile_at new left).area ≡ record (tile_at old left).area { xhi = (tile_at old right).area.xhi }
-  pub value : (tile_at new left).value ≡ (tile_at old left).value
-  pub others : (k : ℕ) → k ≢ left → k ≢ right → AreAlike (tile_at old k) (tile_at new k)
+-- The second tile, which stands beside the first at this side and is as long there, is joined to it.
+pub record IsJoined (side : Side) (id other : ℕ) (old new : Tiles) : Type 0 where
+  pub gone : IsTaken new other → ⊥
+  pub whole : (tile_at new id).area ≡ stretched side (tile_at old id).area (tile_at old other).area
+  pub value : (tile_at new id).value ≡ (tile_at old id).value
+  pub others : (k : ℕ) → k ≢ id → k ≢ other → AreAlike (tile_at old k) (tile_at new k)
+
+-- The second tile stands upon the first in the same columns.
+abbrev pub IsJoinedUp : ℕ → ℕ → Tiles → Tiles → Type 0
+IsJoinedUp lower upper old new = IsJoined Above lower upper old new
+
+-- It stands to the right of the first in the same rows.
+abbrev pub IsJoinedRight : ℕ → ℕ → Tiles → Tiles → Type 0
+IsJoinedRight left right old new = IsJoined Right left right old new

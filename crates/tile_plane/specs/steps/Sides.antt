@@ -1,11 +1,13 @@
 -- Sides of tiles: what lies beside them, and walks along them.
-use Rattle.std.specs.Prelude.{ℤ, pos, ◌-ℤ◌, ◌≤ℤ◌, ◌<ℤ◌}
+use Rattle.std.specs.Prelude.{◌≡◌, ℕ, ℤ, pos, ◌-ℤ◌, ◌≤ℤ◌, ◌<ℤ◌}
 use Rattle.geo_core.specs.declared.squares.Square.{Square}
 use Rattle.geo_core.specs.declared.squares.Rect.{Rect}
 use Rattle.geo_core.specs.Planes.{plane_range}
 use Rattle.tile_plane.specs.declared.sides.Side.{Side}
 use Rattle.tile_plane.specs.declared.sides.Side.TheVariants.{Above, Right, Below, Left}
+use Rattle.tile_plane.specs.Tiles.{Tiles, tile_at, IsTaken}
 use Rattle.tile_plane.specs.Walks.{square_at}
+use Rattle.tile_plane.specs.steps.Cuts.{opposite}
 
 -- where a walk along the side goes, which begins where the stitch at the side leads to
 abbrev pub along : Side → Side
@@ -42,6 +44,13 @@ square_beside Right area y = square_at area.xhi y
 square_beside Below area x = square_at x (area.ylo -ℤ pos 1)
 square_beside Left area y = square_at (area.xlo -ℤ pos 1) y
 
+-- the first row or column of the way along an area
+abbrev pub first_of : Side → Rect → ℤ
+first_of Above area = area.xhi -ℤ pos 1
+first_of Right area = area.yhi -ℤ pos 1
+first_of Below area = area.xlo
+first_of Left area = area.ylo
+
 -- a walk along the side that is at a tile of this area has not come to the row or column
 abbrev pub IsShort : Side → Rect → ℤ → Type 0
 IsShort Above area x = x <ℤ area.xlo
@@ -62,3 +71,18 @@ ComesBefore Above c d = d <ℤ c
 ComesBefore Right c d = d <ℤ c
 ComesBefore Below c d = c <ℤ d
 ComesBefore Left c d = c <ℤ d
+
+-- it is the upper or the right side
+abbrev pub IsUpward : Side → Type 0
+IsUpward Above = Unit {0}
+IsUpward Right = Unit {0}
+IsUpward Below = ⊥
+IsUpward Left = ⊥
+
+-- The second tile stands beside the first at this side and is as long there.
+pub record StandsAt (side : Side) (tiles : Tiles) (id other : ℕ) : Type 0 where
+  pub taken : IsTaken tiles id
+  pub other_taken : IsTaken tiles other
+  pub meet : end_of (opposite side) (tile_at tiles other).area ≡ end_of side (tile_at tiles id).area
+  pub low : end_of (along side) (tile_at tiles other).area ≡ end_of (along side) (tile_at tiles id).area
+  pub high : end_of (opposite (along side)) (tile_at tiles other).area ≡ end_of (opposite (along side)) (tile_at tiles id).area
