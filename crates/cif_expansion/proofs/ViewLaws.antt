@@ -15,13 +15,13 @@ dx_seen n inside t seen moves = (subst (MovesWithin n) (sym seen) moves).dx
 pub dy_seen : (n : ℕ) (inside t : Transform) → inside ≡ t → MovesWithin n t → IsAtMost n inside.dy
 dy_seen n inside t seen moves = (subst (MovesWithin n) (sym seen) moves).dy
 
--- what the arm of an orientation computes is the x of the image
-pub point_x_seen : (inside t : Transform) (o : Orient) (r x y : ℤ) → inside ≡ t → inside.orient ≡ o → r ≡ across o inside.dx x y → r ≡ point_x t x y
-point_x_seen inside t o r x y seen is e = subst (λ s. r ≡ point_x s x y) seen (point_x_at inside o r x y is e)
-
--- and its y
-pub point_y_seen : (inside t : Transform) (o : Orient) (r x y : ℤ) → inside ≡ t → inside.orient ≡ o → r ≡ upward o inside.dy x y → r ≡ point_y t x y
-point_y_seen inside t o r x y seen is e = subst (λ s. r ≡ point_y s x y) seen (point_y_at inside o r x y is e)
+-- what the arm of an orientation computes is the image's
+pub point_seen : (inside t : Transform) (o : Orient) (r s x y : ℤ) → inside ≡ t → inside.orient ≡ o → r ≡ across o inside.dx x y
+    → s ≡ upward o inside.dy x y → record { across : r ≡ point_x t x y; up : s ≡ point_y t x y }
+point_seen inside t o r s x y seen is e f = record {
+  across = subst (λ u. r ≡ point_x u x y) seen (point_x_at inside o r x y is e);
+  up = subst (λ u. s ≡ point_y u x y) seen (point_y_at inside o s x y is f);
+}
 
 -- the composed transform from its parts
 pub composed_seen : (inside inner outside outer : Transform) (o : Orient) (x y dx dy : ℤ) → inside ≡ inner → outside ≡ outer
