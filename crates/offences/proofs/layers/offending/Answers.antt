@@ -19,6 +19,12 @@ use Rattle.offences.specs.SetTiles.{AreTilesOfParts, tile_parts, set_layout}
 use Rattle.offences.proofs.LayerLaws.{grown_proper, near_before, tiles_of_parts, tiles_have_types, layers_covered}
 use Rattle.offences.proofs.layers.offending.Goals as goal
 
+-- the tiles that were found around the area
+part_tiles_are : (raw seen : RawTech) (plane : ℕ) (area around : Rect) (kinds : List Kinds) (tiles : List SetTile) → seen ≡ raw → around ≡ widened area
+    → ArePartTiles seen plane around kinds tiles → ArePartTiles raw plane (widened area) kinds tiles
+part_tiles_are raw seen plane area around kinds tiles read grown are =
+    subst (λ (r : RawTech). ArePartTiles r plane (widened area) kinds tiles) read (subst (λ (a : Rect). ArePartTiles seen plane a kinds tiles) grown are)
+
 pub widened-around-requires : goal.widened-around-requires
 widened-around-requires g c = near_before c.args.area c.requires.proper c.requires.near
 
@@ -32,9 +38,7 @@ bad_pieces-requires-clause-parts g c =
     let area = c.args.area in
     let kinds : List Kinds = map g.Y.Layers.kind c.args.parts.now in
     let tiles = c.in_ok-tiles.tiles.items in
-    let are : ArePartTiles raw plane (widened area) kinds tiles =
-    subst (λ (r : RawTech). ArePartTiles r plane (widened area) kinds tiles) c.raw.ensures.value
-    (subst (λ (a : Rect). ArePartTiles c.raw.result.now plane a kinds tiles) c.widened-around.ensures c.in_ok-tiles.ensures) in
+    let are = part_tiles_are raw _ plane area _ kinds tiles c.raw.ensures.value c.widened-around.ensures c.in_ok-tiles.ensures in
     subst (λ (n : ℕ). AreTilesOfParts n c.as_slice.result.now) (length-map c.args.parts.now g.Y.Layers.kind)
     (subst (AreTilesOfParts (length kinds)) (sym c.as_slice.ensures.value) (tiles_of_parts raw plane (widened area) kinds tiles are c.requires.near))
 
@@ -45,9 +49,7 @@ bad_pieces-requires-clause-types g c =
     let area = c.args.area in
     let kinds : List Kinds = map g.Y.Layers.kind c.args.parts.now in
     let tiles = c.in_ok-tiles.tiles.items in
-    let are : ArePartTiles raw plane (widened area) kinds tiles =
-    subst (λ (r : RawTech). ArePartTiles r plane (widened area) kinds tiles) c.raw.ensures.value
-    (subst (λ (a : Rect). ArePartTiles c.raw.result.now plane a kinds tiles) c.widened-around.ensures c.in_ok-tiles.ensures) in
+    let are = part_tiles_are raw _ plane area _ kinds tiles c.raw.ensures.value c.widened-around.ensures c.in_ok-tiles.ensures in
     let typed = tiles_have_types raw plane (widened area) kinds tiles are c.raw.ensures.well_formed c.raw.ensures.rules
     (All-map (AreTypesOf raw) g.Y.Layers.kind c.args.parts.now c.requires.types) in
     subst (λ (n : ℕ). HaveTypes raw (tile_parts c.as_slice.result.now plane n)) (length-map c.args.parts.now g.Y.Layers.kind)
@@ -63,9 +65,7 @@ returns g c =
     let pieces = c.in_ok-pieces.pieces.items in
     let cut = map (λ (piece : Rect). common_rect piece area) pieces in
     let found = c.in_ok-found.found.items in
-    let are : ArePartTiles raw plane (widened area) kinds tiles =
-    subst (λ (r : RawTech). ArePartTiles r plane (widened area) kinds tiles) c.raw.ensures.value
-    (subst (λ (a : Rect). ArePartTiles c.raw.result.now plane a kinds tiles) c.widened-around.ensures c.in_ok-tiles.ensures) in
+    let are = part_tiles_are raw _ plane area _ kinds tiles c.raw.ensures.value c.widened-around.ensures c.in_ok-tiles.ensures in
     let Defined : Kinds → Type 0 = λ k. (p : ℕ) (square : Square) → k p square ≢ None in
     let defined : All Defined kinds = All-map Defined g.Y.Layers.kind c.args.parts.now c.requires.defined in
     let cover : CoverExactly (OffendsOn raw (tile_parts tiles plane (length kinds)) plane) pieces =

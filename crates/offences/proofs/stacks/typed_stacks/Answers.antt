@@ -1,8 +1,10 @@
 use Rattle.std.proofs.Common.{List, subst, ◌∙◌, Vec, Global, ◌≡◌}
-use Rattle.std.specs.Prelude.{All, None}
+use Rattle.std.specs.Prelude.{All}
 use Rattle.std.proofs.lemmas.Result.{IfOk-weaker}
 use Rattle.geo_core.specs.declared.squares.Rect.{Rect}
+use Rattle.rect_overlays.specs.declared.stacks.Stack.{Stack}
 use Rattle.rect_overlays.specs.Stacks.{AreStacks}
+use Rattle.offences.specs.declared.set_tiles.SetTile.{SetTile}
 use Rattle.offences.specs.declared.stacks.TypedStack.{TypedStack}
 use Rattle.offences.specs.TypedStacks.{StandForAll, StandForTiles, HasMembers}
 use Rattle.offences.proofs.MemberLaws.{have_members}
@@ -10,11 +12,14 @@ use Rattle.offences.proofs.StackLaws.{tile_areas}
 use Rattle.offences.proofs.TypedStackLaws.{are_typed_stacks}
 use Rattle.offences.proofs.stacks.typed_stacks.Goals as goal
 
+-- stacks of a slice of the tiles' areas are those of the tiles
+stacks_are : (tiles : List SetTile) (stacks : List Stack) (areas slice : List Rect) → slice ≡ areas → areas ≡ tile_areas tiles
+    → AreStacks slice stacks → AreStacks (tile_areas tiles) stacks
+stacks_are tiles stacks areas slice read made are = subst (λ (r : List Rect). AreStacks r stacks) (read ∙ made) are
+
 pub typed_stacks_of-requires-clause-stacks : goal.typed_stacks_of-requires-clause-stacks
 typed_stacks_of-requires-clause-stacks c =
-    let tiles = c.args.tiles.now in
-    let areas : c.as_slice.result.now ≡ tile_areas tiles = c.as_slice.ensures.value ∙ c.in_ok-areas.ensures in
-    subst (λ (r : List Rect). AreStacks r c.in_ok-stacks.stacks.items) areas c.in_ok-stacks.ensures
+    stacks_are c.args.tiles.now c.in_ok-stacks.stacks.items _ _ c.as_slice.ensures.value c.in_ok-areas.ensures c.in_ok-stacks.ensures
 
 pub returns-clause-stand : goal.returns-clause-stand
 returns-clause-stand c =
@@ -22,8 +27,7 @@ returns-clause-stand c =
     let plane = c.args.plane in
     let tiles = c.args.tiles.now in
     let stacks = c.in_ok-stacks.stacks.items in
-    let areas : c.as_slice.result.now ≡ tile_areas tiles = c.as_slice.ensures.value ∙ c.in_ok-areas.ensures in
-    let are : AreStacks (tile_areas tiles) stacks = subst (λ (r : List Rect). AreStacks r stacks) areas c.in_ok-stacks.ensures in
+    let are = stacks_are tiles stacks _ _ c.as_slice.ensures.value c.in_ok-areas.ensures c.in_ok-stacks.ensures in
     IfOk-weaker c.typed_stacks_of.result (λ typed_stacks. StandForAll raw plane tiles stacks typed_stacks.items)
     (λ typed_stacks. StandForTiles raw plane tiles typed_stacks.items)
     (λ (typed_stacks : Vec TypedStack Global) stand count of_parts types.
@@ -36,8 +40,7 @@ returns-clause-members c =
     let plane = c.args.plane in
     let tiles = c.args.tiles.now in
     let stacks = c.in_ok-stacks.stacks.items in
-    let areas : c.as_slice.result.now ≡ tile_areas tiles = c.as_slice.ensures.value ∙ c.in_ok-areas.ensures in
-    let are : AreStacks (tile_areas tiles) stacks = subst (λ (r : List Rect). AreStacks r stacks) areas c.in_ok-stacks.ensures in
+    let are = stacks_are tiles stacks _ _ c.as_slice.ensures.value c.in_ok-areas.ensures c.in_ok-stacks.ensures in
     IfOk-weaker c.typed_stacks_of.result (λ typed_stacks. StandForAll raw plane tiles stacks typed_stacks.items)
     (λ typed_stacks. All (HasMembers tiles) typed_stacks.items)
     (λ (typed_stacks : Vec TypedStack Global) stand. have_members raw plane tiles stacks are typed_stacks.items stand)
