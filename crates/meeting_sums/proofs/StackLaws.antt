@@ -38,25 +38,21 @@ tile_is stacks i d below = get_or-map tile_of stacks i no_piece d below
 pub stack_read : (stacks : List PlaneStack) (i : ℕ) (piece : PlaneStack) → i < length stacks → piece ≡ get_or stacks i piece → piece.stack ≡ stack_at stacks i
 stack_read stacks i piece below is = ap (λ (p : PlaneStack). p.stack) (is ∙ get_or_default stacks i piece no_piece below)
 
+-- what is so of the tile at its place is so of its area
+read_by : (P : Rect → Type 0) (stacks : List PlaneStack) (i : ℕ) (piece : PlaneStack) → i < length stacks → piece ≡ get_or stacks i piece
+    → (i < length (tiles_of stacks) → P (get_or (tiles_of stacks) i no_tile).area) → P piece.stack.area
+read_by P stacks i piece below is there =
+    let long = tiles_long stacks in
+    subst (λ (s : TypedStack). P s.area) (sym (stack_read stacks i piece below is))
+    (subst (λ (t : RegionTile). P t.area) (tile_is stacks i no_tile below) (there (omega (arith, long, below))))
+
 pub read_proper : (stacks : List PlaneStack) (i : ℕ) (piece : PlaneStack) → i < length stacks → piece ≡ get_or stacks i piece → AreSpread (tiles_of stacks)
     → IsProper piece.stack.area
-read_proper stacks i piece below is spread =
-    subst (λ (s : TypedStack). IsProper s.area) (sym (stack_read stacks i piece below is))
-    (subst (λ (t : RegionTile). IsProper t.area) (tile_is stacks i no_tile below) (spread.proper i no_tile (let long = tiles_long stacks in omega (
-      arith,
-      long,
-      below,
-    ))))
+read_proper stacks i piece below is spread = read_by IsProper stacks i piece below is (spread.proper i no_tile)
 
 pub read_near : (stacks : List PlaneStack) (i : ℕ) (piece : PlaneStack) → i < length stacks → piece ≡ get_or stacks i piece → AreSpread (tiles_of stacks)
     → IsNear piece.stack.area
-read_near stacks i piece below is spread =
-    subst (λ (s : TypedStack). IsNear s.area) (sym (stack_read stacks i piece below is))
-    (subst (λ (t : RegionTile). IsNear t.area) (tile_is stacks i no_tile below) (spread.near i no_tile (let long = tiles_long stacks in omega (
-      arith,
-      long,
-      below,
-    ))))
+read_near stacks i piece below is spread = read_by IsNear stacks i piece below is (spread.near i no_tile)
 
 -- sizes are not negative
 product_not_negative : (w h : ℤ) → pos 0 ≤ℤ w → pos 0 ≤ℤ h → pos 0 ≤ℤ (w *ℤ h)
