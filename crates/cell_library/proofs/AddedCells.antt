@@ -1,41 +1,23 @@
 -- Cells that come all at once: what becomes of the library, and what they are refused for.
-use Rattle.std.proofs.Common.{◌≡◌, ◌⊎◌, ◌+◌, ◌<◌, ℕ, zero, suc, List, [], ◌∷◌, ◌++◌, length, length-append, map, get_or, Option, refl}
-use Rattle.std.proofs.Common.{sym, ap, subst, ◌∙◌, arith, inl, inr}
-use Rattle.std.specs.Prelude.{Some, None, All, IsTrue, slice_get, slice_index_or}
+use Rattle.cell_library.proofs.Common.{◌≡◌, ◌⊎◌, ◌+◌, ◌<◌, ℕ, zero, suc, List, [], ◌∷◌, ◌++◌, length, length-append, map, get_or, Option, refl, sym}
+use Rattle.cell_library.proofs.Common.{ap, subst, ◌∙◌, arith, inl, inr, Some, None, All, IsTrue, slice_get, slice_index_or, length-map, map-append}
+use Rattle.cell_library.proofs.Common.{slice_get_within, get_or_from_slice_get, In, Distinct, RawTech, CellBody, is_use_id, TreeFault, Crossing}
+use Rattle.cell_library.proofs.Common.{TooManyUses, Passed, NoMemory, Dimension, Depth, Elements, Hull, Size, UseBody, MayCome, children_of}
+use Rattle.cell_library.proofs.Common.{CellState, size_at, AreSizes, IsWithin, Tree, IsLawfulTree, ComesBefore, child_is_lower, above_as_deep}
+use Rattle.cell_library.proofs.Common.{LibFault, Cycle, Memory, AreFitFor, contents_with, held_from, names_in, new_views, CanBeAdded, kept_cell}
+use Rattle.cell_library.proofs.Common.{kept_use, of_tree, Held, held_at, LibraryParts, IsLawfulLibrary, IsLawfulHeld, HasUseIds, cells_seen, uses_in}
+use Rattle.cell_library.proofs.Common.{seen, edits_of, AreStatesOf, GoesPast, EditIsRefused, HasFaultOrLacksMemory, cell_view, cell_views, CellView}
+use Rattle.cell_library.proofs.Common.{LibraryView, names_of, no_cell, view_at}
 use Rattle.std.specs.Option.{option_or}
-use Rattle.std.proofs.lemmas.List.{length-map, map-append}
 use Rattle.std.proofs.lemmas.List.Elements.{All-append}
-use Rattle.std.proofs.lemmas.Option.{slice_get_within, get_or_from_slice_get}
-use Rattle.geo_core.specs.FiniteSets.Lists.{In, Distinct}
-use Rattle.tech_model.specs.declared.raw.RawTech.{RawTech}
-use Rattle.cell_bodies.specs.declared.bodies.CellBody.{CellBody}
 use Rattle.cell_bodies.specs.Bodies.{IsBody}
-use Rattle.cell_bodies.specs.Words.{is_use_id}
-use Rattle.cell_tree.specs.declared.faults.TreeFault.{TreeFault}
-use Rattle.cell_tree.specs.declared.faults.TreeFault.TheVariants.{Cycle as Crossing, TooManyUses, Passed, Memory as NoMemory}
-use Rattle.cell_tree.specs.declared.sizes.Dimension.{Dimension}
-use Rattle.cell_tree.specs.declared.sizes.Dimension.TheVariants.{Depth, Elements, Hull}
-use Rattle.cell_tree.specs.declared.sizes.Size.{Size}
-use Rattle.cell_tree.specs.declared.use_tables.UseBody.{UseBody}
 use Rattle.cell_tree.specs.Additions.{IsBelowItself as TreeBelowItself, PassesWithAll, RefusesAll}
-use Rattle.cell_tree.specs.Additions.{MayAllCome, MayCome, children_of}
-use Rattle.cell_tree.specs.Sizes.{CellState, size_at, size_of, AreSizes, IsWithin}
-use Rattle.cell_tree.specs.Trees.{Tree, IsLawfulTree}
-use Rattle.cell_tree.specs.Trials.{ComesBefore}
-use Rattle.cell_tree.proofs.SizeLaws.{child_is_lower}
-use Rattle.cell_tree.proofs.ArrivalLaws.{above_as_deep}
-use Rattle.cell_library.specs.declared.faults.LibFault.{LibFault}
-use Rattle.cell_library.specs.declared.faults.LibFault.TheVariants.{Cycle, Memory}
-use Rattle.cell_library.specs.steps.AddedCells.{AreCellsAdded, AreFitFor, HasNearLabels, TreeRefusesAll, contents_with, held_from, names_in, new_views}
-use Rattle.cell_library.specs.Additions.{AddAllIsRefused, AreNextCells, CanBeAdded, IsBelowItself, first_scale}
-use Rattle.cell_library.specs.Additions.{kept_cell, kept_use, names_with, with_all}
-use Rattle.cell_library.specs.steps.CellEdits.{of_tree}
-use Rattle.cell_library.specs.Contents.{Held, held_at}
-use Rattle.cell_library.specs.Libraries.{LibraryParts, IsLawfulLibrary, IsLawfulHeld, IsLawfulScale, HasUseIds, cells_seen, uses_in, seen, edits_of}
-use Rattle.cell_library.specs.Limits.{AreStatesOf, GoesPast}
-use Rattle.cell_library.specs.Refusals.{EditIsRefused, HasFaultOrLacksMemory}
-use Rattle.cell_library.specs.Seen.{cell_view, cell_views}
-use Rattle.cell_library.specs.Views.{CellView, LibraryView, names_of, no_cell, view_at}
+use Rattle.cell_tree.specs.Additions.{MayAllCome}
+use Rattle.cell_tree.specs.Sizes.{size_of}
+use Rattle.cell_library.specs.steps.AddedCells.{AreCellsAdded, HasNearLabels, TreeRefusesAll}
+use Rattle.cell_library.specs.Additions.{AddAllIsRefused, AreNextCells, IsBelowItself, first_scale}
+use Rattle.cell_library.specs.Additions.{names_with, with_all}
+use Rattle.cell_library.specs.Libraries.{IsLawfulScale}
 use Rattle.cell_library.proofs.ArrivingCells.{All-map, views_kept}
 use Rattle.cell_library.proofs.EditLaws.{uses_long}
 use Rattle.cell_library.proofs.FaultLaws.{first_of_or, not_first, not_full}

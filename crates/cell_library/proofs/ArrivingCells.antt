@@ -1,32 +1,14 @@
 -- Steps of the functions that take in cells which come all at once.
-use Rattle.std.proofs.Common.{◌≡◌, ◌+◌, ◌-◌, ◌<◌, ◌≤◌, ℕ, zero, suc, List, [], ◌∷◌, ◌++◌, append_assoc, length, length-append, map, take, drop, get_or, refl, sym, ap}
-use Rattle.std.proofs.Common.{subst, ◌∙◌, arith, inl, inr, true}
-use Rattle.std.specs.Prelude.{Some, None, All, cond, nat_lt}
-use Rattle.std.specs.List.{position, position_or_len}
-use Rattle.std.specs.Str.{bytes_eq}
-use Rattle.std.proofs.lemmas.Bool.{cases_Bool}
-use Rattle.std.proofs.lemmas.Bool.Decides.{nat_tests}
-use Rattle.std.proofs.lemmas.List.{length-map, map-append, take_more, length-take-le, length-drop}
+use Rattle.cell_library.proofs.Common.{◌≡◌, ◌+◌, ◌-◌, ◌<◌, ◌≤◌, ℕ, zero, suc, List, [], ◌∷◌, ◌++◌, append_assoc, length, length-append, map, take}
+use Rattle.cell_library.proofs.Common.{drop, get_or, refl, sym, ap, subst, ◌∙◌, arith, inl, inr, true, Some, None, All, cond, nat_lt, position}
+use Rattle.cell_library.proofs.Common.{position_or_len, bytes_eq, cases_Bool, nat_tests, length-map, map-append, take_more, All-push}
+use Rattle.cell_library.proofs.Common.{bytes_eq-Decides, map-map, In, Distinct, CellBody, CellUse, layout_of, NewCell, UseBody, new_state}
+use Rattle.cell_library.proofs.Common.{new_states, CellState, AreFitFor, AreUsesAmong, contents_with, held_from, kept_uses, names_in, new_views}
+use Rattle.cell_library.proofs.Common.{views_from, kept_cell, kept_use, Held, held_at, no_held, position_of, AreStatesOf, OwnBoxIs, cell_view}
+use Rattle.cell_library.proofs.Common.{cell_views, CellView}
+use Rattle.std.proofs.lemmas.List.{length-take-le, length-drop}
 use Rattle.std.proofs.lemmas.List.{get_or-drop, get_or_default}
-use Rattle.std.proofs.lemmas.List.Elements.{All-push}
-use Rattle.std.proofs.lemmas.Slice.Eq.{bytes_eq-Decides}
-use Rattle.std.proofs.lemmas.Simd.{map-map}
-use Rattle.geo_core.specs.FiniteSets.Lists.{In, Distinct}
 use Rattle.geo_core.proofs.FiniteSets.Distincts.{Distinct-append_apart}
-use Rattle.cell_bodies.specs.declared.bodies.CellBody.{CellBody}
-use Rattle.cell_bodies.specs.declared.bodies.CellUse.{CellUse}
-use Rattle.cell_bodies.specs.CellPaint.Paints.{layout_of}
-use Rattle.cell_tree.specs.declared.new_cells.NewCell.{NewCell}
-use Rattle.cell_tree.specs.declared.use_tables.UseBody.{UseBody}
-use Rattle.cell_tree.specs.Additions.{new_state, new_states}
-use Rattle.cell_tree.specs.Sizes.{CellState}
-use Rattle.cell_library.specs.steps.AddedCells.{AreFitFor, AreUsesAmong, contents_with, held_from, kept_uses, names_in, new_views, views_from}
-use Rattle.cell_library.specs.Additions.{kept_cell, kept_use}
-use Rattle.cell_library.specs.Contents.{Held, held_at, no_held, position_of}
-use Rattle.cell_library.specs.Limits.{AreStatesOf}
-use Rattle.cell_library.specs.OwnBoxes.{OwnBoxIs}
-use Rattle.cell_library.specs.Seen.{cell_view, cell_views}
-use Rattle.cell_library.specs.Views.{CellView}
 use Rattle.cell_library.proofs.ViewLaws.{one_more_seen, states_more, length-states, length-cell_views}
 
 -- ---- contents that come

@@ -1,44 +1,20 @@
 -- The uses of a cell that comes, as a library has them.
-use Rattle.std.proofs.Common.{◌≡◌, ◌<◌, ℕ, zero, suc, true, List, [], ◌∷◌, length, map, Option, refl, sym, ap}
-use Rattle.std.proofs.Common.{subst, ◌∙◌, arith, inl, inr, true≢false}
-use Rattle.std.specs.Prelude.{Some, None, IfSome, IsTrue, All, ℤ, slice_get, unwrap_or}
-use Rattle.std.specs.List.{position_or_len}
-use Rattle.std.specs.Option.{is_some, option_map}
-use Rattle.std.specs.Str.{bytes_eq}
-use Rattle.std.proofs.lemmas.Bool.{cases_Bool, and_parts}
-use Rattle.std.proofs.lemmas.Int.{ints}
-use Rattle.std.proofs.lemmas.List.{length-map}
-use Rattle.std.proofs.lemmas.Slice.Eq.{bytes_eq-Decides}
-use Rattle.geo_core.specs.FiniteSets.Lists.{In, Distinct}
-use Rattle.geo_core.proofs.FiniteSets.Searches.{All-In}
-use Rattle.tech_model.specs.declared.raw.Label.{Label}
-use Rattle.tech_model.specs.declared.raw.TypeRec.{TypeRec}
-use Rattle.geo_core.specs.declared.grids.Grid.{Grid}
-use Rattle.geo_core.specs.declared.orients.Orient.{Orient}
-use Rattle.geo_core.specs.declared.squares.Rect.{Rect}
-use Rattle.geo_core.specs.declared.transforms.Transform.{Transform}
-use Rattle.geo_core.specs.Areas.{LiesWithin}
-use Rattle.geo_core.specs.Images.{identity}
+use Rattle.cell_library.proofs.Common.{◌≡◌, ◌<◌, ℕ, zero, suc, true, List, [], ◌∷◌, length, map, Option, refl, sym, ap, subst, ◌∙◌, arith, inl, inr}
+use Rattle.cell_library.proofs.Common.{true≢false, Some, None, IfSome, IsTrue, All, slice_get, unwrap_or, position_or_len, option_map, bytes_eq}
+use Rattle.cell_library.proofs.Common.{cases_Bool, and_parts, ints, length-map, bytes_eq-Decides, In, Distinct, All-In, Label, TypeRec, Grid, Orient}
+use Rattle.cell_library.proofs.Common.{Rect, Transform, LiesWithin, identity, Layout, IsSoundPaint, CellUse, has_sides, is_displacement, UseBody}
+use Rattle.cell_library.proofs.Common.{MayCome, IsLawfulBox, CellState, IsLawfulOwn, IsLawfulUse, AreUsesAmong, kept_uses, names_in, kept_use, Held}
+use Rattle.cell_library.proofs.Common.{position_of, OwnBoxIs, HoldsOwn}
+use Rattle.std.specs.Prelude.{ℤ}
+use Rattle.std.specs.Option.{is_some}
 use Rattle.geo_core.specs.Orientation.{orient_of, is_orientation}
-use Rattle.cell_bodies.specs.LayoutModel.Layouts.{Layout}
 use Rattle.cell_bodies.specs.CellPaint.Painting.{is_in_range, paint_range}
-use Rattle.cell_bodies.specs.CellPaint.Paints.{IsSoundPaint}
-use Rattle.cell_bodies.specs.declared.bodies.CellUse.{CellUse}
 use Rattle.cell_bodies.specs.Bodies.{IsUse, ids_of}
-use Rattle.cell_bodies.specs.Numbers.{are_displacements, are_elements, has_sides, is_displacement}
+use Rattle.cell_bodies.specs.Numbers.{are_displacements, are_elements}
 use Rattle.cell_bodies.specs.Numbers.{is_grid, is_label_area, is_placing}
 use Rattle.cell_bodies.proofs.GridLaws.{IsLawful-is_grid}
-use Rattle.cell_tree.specs.declared.use_tables.UseBody.{UseBody}
-use Rattle.cell_tree.specs.Additions.{MayCome}
-use Rattle.cell_tree.specs.Hulls.{IsLawfulBox}
-use Rattle.cell_tree.specs.Sizes.{CellState, AreUsesBelow}
-use Rattle.cell_tree.specs.Trees.{IsLawfulOwn}
-use Rattle.cell_tree.specs.Uses.{IsLawfulUse}
-use Rattle.cell_library.specs.steps.AddedCells.{AreUsesAmong, kept_uses, names_in}
-use Rattle.cell_library.specs.Additions.{kept_use}
-use Rattle.cell_library.specs.Contents.{Held, position_of}
+use Rattle.cell_tree.specs.Sizes.{AreUsesBelow}
 use Rattle.cell_library.specs.Edits.{transform_of}
-use Rattle.cell_library.specs.OwnBoxes.{OwnBoxIs, HoldsOwn}
 use Rattle.cell_library.proofs.BoxSteps.{own_box_wide}
 use Rattle.cell_library.proofs.NewCells.{name_is_new}
 use Rattle.cell_library.proofs.UseSteps.{shift_of}

@@ -1,20 +1,11 @@
 -- How the box of what a cell has of its own changes with its paint and its labels.
-use Rattle.std.proofs.Common.{◌≡◌, ◌⊎◌, List, [], ◌∷◌, ◌++◌, Option, refl, ap, subst, arith, inl, inr}
-use Rattle.std.specs.Prelude.{Some, None, IsNone, IfSome, ◌↔◌}
-use Rattle.std.proofs.lemmas.Int.{ints}
-use Rattle.geo_core.specs.FiniteSets.Lists.{In}
-use Rattle.geo_core.proofs.FiniteSets.Members.{In-append_left, In-push_cases, In-push}
-use Rattle.geo_core.specs.declared.squares.Square.{Square}
-use Rattle.geo_core.specs.declared.squares.Rect.{Rect}
-use Rattle.geo_core.specs.Areas.{LiesWithin, joined_rect}
-use Rattle.geo_core.specs.Covering.{Covers, IsProper}
-use Rattle.geo_core.proofs.CoveringLaws.{joined_within, within_trans, within_antisym, within_joined_first, within_joined_second, within_covers, filled_within}
-use Rattle.tech_model.specs.declared.raw.Label.{Label}
-use Rattle.cell_bodies.specs.LayoutModel.Places.{Place}
-use Rattle.cell_bodies.specs.LayoutModel.Layouts.{Layout, IsMaterial}
+use Rattle.cell_library.proofs.Common.{◌≡◌, ◌⊎◌, List, [], ◌∷◌, ◌++◌, Option, refl, ap, subst, arith, inl, inr, Some, None, IfSome, ints, In}
+use Rattle.cell_library.proofs.Common.{In-append_left, In-push_cases, Square, Rect, LiesWithin, joined_rect, Covers, IsProper, filled_within, Label}
+use Rattle.cell_library.proofs.Common.{Place, Layout, IsMaterial, IsInside, HoldsOwn, IsOwnBox, OwnBoxIs, box_with}
+use Rattle.std.specs.Prelude.{IsNone, ◌↔◌}
+use Rattle.geo_core.proofs.FiniteSets.Members.{In-push}
+use Rattle.geo_core.proofs.CoveringLaws.{joined_within, within_trans, within_antisym, within_joined_first, within_joined_second, within_covers}
 use Rattle.cell_bodies.specs.CellPaint.Paints.{IsPaintBox}
-use Rattle.cell_tree.specs.Hulls.{IsInside}
-use Rattle.cell_library.specs.OwnBoxes.{HoldsOwn, IsOwnBox, OwnBoxIs, box_with}
 
 -- ---- rectangles
 

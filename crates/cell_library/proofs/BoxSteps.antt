@@ -1,32 +1,14 @@
 -- Boxes of cells in the tree: which are lawful, and what the tree does with them.
-use Rattle.std.proofs.Common.{◌≡◌, ◌<◌, ℕ, List, length, set, Option, refl, sym, subst, ◌∙◌, arith, inl, inr}
-use Rattle.std.specs.Prelude.{Some, None, not, All, IsTrue, ◌≤ℤ◌}
-use Rattle.std.specs.Str.{bytes_eq}
-use Rattle.std.proofs.lemmas.Int.{ints, clamps}
-use Rattle.std.proofs.lemmas.Bool.{and_parts}
-use Rattle.geo_core.proofs.FiniteSets.Members.{In-filter_source}
-use Rattle.geo_core.proofs.FiniteSets.Searches.{All-from_In, All-In}
-use Rattle.geo_core.specs.declared.squares.Rect.{Rect}
-use Rattle.geo_core.specs.Areas.{LiesWithin}
-use Rattle.geo_core.specs.Covering.{Covers}
-use Rattle.tech_model.specs.declared.raw.Label.{Label}
-use Rattle.tech_model.specs.declared.raw.RawTech.{RawTech}
-use Rattle.tech_model.specs.declared.raw.TypeRec.{TypeRec}
+use Rattle.cell_library.proofs.Common.{◌≡◌, ◌<◌, ℕ, List, length, set, Option, refl, sym, subst, ◌∙◌, arith, inl, inr, Some, None, not, All, IsTrue}
+use Rattle.cell_library.proofs.Common.{bytes_eq, ints, clamps, and_parts, In-filter_source, All-from_In, All-In, Rect, LiesWithin, Covers, Label}
+use Rattle.cell_library.proofs.Common.{RawTech, TypeRec, Layout, with_erased, layout_of, KeepsTypes, IsSoundPaint, IsLabel, has_sides, TreeFault}
+use Rattle.cell_library.proofs.Common.{TooManyUses, Passed, Depth, Elements, Hull, IsInside, IsLawfulBox, Tree, IsLawfulTree, IsLawfulOwn, WouldPass}
+use Rattle.cell_library.proofs.Common.{cell_at, with_own, cell_is, Held, held_at, IsRepainted, IsLawfulHeld, OwnBoxIs, IsOwnBox, box_with}
+use Rattle.std.specs.Prelude.{◌≤ℤ◌}
 use Rattle.tech_model.specs.WellFormed.{IsWellFormed}
-use Rattle.cell_bodies.specs.LayoutModel.Layouts.{Layout}
-use Rattle.cell_bodies.specs.CellPaint.Painting.{with_erased}
-use Rattle.cell_bodies.specs.CellPaint.Paints.{layout_of, KeepsTypes, IsSoundPaint}
-use Rattle.cell_bodies.specs.Bodies.{IsLabel}
-use Rattle.cell_bodies.specs.Numbers.{has_sides}
-use Rattle.cell_tree.specs.declared.faults.TreeFault.{TreeFault}
-use Rattle.cell_tree.specs.declared.faults.TreeFault.TheVariants.{Cycle, TooManyUses, Passed, Memory}
-use Rattle.cell_tree.specs.declared.sizes.Dimension.TheVariants.{Depth, Elements, Hull}
-use Rattle.cell_tree.specs.Hulls.{IsInside, IsLawfulBox}
-use Rattle.cell_tree.specs.Trees.{Tree, IsLawfulTree, IsLawfulOwn, RefusesBox, WouldPass, WouldKeepWithin, cell_at, with_own}
-use Rattle.cell_tree.proofs.WholeLaws.{cell_is}
-use Rattle.cell_library.specs.Contents.{Held, held_at, without_labels, IsRepainted}
-use Rattle.cell_library.specs.Libraries.{IsLawfulHeld}
-use Rattle.cell_library.specs.OwnBoxes.{OwnBoxIs, IsOwnBox, box_with}
+use Rattle.cell_tree.specs.declared.faults.TreeFault.TheVariants.{Cycle, Memory}
+use Rattle.cell_tree.specs.Trees.{RefusesBox, WouldKeepWithin}
+use Rattle.cell_library.specs.Contents.{without_labels}
 use Rattle.cell_library.proofs.BoxLaws.{fewer_inside}
 use Rattle.cell_library.proofs.MaterialLaws.{erased_only}
 use Rattle.cell_library.proofs.OwnEdits.{put_there}

@@ -1,34 +1,16 @@
 -- The boxes of the elements of a cell lie within the range of paint.
-use Rattle.std.proofs.Common.{◌≡◌, ◌<◌, ◌≤◌, inl, inr, ◌+◌, ℕ, zero, suc, ℤ, ◌≤ℤ◌, append_assoc, drop}
-use Rattle.std.proofs.Common.{List, [], ◌∷◌, ◌++◌, length, Option, Some, None, refl, sym, ap, subst, ◌∙◌, arith}
-use Rattle.std.specs.Prelude.{All, slice_get}
-use Rattle.std.specs.Option.{option_to_list}
-use Rattle.std.proofs.lemmas.Int.{ints, clamps}
-use Rattle.std.proofs.lemmas.List.{append-nil, drop_all, get_or_past}
-use Rattle.geo_core.specs.FiniteSets.Lists.{In}
-use Rattle.geo_core.proofs.FiniteSets.Members.{In-append_cases, In-append_right, In-map_source}
-use Rattle.geo_core.proofs.FiniteSets.Searches.{All-from_In}
-use Rattle.geo_core.proofs.FiniteSets.Places.{drop-slice_get}
-use Rattle.geo_core.specs.declared.orients.Orient.{Orient}
-use Rattle.geo_core.specs.declared.orients.Orient.TheVariants.{R0}
-use Rattle.geo_core.specs.declared.squares.Rect.{Rect}
-use Rattle.geo_core.specs.Areas.{joined_rect}
+use Rattle.cell_library.proofs.Common.{◌≡◌, ◌<◌, ◌≤◌, inl, inr, ◌+◌, ℕ, zero, suc, ℤ, ◌≤ℤ◌, append_assoc, drop, List, [], ◌∷◌, ◌++◌, length, Option}
+use Rattle.cell_library.proofs.Common.{refl, sym, ap, subst, ◌∙◌, arith, All, slice_get, option_to_list, ints, clamps, append-nil, drop_all}
+use Rattle.cell_library.proofs.Common.{get_or_past, In, In-append_cases, In-append_right, In-map_source, All-from_In, drop-slice_get, Orient, R0}
+use Rattle.cell_library.proofs.Common.{Rect, joined_rect, transform_of, Hull, Size, UseBody, IsInside, IsLawfulBox, displaced, element_hulls}
+use Rattle.cell_library.proofs.Common.{round_all, AreSizes, CellState, IsHullInRange, hulls_below, size_at, IsLawfulTree, Tree, cell_at}
+use Rattle.cell_library.proofs.Common.{displacements, inside_all, child_is_lower, cell_is, AreElementBoxes, IsLawfulLibrary, LibraryParts}
+use Rattle.cell_library.proofs.Common.{cells_seen, seen, uses_in, CellView, no_cell, view_at}
+use Rattle.std.proofs.Common.{Some, None}
 use Rattle.geo_core.specs.Images.{rect_image}
-use Rattle.geo_core.proofs.ImageLaws.{transform_of}
-use Rattle.cell_tree.specs.declared.sizes.Dimension.TheVariants.{Hull}
-use Rattle.cell_tree.specs.declared.sizes.Size.{Size}
-use Rattle.cell_tree.specs.declared.use_tables.UseBody.{UseBody}
-use Rattle.cell_tree.specs.Hulls.{IsInside, IsLawfulBox, displaced, element_hulls, round_all, round_both}
-use Rattle.cell_tree.specs.Sizes.{AreSizes, CellState, IsHullInRange, hulls_below, size_at, size_of}
-use Rattle.cell_tree.specs.Trees.{IsLawfulTree, Tree, cell_at}
-use Rattle.cell_tree.specs.Uses.{displacements}
-use Rattle.cell_tree.proofs.HullLaws.{inside_all}
-use Rattle.cell_tree.proofs.SizeLaws.{child_is_lower}
-use Rattle.cell_tree.proofs.WholeLaws.{cell_is}
-use Rattle.cell_library.specs.ElementBoxes.{AreElementBoxes}
-use Rattle.cell_library.specs.Libraries.{IsLawfulLibrary, LibraryParts, cells_seen, seen, uses_in}
+use Rattle.cell_tree.specs.Hulls.{round_both}
+use Rattle.cell_tree.specs.Sizes.{size_of}
 use Rattle.cell_library.specs.Limits.{HullIs}
-use Rattle.cell_library.specs.Views.{CellView, no_cell, view_at}
 use Rattle.cell_library.proofs.LimitLaws.{states_unique}
 use Rattle.cell_library.proofs.SizeLaws.{hulls_same, one_size, some_depth, tree_children}
 use Rattle.cell_library.proofs.UseEdits.{cell_below, child_below, uses_here}

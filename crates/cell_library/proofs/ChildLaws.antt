@@ -1,16 +1,12 @@
 -- The children of a cell: those of its uses, which are cells of the library.
-use Rattle.std.proofs.Common.{◌≡◌, ◌<◌, ℕ, zero, suc, List, [], ◌∷◌, length, map, refl, sym, subst}
-use Rattle.std.specs.Prelude.{Some, slice_get, slice_index_or}
+use Rattle.cell_library.proofs.Common.{◌≡◌, ◌<◌, ℕ, zero, suc, List, [], ◌∷◌, length, map, refl, sym, subst, Some, slice_get, slice_index_or, In}
+use Rattle.cell_library.proofs.Common.{In-map, In-map_source, In-slice_get, UseBody, IsLawfulLibrary, LibraryParts, seen, CellView, LibraryView}
+use Rattle.cell_library.proofs.Common.{no_cell, view_at}
 use Rattle.geo_core.specs.FiniteSets.Chain.{Chain}
-use Rattle.geo_core.specs.FiniteSets.Lists.{In}
 use Rattle.geo_core.proofs.FiniteSets.Chains.{Chain-carries}
-use Rattle.geo_core.proofs.FiniteSets.Members.{In-map, In-map_source}
-use Rattle.geo_core.proofs.FiniteSets.Places.{In-slice_get, slice_get-In}
+use Rattle.geo_core.proofs.FiniteSets.Places.{slice_get-In}
 use Rattle.cell_tree.specs.UseOrders.Uses.{UsesCell}
-use Rattle.cell_tree.specs.declared.use_tables.UseBody.{UseBody}
 use Rattle.cell_library.specs.Additions.{children_in}
-use Rattle.cell_library.specs.Libraries.{IsLawfulLibrary, LibraryParts, seen}
-use Rattle.cell_library.specs.Views.{CellView, LibraryView, no_cell, view_at}
 use Rattle.cell_library.proofs.ElementCounts.{use_is_lawful}
 
 -- the child of a use

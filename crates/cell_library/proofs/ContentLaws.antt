@@ -1,21 +1,12 @@
 -- The contents of cells in a hash table, seen as a list.
-use Rattle.std.proofs.Common.{◌≡◌, ◌+◌, ◌≤◌, ℕ, zero, suc, Bool, List, [], ◌∷◌, ◌++◌, length, map, take, set, refl, sym, ap, ◌∙◌, arith, inl, inr}
-use Rattle.std.specs.Prelude.{Some, None, not, slice_get, Vec, cond, nat_lt}
-use Rattle.std.specs.List.{position, position_or_len}
-use Rattle.std.specs.Map.{keys_of, values_of}
-use Rattle.std.specs.Str.{bytes_eq}
-use Rattle.std.specs.declared.alloc.Global.{Global}
-use Rattle.indexmap.specs.IndexMap.{set_value_at}
-use Rattle.std.proofs.lemmas.Bool.{cases_Bool, ltb-false}
-use Rattle.std.proofs.lemmas.List.{length-map, map-set, map-append, take-map, set-get_or}
-use Rattle.std.proofs.lemmas.Simd.{map-map}
+use Rattle.cell_library.proofs.Common.{◌≡◌, ◌+◌, ◌≤◌, ℕ, zero, suc, Bool, List, [], ◌∷◌, ◌++◌, length, map, take, set, refl, sym, ap, ◌∙◌, arith}
+use Rattle.cell_library.proofs.Common.{inl, inr, Some, None, not, slice_get, Vec, cond, nat_lt, position, position_or_len, values_of, bytes_eq}
+use Rattle.cell_library.proofs.Common.{Global, set_value_at, cases_Bool, ltb-false, length-map, map-set, map-append, set-get_or, map-map, Label}
+use Rattle.cell_library.proofs.Common.{Place, Layout, Paint, layout_of, Content, Held, held_of, held_in, held_at, no_held, position_of, IsRepainted}
+use Rattle.std.specs.Map.{keys_of}
+use Rattle.std.proofs.lemmas.List.{take-map}
 use Rattle.indexmap.specs.IndexMap.{insert_entry}
-use Rattle.tech_model.specs.declared.raw.Label.{Label}
-use Rattle.cell_bodies.specs.LayoutModel.Places.{Place}
-use Rattle.cell_bodies.specs.LayoutModel.Layouts.{Layout}
-use Rattle.cell_bodies.specs.CellPaint.Paints.{Paint, layout_of}
-use Rattle.cell_library.specs.declared.contents.Content.{Content}
-use Rattle.cell_library.specs.Contents.{Held, held_of, held_in, held_at, no_held, AreUnderNames, position_of, IsRepainted}
+use Rattle.cell_library.specs.Contents.{AreUnderNames}
 
 -- ---- places
 

@@ -1,21 +1,11 @@
 -- A library after an edit of one cell: it is lawful, and what is seen of it is what the edit says.
-use Rattle.std.proofs.Common.{◌≡◌, ◌<◌, ℕ, List, length, map, set, refl, sym, ap, subst, ◌∙◌, arith}
-use Rattle.std.specs.Prelude.{All, Option}
-use Rattle.std.proofs.lemmas.List.{length-set, length-map, map-set}
-use Rattle.std.proofs.lemmas.List.Elements.{All-set}
+use Rattle.cell_library.proofs.Common.{◌≡◌, ◌<◌, ℕ, List, length, map, set, refl, sym, ap, subst, ◌∙◌, arith, All, length-set, length-map, map-set}
+use Rattle.cell_library.proofs.Common.{All-set, Distinct, layout_of, RawTech, UseBody, CellState, Tree, IsLawfulTree, IsEdited, cell_at, Held}
+use Rattle.cell_library.proofs.Common.{held_at, no_held, IsRepainted, LibraryParts, IsLawfulLibrary, IsLawfulHeld, HasUseIds, cells_seen, uses_in}
+use Rattle.cell_library.proofs.Common.{seen, AreStatesOf, OwnBoxIs, cell_view, cell_views, CellView, changed_at}
+use Rattle.std.specs.Prelude.{Option}
 use Rattle.std.proofs.Math.Seq.{map-set_same}
-use Rattle.geo_core.specs.FiniteSets.Lists.{Distinct}
-use Rattle.cell_bodies.specs.CellPaint.Paints.{layout_of}
-use Rattle.tech_model.specs.declared.raw.RawTech.{RawTech}
-use Rattle.cell_tree.specs.declared.use_tables.UseBody.{UseBody}
-use Rattle.cell_tree.specs.Sizes.{CellState}
-use Rattle.cell_tree.specs.Trees.{Tree, IsLawfulTree, IsEdited, cell_at}
-use Rattle.cell_library.specs.Contents.{Held, held_at, no_held, IsRepainted}
-use Rattle.cell_library.specs.Libraries.{LibraryParts, IsLawfulLibrary, IsLawfulHeld, IsLawfulScale, HasUseIds, IsSame, cells_seen, uses_in, seen}
-use Rattle.cell_library.specs.Limits.{AreStatesOf}
-use Rattle.cell_library.specs.OwnBoxes.{OwnBoxIs}
-use Rattle.cell_library.specs.Seen.{cell_view, cell_views}
-use Rattle.cell_library.specs.Views.{CellView, changed_at}
+use Rattle.cell_library.specs.Libraries.{IsLawfulScale, IsSame}
 use Rattle.cell_library.proofs.ViewLaws.{cell_changed, states_changed, unchanged_seen, uses_at}
 
 -- a cell that is seen is among those that are kept

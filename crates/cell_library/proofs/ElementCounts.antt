@@ -1,24 +1,11 @@
 -- How many elements the uses of a cell have, and how many parts the cell has.
-use Rattle.std.proofs.Common.{◌≡◌, ◌+◌, ◌*◌, ◌<◌, ◌≤◌, ℕ, suc, ℤ, List, [], ◌∷◌, length, drop, sym, ap, subst, ◌∙◌, refl, arith}
-use Rattle.std.specs.Prelude.{Some, slice_get}
+use Rattle.cell_library.proofs.Common.{◌≡◌, ◌+◌, ◌*◌, ◌<◌, ◌≤◌, ℕ, suc, ℤ, List, [], ◌∷◌, length, drop, sym, ap, subst, ◌∙◌, refl, arith, Some}
+use Rattle.cell_library.proofs.Common.{slice_get, drop-slice_get, Transform, RawTech, CellTree, element_parts, parts_in, MOST_ELEMENTS_BELOW}
+use Rattle.cell_library.proofs.Common.{Elements, Size, UseBody, CellState, elements_below, size_at, cell_at, displacements, IsLawfulUse, cell_is}
+use Rattle.cell_library.proofs.Common.{elements_at, elements_from, tree_to, LibraryParts, IsLawfulLibrary, seen, element_count, LibraryView, view_at}
 use Rattle.std.proofs.Math.Nat.{mul-le-mul_left}
-use Rattle.geo_core.proofs.FiniteSets.Places.{drop-slice_get}
-use Rattle.geo_core.specs.declared.transforms.Transform.{Transform}
-use Rattle.tech_model.specs.declared.raw.RawTech.{RawTech}
-use Rattle.cell_bodies.specs.LayoutModel.CellTrees.{CellTree, Elements as TreeElements}
-use Rattle.cell_bodies.specs.LayoutModel.FlatSets.{element_parts, parts_in}
-use Rattle.cell_tree.specs.declared.limits.TheConstants.{MOST_ELEMENTS_BELOW}
-use Rattle.cell_tree.specs.declared.sizes.Dimension.TheVariants.{Elements}
-use Rattle.cell_tree.specs.declared.sizes.Size.{Size}
-use Rattle.cell_tree.specs.declared.use_tables.UseBody.{UseBody}
-use Rattle.cell_tree.specs.Sizes.{CellState, elements_below, size_at, size_of}
-use Rattle.cell_tree.specs.Trees.{cell_at}
-use Rattle.cell_tree.specs.Uses.{displacements, IsLawfulUse}
-use Rattle.cell_tree.proofs.WholeLaws.{cell_is}
-use Rattle.cell_library.specs.LayoutTrees.{elements_at, elements_from, tree_to}
-use Rattle.cell_library.specs.Libraries.{LibraryParts, IsLawfulLibrary, seen}
-use Rattle.cell_library.specs.PartCounts.{element_count}
-use Rattle.cell_library.specs.Views.{LibraryView, view_at}
+use Rattle.cell_bodies.specs.LayoutModel.CellTrees.{Elements as TreeElements}
+use Rattle.cell_tree.specs.Sizes.{size_of}
 use Rattle.cell_library.proofs.UseEdits.{cell_below, child_below, uses_here}
 
 -- ---- uses one by one

@@ -1,9 +1,7 @@
 -- Faults in their order.
-use Rattle.std.proofs.Common.{◌≡◌, ◌<◌, ◌⊎◌, ℕ, arith, inl, inr}
-use Rattle.std.specs.Prelude.{Result, Ok, Err, OnOk, OnErr, IfErr}
-use Rattle.cell_library.specs.declared.faults.LibFault.{LibFault}
-use Rattle.cell_library.specs.declared.limits.TheConstants.{MOST_EDITS}
-use Rattle.cell_library.specs.Refusals.{Answers, AnswersOrLacksMemory, HasFaultOrLacksMemory}
+use Rattle.cell_library.proofs.Common.{◌≡◌, ◌<◌, ◌⊎◌, ℕ, arith, inl, inr, OnOk, IfErr, LibFault, MOST_EDITS, HasFaultOrLacksMemory}
+use Rattle.std.specs.Prelude.{Result, Ok, Err, OnErr}
+use Rattle.cell_library.specs.Refusals.{Answers, AnswersOrLacksMemory}
 
 -- where the first condition doesn't hold, what comes later may be told otherwise
 pub first_of_map : {P Q A B : Type 0} → ((P → ⊥) → A → B) → ((P × Q) ⊎ ((P → ⊥) × A)) → (P × Q) ⊎ ((P → ⊥) × B)

@@ -1,35 +1,15 @@
 -- The spots of the elements of a grid: where each stands, and which do not meet an area.
-use Rattle.std.proofs.Common.{◌≡◌, ◌+◌, ◌*◌, ◌/◌, ◌%◌, ◌<◌, ◌≤◌, ℕ, zero, suc, ℤ, pos, negsuc, neg_ℤ, ◌+ℤ◌, ◌-ℤ◌, ◌*ℤ◌, ◌≤ℤ◌, ◌<ℤ◌, List, [], ◌∷◌}
-use Rattle.std.proofs.Common.{◌++◌, length, Option, Some, None, refl, sym, ap, subst, ◌∙◌, arith, inl, inr}
-use Rattle.std.specs.Prelude.{slice_get}
-use Rattle.std.specs.Option.{option_map}
-use Rattle.std.specs.Int.RustNames.{unsigned_abs}
-use Rattle.std.proofs.lemmas.Bool.{cases_lt}
-use Rattle.std.proofs.lemmas.Int.{ints}
-use Rattle.std.proofs.lemmas.List.{length-map}
-use Rattle.std.proofs.lemmas.Option.{slice_get-map, slice_get_within}
-use Rattle.std.proofs.Math.Nat.{mul-le-mul_right, div-lt_iff_lt-mul}
-use Rattle.geo_core.specs.declared.grids.Grid.{Grid}
-use Rattle.geo_core.specs.declared.limits.TheConstants.{MOST_ELEMENTS}
-use Rattle.geo_core.specs.declared.orients.Orient.{Orient}
-use Rattle.geo_core.specs.declared.orients.Orient.TheVariants.{R0}
-use Rattle.geo_core.specs.declared.squares.Square.{Square}
-use Rattle.geo_core.specs.declared.squares.Rect.{Rect}
-use Rattle.geo_core.specs.declared.transforms.Transform.{Transform}
-use Rattle.geo_core.specs.Covering.{Covers}
-use Rattle.geo_core.specs.Elements.{elements_of}
-use Rattle.geo_core.specs.Images.{composed, image, inverted, rect_image}
-use Rattle.geo_core.specs.Reach.{MovesInReach}
-use Rattle.geo_core.proofs.ElementLaws.{columns, rows, elements_of-at, length-elements_of, stands_at}
-use Rattle.geo_core.proofs.ImageLaws.{transform_of, image-back, image-forth, rect_image-covers}
-use Rattle.cell_bodies.specs.LayoutModel.Places.{Place}
-use Rattle.cell_tree.specs.declared.use_tables.UseBody.{UseBody}
-use Rattle.cell_tree.specs.Uses.{displacements, IsLawfulGrid, IsLawfulUse, IsShift}
-use Rattle.cell_library.specs.declared.spots.Spot.{Spot}
-use Rattle.cell_library.specs.declared.spots.UseSearch.{UseSearch}
-use Rattle.cell_library.specs.LayoutTrees.{element_transform}
-use Rattle.cell_library.specs.steps.Spans.{IsGridOf, spot_at, spots_to, seen_by, seen_low_x, seen_high_x, seen_low_y, seen_high_y, CanBeDropped}
-use Rattle.cell_library.specs.Spots.{AddsSpots, HasRoomToMove}
+use Rattle.cell_library.proofs.Common.{◌≡◌, ◌+◌, ◌*◌, ◌/◌, ◌%◌, ◌<◌, ◌≤◌, ℕ, zero, suc, ℤ, pos, neg_ℤ, ◌+ℤ◌, ◌-ℤ◌, ◌*ℤ◌, ◌≤ℤ◌, ◌<ℤ◌, List, [], ◌∷◌}
+use Rattle.cell_library.proofs.Common.{◌++◌, length, Option, refl, sym, ap, subst, ◌∙◌, arith, inl, inr, slice_get, option_map, unsigned_abs}
+use Rattle.cell_library.proofs.Common.{cases_lt, ints, length-map, slice_get-map, slice_get_within, mul-le-mul_right, div-lt_iff_lt-mul, Grid}
+use Rattle.cell_library.proofs.Common.{MOST_ELEMENTS, Orient, R0, Square, Rect, Transform, Covers, elements_of, composed, image, inverted}
+use Rattle.cell_library.proofs.Common.{MovesInReach, columns, rows, elements_of-at, length-elements_of, stands_at, transform_of, image-back}
+use Rattle.cell_library.proofs.Common.{image-forth, rect_image-covers, Place, UseBody, displacements, IsLawfulGrid, IsLawfulUse, IsShift, Spot}
+use Rattle.cell_library.proofs.Common.{UseSearch, element_transform, IsGridOf, spot_at, spots_to, seen_by, seen_low_x, seen_high_x, seen_low_y}
+use Rattle.cell_library.proofs.Common.{seen_high_y, CanBeDropped, AddsSpots, HasRoomToMove}
+use Rattle.std.proofs.Common.{negsuc}
+use Rattle.std.proofs.Common.{Some, None}
+use Rattle.geo_core.specs.Images.{rect_image}
 use Rattle.cell_library.proofs.PlacedRects.{back_on}
 use Rattle.cell_library.proofs.SpotLaws.{spots_at-more, spots_both, spots_one, spots_none, spots_dropped}
 

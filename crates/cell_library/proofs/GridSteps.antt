@@ -1,24 +1,15 @@
 -- The elements of grids one by one: how far each is displaced, and the boxes of those so far.
-use Rattle.std.proofs.Common.{◌≡◌, ℕ, ◌+◌, ◌/◌, ◌%◌, ◌≤◌, ℤ, pos, neg_ℤ}
-use Rattle.std.proofs.Common.{◌+ℤ◌, ◌*ℤ◌, ◌≤ℤ◌, ◌<ℤ◌, List, [], ◌∷◌, ◌++◌, length, map, take, append_assoc}
-use Rattle.std.proofs.Common.{to_z, of_z, w64, FitsSigned, refl, sym, ap, subst, ◌∙◌, arith}
-use Rattle.std.specs.Prelude.{None, Option, Some, slice_get}
-use Rattle.std.specs.Option.{option_map}
-use Rattle.std.proofs.lemmas.Int.{ints, to_z-of_z}
-use Rattle.std.proofs.lemmas.List.{length-map, map-append, take_all, take_more}
-use Rattle.std.proofs.lemmas.Option.{get_or_from_slice_get, same_Some, slice_get-map, slice_get_within}
-use Rattle.geo_core.specs.declared.grids.Grid.{Grid}
-use Rattle.geo_core.specs.declared.limits.TheConstants.{MOST_ELEMENTS, REACH}
-use Rattle.geo_core.specs.declared.squares.Rect.{Rect}
-use Rattle.geo_core.specs.Elements.{element_of, elements_of}
+use Rattle.cell_library.proofs.Common.{◌≡◌, ℕ, ◌+◌, ◌/◌, ◌%◌, ◌≤◌, ℤ, pos, neg_ℤ, ◌+ℤ◌, ◌*ℤ◌, ◌≤ℤ◌, ◌<ℤ◌, List, [], ◌∷◌, ◌++◌, length, map, take}
+use Rattle.cell_library.proofs.Common.{append_assoc, to_z, of_z, w64, FitsSigned, refl, sym, ap, subst, ◌∙◌, arith, None, Some, slice_get}
+use Rattle.cell_library.proofs.Common.{option_map, ints, to_z-of_z, length-map, map-append, take_all, take_more, get_or_from_slice_get}
+use Rattle.cell_library.proofs.Common.{slice_get-map, slice_get_within, Grid, MOST_ELEMENTS, Rect, elements_of, IsInReach, columns, elements_of-at}
+use Rattle.cell_library.proofs.Common.{stands_at, rect_is, UseBody, IsPaintable, displaced, element_hulls, IsLawfulGrid, IsShift, displacements}
+use Rattle.std.specs.Prelude.{Option}
+use Rattle.std.proofs.lemmas.Option.{same_Some}
+use Rattle.geo_core.specs.declared.limits.TheConstants.{REACH}
+use Rattle.geo_core.specs.Elements.{element_of}
 use Rattle.geo_core.specs.Images.{rect_image}
-use Rattle.geo_core.specs.Reach.{IsInReach}
-use Rattle.geo_core.proofs.ElementLaws.{columns, elements_of-at, stands_at}
-use Rattle.geo_core.proofs.SquareLaws.{rect_is}
 use Rattle.cell_tree.specs.declared.limits.TheConstants.{SPREAD_EDGE}
-use Rattle.cell_tree.specs.declared.use_tables.UseBody.{UseBody}
-use Rattle.cell_tree.specs.Hulls.{IsPaintable, displaced, element_hulls}
-use Rattle.cell_tree.specs.Uses.{IsLawfulGrid, IsShift, displacements}
 use Rattle.cell_tree.proofs.SpreadLaws.{product_low, product_high}
 
 -- a number on its way through 64 bits

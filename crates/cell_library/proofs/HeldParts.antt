@@ -1,24 +1,11 @@
 -- The parts of a cell lie in the boxes of its elements.
-use Rattle.std.proofs.Common.{◌≡◌, ◌≢◌, inl, inr, ℕ, ℤ, List, [], ◌∷◌, ◌++◌, map, Option, refl, sym, subst}
-use Rattle.std.specs.Prelude.{Some, None}
-use Rattle.std.proofs.lemmas.Bool.{cases_eq}
-use Rattle.geo_core.specs.declared.squares.Rect.{Rect}
-use Rattle.geo_core.specs.declared.transforms.Transform.{Transform}
-use Rattle.geo_core.specs.Covering.{Covers}
+use Rattle.cell_library.proofs.Common.{◌≡◌, ◌≢◌, inl, inr, ℕ, ℤ, List, [], ◌∷◌, ◌++◌, map, Option, refl, sym, subst, Some, None, cases_eq, Rect}
+use Rattle.cell_library.proofs.Common.{Transform, Covers, RawTech, Place, CellTree, place_back, element_parts, elements_in, flat_sets, Size, UseBody}
+use Rattle.cell_library.proofs.Common.{displaced, element_hulls, hulls_below, size_at, displacements, HoldParts, element_transform, elements_at}
+use Rattle.cell_library.proofs.Common.{elements_from, tree_to, IsLawfulLibrary, LibraryParts, seen, view_at}
 use Rattle.geo_core.specs.Images.{rect_image}
-use Rattle.tech_model.specs.declared.raw.RawTech.{RawTech}
-use Rattle.cell_bodies.specs.LayoutModel.Places.{Place}
-use Rattle.cell_bodies.specs.LayoutModel.CellTrees.{CellTree, Elements, place_back}
-use Rattle.cell_bodies.specs.LayoutModel.FlatSets.{element_parts, elements_in, flat_sets}
-use Rattle.cell_tree.specs.declared.sizes.Size.{Size}
-use Rattle.cell_tree.specs.declared.use_tables.UseBody.{UseBody}
-use Rattle.cell_tree.specs.Hulls.{displaced, element_hulls}
-use Rattle.cell_tree.specs.Sizes.{hulls_below, size_at}
-use Rattle.cell_tree.specs.Uses.{displacements}
-use Rattle.cell_library.specs.ElementBoxes.{HoldParts}
-use Rattle.cell_library.specs.LayoutTrees.{element_transform, elements_at, elements_from, tree_at, tree_to}
-use Rattle.cell_library.specs.Libraries.{IsLawfulLibrary, LibraryParts, seen}
-use Rattle.cell_library.specs.Views.{view_at}
+use Rattle.cell_bodies.specs.LayoutModel.CellTrees.{Elements}
+use Rattle.cell_library.specs.LayoutTrees.{tree_at}
 use Rattle.cell_library.proofs.HullsHoldMaterial.{covers_from_back, element_image, hull_holds}
 
 -- elements that have nothing need no boxes

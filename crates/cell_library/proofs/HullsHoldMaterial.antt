@@ -1,44 +1,16 @@
 -- The hull of a cell holds all material at and below it.
-use Rattle.std.proofs.Common.{◌≡◌, ◌≢◌, ◌⊎◌, ◌<◌, ℕ, zero, suc, ℤ, List, [], ◌∷◌, ◌++◌, map, length, Option, refl, sym, ap, subst, ◌∙◌, arith, inl}
-use Rattle.std.proofs.Common.{inr}
-use Rattle.std.specs.Prelude.{Some, None, slice_index_or}
-use Rattle.std.specs.Option.{option_to_list}
-use Rattle.std.proofs.lemmas.Bool.{cases_lt}
-use Rattle.std.proofs.lemmas.Int.{ints}
-use Rattle.std.proofs.lemmas.List.{get_or_past}
-use Rattle.geo_core.specs.FiniteSets.Lists.{In}
-use Rattle.geo_core.proofs.FiniteSets.Members.{In-append_left, In-append_right}
-use Rattle.geo_core.specs.declared.orients.Orient.{Orient}
-use Rattle.geo_core.specs.declared.orients.Orient.TheVariants.{R0}
-use Rattle.geo_core.specs.declared.squares.Square.{Square}
-use Rattle.geo_core.specs.declared.squares.Rect.{Rect}
-use Rattle.geo_core.specs.declared.transforms.Transform.{Transform}
-use Rattle.geo_core.specs.Areas.{LiesWithin}
-use Rattle.geo_core.specs.Covering.{Covers}
-use Rattle.geo_core.specs.Images.{image, inverted, rect_image}
-use Rattle.geo_core.proofs.SquareLaws.{rect_is}
-use Rattle.geo_core.proofs.ImageLaws.{transform_of, image-forth, rect_image-covers}
-use Rattle.tech_model.specs.declared.raw.RawTech.{RawTech}
-use Rattle.tech_model.specs.Types.{parts_of}
-use Rattle.cell_bodies.specs.LayoutModel.Places.{Place}
-use Rattle.cell_bodies.specs.LayoutModel.Layouts.{IsMaterial}
-use Rattle.cell_tree.specs.declared.sizes.Size.{Size}
-use Rattle.cell_tree.specs.declared.use_tables.UseBody.{UseBody}
-use Rattle.cell_tree.specs.Uses.{displacements}
-use Rattle.cell_tree.specs.Hulls.{displaced, element_hulls, round_all, IsInside}
-use Rattle.cell_tree.specs.Sizes.{CellState, AreSizes, hulls_below, size_at, size_of}
-use Rattle.cell_tree.specs.Trees.{cell_at}
-use Rattle.cell_tree.proofs.HullLaws.{inside_all}
-use Rattle.cell_tree.proofs.WholeLaws.{cell_is}
-use Rattle.cell_bodies.specs.LayoutModel.CellTrees.{CellTree, Elements, place_back}
-use Rattle.cell_bodies.specs.LayoutModel.CellTrees.CellTree.{cell_tree}
-use Rattle.cell_bodies.specs.LayoutModel.CellTrees.Elements.{no_elements, element_and}
-use Rattle.cell_bodies.specs.LayoutModel.FlatSets.{flat_sets, sets_below, sets_in}
-use Rattle.cell_library.specs.LayoutTrees.{element_transform, elements_at, elements_from, tree_to}
-use Rattle.cell_library.specs.Limits.{AreStatesOf}
-use Rattle.cell_library.specs.steps.MaterialBelow.{HasMaterial, HasMaterialBelow}
-use Rattle.cell_library.specs.OwnBoxes.{OwnBoxIs}
-use Rattle.cell_library.specs.Views.{CellView, LibraryView, no_cell, view_at}
+use Rattle.cell_library.proofs.Common.{◌≡◌, ◌≢◌, ◌⊎◌, ◌<◌, ℕ, zero, suc, ℤ, List, [], ◌∷◌, ◌++◌, map, length, Option, refl, sym, ap, subst, ◌∙◌}
+use Rattle.cell_library.proofs.Common.{arith, inl, inr, Some, None, slice_index_or, option_to_list, cases_lt, ints, get_or_past, In, In-append_left}
+use Rattle.cell_library.proofs.Common.{In-append_right, Orient, R0, Square, Rect, Transform, LiesWithin, Covers, image, inverted, rect_is}
+use Rattle.cell_library.proofs.Common.{transform_of, image-forth, rect_image-covers, RawTech, parts_of, Place, IsMaterial, Size, UseBody}
+use Rattle.cell_library.proofs.Common.{displacements, displaced, element_hulls, round_all, IsInside, CellState, AreSizes, hulls_below, size_at}
+use Rattle.cell_library.proofs.Common.{cell_at, inside_all, cell_is, CellTree, place_back, cell_tree, no_elements, element_and, flat_sets}
+use Rattle.cell_library.proofs.Common.{sets_below, element_transform, elements_at, elements_from, tree_to, AreStatesOf, HasMaterial}
+use Rattle.cell_library.proofs.Common.{HasMaterialBelow, OwnBoxIs, CellView, LibraryView, no_cell, view_at}
+use Rattle.geo_core.specs.Images.{rect_image}
+use Rattle.cell_tree.specs.Sizes.{size_of}
+use Rattle.cell_bodies.specs.LayoutModel.CellTrees.{Elements}
+use Rattle.cell_bodies.specs.LayoutModel.FlatSets.{sets_in}
 use Rattle.cell_bodies.proofs.LayoutModel.SetUnions.{union_some}
 use Rattle.cell_library.proofs.ViewLaws.{length-states, state_there}
 

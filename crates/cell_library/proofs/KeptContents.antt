@@ -1,15 +1,8 @@
 -- Contents as they are kept, when they change.
-use Rattle.std.proofs.Common.{◌≡◌, ◌<◌, ℕ, List, [], ◌∷◌, ◌++◌, length, take, refl, sym, ap, subst, ◌∙◌, arith}
-use Rattle.std.specs.Prelude.{Some, All, slice_get, Vec}
-use Rattle.std.specs.Map.{values_of}
-use Rattle.std.specs.declared.alloc.Global.{Global}
-use Rattle.std.proofs.lemmas.List.{length-map, take_at}
-use Rattle.std.proofs.lemmas.List.Elements.{All-push, All-set, All-take}
-use Rattle.std.proofs.lemmas.Option.{slice_get_within}
-use Rattle.indexmap.specs.IndexMap.{set_value_at}
-use Rattle.cell_bodies.specs.CellPaint.Paints.{layout_of, IsSoundPaint}
-use Rattle.cell_library.specs.declared.contents.Content.{Content}
-use Rattle.cell_library.specs.Contents.{held_of, held_in, no_held, IsSoundHeld, AreKept}
+use Rattle.cell_library.proofs.Common.{◌≡◌, ◌<◌, ℕ, List, [], ◌∷◌, ◌++◌, length, take, refl, sym, ap, subst, ◌∙◌, arith, Some, All, slice_get, Vec}
+use Rattle.cell_library.proofs.Common.{values_of, Global, length-map, All-push, All-set, All-take, slice_get_within, set_value_at, layout_of}
+use Rattle.cell_library.proofs.Common.{IsSoundPaint, Content, held_of, held_in, no_held, IsSoundHeld, AreKept}
+use Rattle.std.proofs.lemmas.List.{take_at}
 use Rattle.cell_library.proofs.ContentLaws.{held_value, held_set, still_under_names, held_more, under_names_more, held_first, under_names_first}
 
 -- the paint of one of them is sound

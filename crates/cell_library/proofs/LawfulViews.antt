@@ -1,14 +1,8 @@
 -- What a lawful library with sound paint is seen as.
-use Rattle.std.proofs.Common.{◌≡◌, ◌<◌, ℕ, List, length, refl, sym, ap, subst, arith}
-use Rattle.std.specs.Prelude.{All}
+use Rattle.cell_library.proofs.Common.{◌≡◌, ◌<◌, ℕ, List, length, refl, sym, ap, subst, arith, All, TypeRec, Layout, IsSoundPaint, layout_of}
+use Rattle.cell_library.proofs.Common.{IsSoundHeld, held_at, no_held, IsLawfulLibrary, LibraryParts, seen, uses_in, CellView, no_cell, view_at}
 use Rattle.std.proofs.lemmas.List.{get_or_default}
-use Rattle.tech_model.specs.declared.raw.TypeRec.{TypeRec}
-use Rattle.cell_bodies.specs.LayoutModel.Layouts.{Layout}
-use Rattle.cell_bodies.specs.CellPaint.Paints.{IsSoundPaint, layout_of}
-use Rattle.cell_library.specs.Contents.{IsSoundHeld, held_at, no_held}
 use Rattle.cell_library.specs.LawfulViews.{HasSoundPaint, IsSoundView}
-use Rattle.cell_library.specs.Libraries.{IsLawfulLibrary, LibraryParts, seen, uses_in}
-use Rattle.cell_library.specs.Views.{CellView, no_cell, view_at}
 use Rattle.cell_library.proofs.ViewLaws.{cell_viewed, count_seen}
 
 module _ (library : LibraryParts) (lawful : IsLawfulLibrary library) where

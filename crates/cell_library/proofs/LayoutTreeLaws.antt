@@ -1,19 +1,9 @@
 -- The trees of the cells of a lawful library: enough depth makes them whole.
-use Rattle.std.proofs.Common.{◌≡◌, ◌<◌, ◌≤◌, ℕ, zero, suc, List, [], ◌∷◌, length, refl, sym, ap, ◌∙◌, arith}
-use Rattle.std.specs.Prelude.{Some, slice_get}
-use Rattle.std.proofs.lemmas.Option.{slice_get-get_or}
-use Rattle.cell_bodies.specs.LayoutModel.CellTrees.{CellTree}
-use Rattle.cell_bodies.specs.LayoutModel.CellTrees.CellTree.{cell_tree}
-use Rattle.cell_tree.specs.declared.limits.TheConstants.{MOST_DEPTH}
-use Rattle.cell_tree.specs.declared.sizes.Dimension.TheVariants.{Depth}
-use Rattle.cell_tree.specs.declared.sizes.Size.{Size}
-use Rattle.cell_tree.specs.declared.use_tables.UseBody.{UseBody}
-use Rattle.cell_tree.specs.Uses.{displacements}
-use Rattle.cell_tree.specs.Sizes.{size_at, size_of, depth_below}
-use Rattle.cell_tree.specs.Trees.{cell_at, empty_cell}
-use Rattle.cell_library.specs.LayoutTrees.{elements_at, elements_from, own_cell, tree_at, tree_to}
-use Rattle.cell_library.specs.Libraries.{LibraryParts, IsLawfulLibrary, seen, uses_in}
-use Rattle.cell_library.specs.Views.{view_at}
+use Rattle.cell_library.proofs.Common.{◌≡◌, ◌<◌, ◌≤◌, ℕ, zero, suc, List, [], ◌∷◌, length, refl, sym, ap, ◌∙◌, arith, Some, slice_get}
+use Rattle.cell_library.proofs.Common.{slice_get-get_or, CellTree, cell_tree, MOST_DEPTH, Depth, Size, UseBody, displacements, size_at, cell_at}
+use Rattle.cell_library.proofs.Common.{empty_cell, elements_at, elements_from, tree_to, LibraryParts, IsLawfulLibrary, seen, uses_in, view_at}
+use Rattle.cell_tree.specs.Sizes.{size_of, depth_below}
+use Rattle.cell_library.specs.LayoutTrees.{own_cell, tree_at}
 use Rattle.cell_library.proofs.ViewLaws.{cell_viewed, uses_at}
 
 -- uses of a cell, each with its id

@@ -10,6 +10,7 @@ pub mod BoxLaws
 pub mod BoxSteps
 pub mod BoxesBelow
 pub mod ChildLaws
+mod Common
 pub mod ContentLaws
 mod EditLaws
 pub mod ElementCounts

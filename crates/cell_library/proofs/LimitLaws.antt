@@ -1,15 +1,7 @@
 -- Limits of libraries, as what is seen of them tells them, and as their trees do.
-use Rattle.std.proofs.Common.{◌≡◌, ℕ, List, [], ◌∷◌, length, refl, sym, subst, ◌∙◌, arith, inl, inr}
-use Rattle.std.specs.Prelude.{slice_set}
-use Rattle.std.proofs.lemmas.Bool.{cases_lt}
-use Rattle.std.proofs.lemmas.List.{length-set}
-use Rattle.cell_tree.specs.declared.sizes.Dimension.{Dimension}
-use Rattle.cell_tree.specs.Cells.{IsAbove}
-use Rattle.cell_tree.specs.Sizes.{CellState, AreSizes, IsWithin, size_at}
-use Rattle.cell_tree.specs.Trials.{ComesBefore}
-use Rattle.cell_tree.specs.Trees.{Tree, IsLawfulTree, WouldPass}
-use Rattle.cell_library.specs.Limits.{AreStatesOf, GoesPast}
-use Rattle.cell_library.specs.Views.{CellView, LibraryView}
+use Rattle.cell_library.proofs.Common.{◌≡◌, ℕ, List, [], ◌∷◌, length, refl, sym, subst, ◌∙◌, arith, inl, inr, slice_set, cases_lt, length-set}
+use Rattle.cell_library.proofs.Common.{Dimension, IsAbove, CellState, AreSizes, IsWithin, size_at, ComesBefore, Tree, IsLawfulTree, WouldPass}
+use Rattle.cell_library.proofs.Common.{AreStatesOf, GoesPast, CellView, LibraryView}
 use Rattle.cell_library.proofs.BoxLaws.{own_box_unique}
 use Rattle.cell_library.proofs.SizeLaws.{HaveChildren, one_size, others_stay, tree_children, past_last, none_within}
 use Rattle.cell_library.proofs.ViewLaws.{length-states}

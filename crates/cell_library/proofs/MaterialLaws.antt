@@ -1,28 +1,20 @@
 -- Painting takes no material away and leaves none of the area without; erasing makes none.
-use Rattle.std.proofs.Common.{◌≡◌, ◌≢◌, ◌⊎◌, ◌+◌, ◌^◌, ◌<◌, ℕ, zero, suc, Option, List, [], ◌∷◌, length, fold, bit_and, bit_or, refl, sym, ap}
-use Rattle.std.proofs.Common.{get_or}
-use Rattle.std.proofs.Common.{subst, ◌∙◌, arith, inl, inr}
-use Rattle.std.specs.Prelude.{Some, None, IsTrue, unwrap_or}
-use Rattle.std.specs.Int.{bit_at}
-use Rattle.std.proofs.lemmas.Bool.{cases_Bool, cases_lt, true≢false, eq-eqb, eqb-true}
+use Rattle.cell_library.proofs.Common.{◌≡◌, ◌≢◌, ◌⊎◌, ◌+◌, ◌<◌, ℕ, zero, suc, Option, List, [], ◌∷◌, length, refl, sym, ap, get_or, subst, ◌∙◌}
+use Rattle.cell_library.proofs.Common.{arith, inl, inr, Some, None, IsTrue, unwrap_or, bit_at, cases_Bool, cases_lt, In, In-index, In-get_or, All-In}
+use Rattle.cell_library.proofs.Common.{Square, Rect, Covers, is_covered, Covers-is_covered, is_covered-Covers, MOST_PLANES, TypeId, RawTech}
+use Rattle.cell_library.proofs.Common.{plane_of, parts_of, type_on, painted_column, erased_column, Place, Layout, IsMaterial, with_paint}
+use Rattle.cell_library.proofs.Common.{with_erased, KeepsTypes}
+use Rattle.std.proofs.Common.{◌^◌, fold, bit_and, bit_or}
+use Rattle.std.proofs.lemmas.Bool.{true≢false, eq-eqb, eqb-true}
 use Rattle.std.proofs.lemmas.Nat.Bits.{bit_at-zero, bit_at_and, same_from_bits}
-use Rattle.geo_core.specs.FiniteSets.Lists.{In}
-use Rattle.geo_core.proofs.FiniteSets.Members.{In-index, In-get_or}
-use Rattle.geo_core.proofs.FiniteSets.Searches.{find-In, find-none, All-In}
-use Rattle.geo_core.specs.declared.squares.Square.{Square}
-use Rattle.geo_core.specs.declared.squares.Rect.{Rect}
-use Rattle.geo_core.specs.Covering.{Covers, is_covered}
-use Rattle.geo_core.proofs.CoveringLaws.{Covers-is_covered, is_covered-Covers}
-use Rattle.tech_model.specs.declared.limits.TheConstants.{MOST_PLANES}
-use Rattle.tech_model.specs.declared.raw.TypeId.{TypeId}
+use Rattle.geo_core.proofs.FiniteSets.Searches.{find-In, find-none}
 use Rattle.tech_model.specs.declared.raw.LayerRec.{LayerRec}
-use Rattle.tech_model.specs.declared.raw.RawTech.{RawTech}
-use Rattle.tech_model.specs.Types.{is_type, type_number, no_layer, plane_of, layer_at, parts_of, images_of, is_on, image_on, joined, is_subset, without}
+use Rattle.tech_model.specs.Types.{is_type, type_number, no_layer, layer_at, images_of, is_on, image_on, joined, is_subset, without}
 use Rattle.tech_model.specs.WellFormed.{IsWellFormed, IsContact, IsMarked}
 use Rattle.tech_model.specs.Rules.{HaveOwnSets}
-use Rattle.tech_model.specs.Columns.{painted_by, erased_by, where_image, on_planes_from, mark_of, type_on, without_parts, layer_mark_kept, marks_kept}
+use Rattle.tech_model.specs.Columns.{painted_by, erased_by, where_image, on_planes_from, mark_of, without_parts, layer_mark_kept, marks_kept}
 use Rattle.tech_model.specs.declared.columns.Brush.TheVariants.{Paint as PaintBrush, Erase as EraseBrush}
-use Rattle.tech_model.specs.Columns.{brushed_column, painted_column, erased_column}
+use Rattle.tech_model.specs.Columns.{brushed_column}
 use Rattle.tech_model.specs.ColumnForms.{IsOnPlane, IsColumn}
 use Rattle.tech_model.proofs.JoinedLaws.{joined-found, joined-type}
 use Rattle.tech_model.proofs.WellFormedLaws.{layer_well_formed, type_bounds}
@@ -30,10 +22,7 @@ use Rattle.tech_model.proofs.SetLaws.{bit_cases, or_bit_right, mark_part_bit, ma
 use Rattle.tech_model.proofs.MarkLaws.{mark_of-contact, residue_set}
 use Rattle.tech_model.proofs.ColumnLaws.{changed, kept_cases, kept_is_column, bit_type, brushed_is_column}
 use Rattle.tech_model.proofs.WholeLaws.{unmarked_keeps}
-use Rattle.cell_bodies.specs.LayoutModel.Places.{Place}
-use Rattle.cell_bodies.specs.LayoutModel.Layouts.{Layout, IsMaterial}
-use Rattle.cell_bodies.specs.CellPaint.Painting.{place_at, column_at, with_paint, with_erased}
-use Rattle.cell_bodies.specs.CellPaint.Paints.{KeepsTypes}
+use Rattle.cell_bodies.specs.CellPaint.Painting.{place_at, column_at}
 use Rattle.cell_bodies.proofs.CellPaint.ColumnsLaws.{column_type}
 use Rattle.cell_bodies.proofs.CellPaint.PaintLaws.{type_past_column, changed_inside, changed_outside}
 use Rattle.cell_bodies.proofs.CellPaint.AgainLaws.{image_type}

@@ -1,39 +1,20 @@
 -- Uses that are placed otherwise: what becomes of the library, and what an edit is refused for.
-use Rattle.std.proofs.Common.{◌≡◌, ◌+◌, ◌<◌, ◌≤◌, ◌&&◌, ◌*◌, ℕ, zero, suc, true, false, Bool, List, [], ◌∷◌, length, map, Option, refl, sym, ap, subst, ◌∙◌}
-use Rattle.std.proofs.Common.{arith, inl, inr, true≢false}
-use Rattle.std.specs.Prelude.{Some, not, ◌||◌, ℤ, slice_get, slice_set, IsTrue}
-use Rattle.std.specs.List.{list_any}
-use Rattle.std.specs.Str.{bytes_eq}
-use Rattle.std.proofs.lemmas.Bool.{cases_Bool, cases_eq, cases_lt}
-use Rattle.std.proofs.lemmas.List.{length-set, get_or-set_same}
-use Rattle.std.proofs.lemmas.Option.{slice_get-get_or}
-use Rattle.std.proofs.lemmas.Slice.Eq.{bytes_eq-Decides}
-use Rattle.geo_core.specs.FiniteSets.Lists.{In, Distinct}
-use Rattle.geo_core.proofs.FiniteSets.Searches.{All-from_In, All-In}
-use Rattle.geo_core.proofs.FiniteSets.Places.{slice_get-set_other}
-use Rattle.geo_core.specs.declared.grids.Grid.{Grid}
-use Rattle.geo_core.specs.declared.transforms.Transform.{Transform}
-use Rattle.cell_bodies.specs.Words.{is_use_id}
-use Rattle.cell_tree.specs.declared.faults.TreeFault.{TreeFault}
-use Rattle.cell_tree.specs.declared.faults.TreeFault.TheVariants.{Cycle as Crossing, TooManyUses, Passed, Memory as NoMemory}
-use Rattle.cell_tree.specs.declared.sizes.Dimension.TheVariants.{Depth, Elements, Hull}
-use Rattle.cell_tree.specs.declared.sizes.Size.{Size}
-use Rattle.cell_tree.specs.declared.use_tables.UseBody.{UseBody}
-use Rattle.cell_tree.specs.Uses.{moved_at, displacements}
-use Rattle.cell_tree.specs.Sizes.{CellState, AreSizes, size_at, size_of, elements_below, IsWithin}
-use Rattle.cell_tree.specs.Trees.{Tree, IsLawfulTree, RefusesMove, WouldPass, cell_at, with_moved}
-use Rattle.cell_tree.proofs.SizeLaws.{elements_below-alike, child_is_lower}
-use Rattle.cell_tree.proofs.WholeLaws.{cell_is}
-use Rattle.cell_library.specs.declared.faults.LibFault.{LibFault}
-use Rattle.cell_library.specs.declared.faults.LibFault.TheVariants.{OutOfRange, NoUse, TooMany}
+use Rattle.cell_library.proofs.Common.{◌≡◌, ◌+◌, ◌<◌, ◌≤◌, ◌&&◌, ◌*◌, ℕ, zero, suc, true, false, Bool, List, [], ◌∷◌, length, map, Option, refl, sym}
+use Rattle.cell_library.proofs.Common.{ap, subst, ◌∙◌, arith, inl, inr, true≢false, Some, not, ◌||◌, slice_get, slice_set, IsTrue, list_any}
+use Rattle.cell_library.proofs.Common.{bytes_eq, cases_Bool, cases_eq, cases_lt, length-set, get_or-set_same, slice_get-get_or, bytes_eq-Decides, In}
+use Rattle.cell_library.proofs.Common.{Distinct, All-from_In, All-In, slice_get-set_other, Grid, Transform, is_use_id, TreeFault, Crossing}
+use Rattle.cell_library.proofs.Common.{TooManyUses, Passed, NoMemory, Depth, Elements, Hull, Size, UseBody, moved_at, displacements, CellState}
+use Rattle.cell_library.proofs.Common.{AreSizes, size_at, elements_below, IsWithin, Tree, IsLawfulTree, RefusesMove, WouldPass, cell_at, with_moved}
+use Rattle.cell_library.proofs.Common.{child_is_lower, cell_is, LibFault, OutOfRange, NoUse, TooMany, MOST_EDITS, of_tree, HasUseAt, moved_use}
+use Rattle.cell_library.proofs.Common.{with_use_changed, LibraryParts, IsLawfulLibrary, HasUseIds, cells_seen, seen, edits_of, AreStatesOf, GoesPast}
+use Rattle.cell_library.proofs.Common.{FirstOf, NothingElse, EditIsRefused, has_id, stands_in_range, CellView, view_at}
+use Rattle.std.specs.Prelude.{ℤ}
+use Rattle.cell_tree.specs.Sizes.{size_of}
+use Rattle.cell_tree.proofs.SizeLaws.{elements_below-alike}
 use Rattle.cell_library.specs.declared.limits.LibraryLimit.TheVariants.{Elements as ElementsLimit, Edits}
-use Rattle.cell_library.specs.declared.limits.TheConstants.{MOST_EDITS}
-use Rattle.cell_library.specs.steps.CellEdits.{of_tree, IsArrayedIn, GridIsRefused, IsMovedIn, ShiftIsRefused, HasUseAt}
-use Rattle.cell_library.specs.Edits.{with_grid, moved, moved_use, with_use_changed}
-use Rattle.cell_library.specs.Libraries.{LibraryParts, IsLawfulLibrary, HasUseIds, cells_seen, seen, edits_of}
-use Rattle.cell_library.specs.Limits.{AreStatesOf, GoesPast}
-use Rattle.cell_library.specs.Refusals.{FirstOf, NothingElse, EditIsRefused, ArrayIsRefused, MoveIsRefused, has_id, stands_in_range, moves_too_far}
-use Rattle.cell_library.specs.Views.{CellView, view_at}
+use Rattle.cell_library.specs.steps.CellEdits.{IsArrayedIn, GridIsRefused, IsMovedIn, ShiftIsRefused}
+use Rattle.cell_library.specs.Edits.{with_grid, moved}
+use Rattle.cell_library.specs.Refusals.{ArrayIsRefused, MoveIsRefused, moves_too_far}
 use Rattle.cell_library.proofs.ElementCounts.{size_elements}
 use Rattle.cell_library.proofs.FaultLaws.{first_of_map, not_first, not_full}
 use Rattle.cell_library.proofs.LimitLaws.{never_past, would_go_past, none_before}

@@ -1,33 +1,21 @@
 -- A new cell: what becomes of the library, and what it is refused for.
-use Rattle.std.proofs.Common.{◌≡◌, ◌+◌, ◌<◌, ◌≤◌, ℕ, suc, false, Bool, List, [], ◌∷◌, ◌++◌, length, length-append, map, Option, refl, sym, ap, subst, ◌∙◌}
-use Rattle.std.proofs.Common.{arith, inl, inr, true≢false}
-use Rattle.std.specs.Prelude.{Some, None, IsSome, is_some, All, IsTrue, unwrap_or}
-use Rattle.std.specs.List.{position, position_or_len}
-use Rattle.std.specs.Str.{bytes_eq}
-use Rattle.std.proofs.lemmas.Bool.{cases_Bool}
-use Rattle.std.proofs.lemmas.List.{map-append}
-use Rattle.std.proofs.lemmas.List.Elements.{All-push}
-use Rattle.std.proofs.lemmas.Slice.Eq.{bytes_eq-Decides}
-use Rattle.geo_core.specs.FiniteSets.Lists.{In, Distinct}
+use Rattle.cell_library.proofs.Common.{◌≡◌, ◌+◌, ◌<◌, ◌≤◌, ℕ, suc, false, Bool, List, [], ◌∷◌, ◌++◌, length, length-append, map, Option, refl, sym}
+use Rattle.cell_library.proofs.Common.{ap, subst, ◌∙◌, arith, inl, inr, true≢false, Some, None, All, IsTrue, unwrap_or, position, position_or_len}
+use Rattle.cell_library.proofs.Common.{bytes_eq, cases_Bool, map-append, All-push, bytes_eq-Decides, In, Distinct, Place, Layout, layout_of}
+use Rattle.cell_library.proofs.Common.{CellState, Tree, IsLawfulTree, empty_state, LibFault, TooMany, Held, position_of, LibraryParts}
+use Rattle.cell_library.proofs.Common.{IsLawfulLibrary, IsLawfulHeld, HasUseIds, cells_seen, uses_in, seen, edits_of, AreStatesOf, FirstOf}
+use Rattle.cell_library.proofs.Common.{NothingElse, EditIsRefused, HasFaultOrLacksMemory, cell_view, cell_views, CellView}
+use Rattle.std.specs.Prelude.{IsSome, is_some}
 use Rattle.geo_core.proofs.FiniteSets.Distincts.{Distinct-push}
 use Rattle.ext_model.specs.TextScan.PlainNames.{is_plain_name}
-use Rattle.cell_bodies.specs.LayoutModel.Places.{Place}
-use Rattle.cell_bodies.specs.LayoutModel.Layouts.{Layout}
-use Rattle.cell_bodies.specs.CellPaint.Paints.{layout_of}
-use Rattle.cell_tree.specs.Sizes.{CellState}
-use Rattle.cell_tree.specs.Trees.{Tree, IsLawfulTree, empty_cell as empty_state}
-use Rattle.cell_library.specs.declared.faults.LibFault.{LibFault}
-use Rattle.cell_library.specs.declared.faults.LibFault.TheVariants.{CellExists, TooMany}
+use Rattle.cell_library.specs.declared.faults.LibFault.TheVariants.{CellExists}
 use Rattle.cell_library.specs.declared.limits.LibraryLimit.TheVariants.{Cells}
 use Rattle.cell_library.specs.declared.limits.TheConstants.{MOST_CELLS}
 use Rattle.cell_library.specs.steps.CellEdits.{IsCellAdded}
-use Rattle.cell_library.specs.Contents.{Held, position_of}
 use Rattle.cell_library.specs.Edits.{empty_cell, with_new_cell}
-use Rattle.cell_library.specs.Libraries.{LibraryParts, IsLawfulLibrary, IsLawfulHeld, IsLawfulScale, HasUseIds, IsNextCell, cells_seen, uses_in, seen, edits_of}
-use Rattle.cell_library.specs.Limits.{AreStatesOf}
-use Rattle.cell_library.specs.Refusals.{FirstOf, NothingElse, EditIsRefused, NewCellIsRefused, HasFaultOrLacksMemory}
-use Rattle.cell_library.specs.Seen.{cell_view, cell_views}
-use Rattle.cell_library.specs.Views.{CellView, cell_named}
+use Rattle.cell_library.specs.Libraries.{IsLawfulScale, IsNextCell}
+use Rattle.cell_library.specs.Refusals.{NewCellIsRefused}
+use Rattle.cell_library.specs.Views.{cell_named}
 use Rattle.cell_library.proofs.ContentLaws.{position_past}
 use Rattle.cell_library.proofs.EditLaws.{uses_long}
 use Rattle.cell_library.proofs.FaultLaws.{not_first, not_full}

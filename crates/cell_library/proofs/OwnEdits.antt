@@ -1,34 +1,20 @@
 -- Erasing, and labels of one cell: what becomes of the library, and what it is refused for.
-use Rattle.std.proofs.Common.{◌≡◌, ◌<◌, ℕ, false, Bool, List, [], ◌∷◌, ◌++◌, length, set, filter, refl, sym, ap, subst, ◌∙◌, arith, inl, inr, true≢false}
-use Rattle.std.specs.Prelude.{IfSome, not, IsTrue}
-use Rattle.std.specs.Str.{bytes_eq}
+use Rattle.cell_library.proofs.Common.{◌≡◌, ◌<◌, ℕ, false, Bool, List, [], ◌∷◌, ◌++◌, length, set, filter, refl, sym, ap, subst, ◌∙◌, arith, inl}
+use Rattle.cell_library.proofs.Common.{inr, true≢false, IfSome, not, IsTrue, bytes_eq, get_or-set_same, All-push, In-filter_source, All-from_In}
+use Rattle.cell_library.proofs.Common.{All-In, Rect, Label, Layout, with_erased, layout_of, IsLabel, has_sides, Hull, Tree, IsLawfulTree, cell_at}
+use Rattle.cell_library.proofs.Common.{with_own, empty_state, LibFault, Held, held_at, no_held, erased, LibraryParts, IsLawfulLibrary, cells_seen}
+use Rattle.cell_library.proofs.Common.{uses_in, seen, edits_of, AreStatesOf, OwnBoxIs, FirstOf, NothingElse, EditIsRefused, HasFaultOrLacksMemory}
+use Rattle.cell_library.proofs.Common.{cell_view, CellView, changed_at, view_at}
 use Rattle.std.proofs.lemmas.Bool.{and_from}
-use Rattle.std.proofs.lemmas.List.{get_or-set_same}
-use Rattle.std.proofs.lemmas.List.Elements.{All-push}
-use Rattle.geo_core.proofs.FiniteSets.Members.{In-filter_source}
-use Rattle.geo_core.proofs.FiniteSets.Searches.{All-from_In, All-In}
-use Rattle.geo_core.specs.declared.squares.Rect.{Rect}
-use Rattle.tech_model.specs.declared.raw.Label.{Label}
-use Rattle.cell_bodies.specs.LayoutModel.Layouts.{Layout}
-use Rattle.cell_bodies.specs.CellPaint.Painting.{with_erased, is_in_range}
-use Rattle.cell_bodies.specs.CellPaint.Paints.{layout_of}
-use Rattle.cell_bodies.specs.Bodies.{IsLabel}
-use Rattle.cell_bodies.specs.Numbers.{has_sides, is_position}
+use Rattle.cell_bodies.specs.CellPaint.Painting.{is_in_range}
+use Rattle.cell_bodies.specs.Numbers.{is_position}
 use Rattle.cell_bodies.specs.Words.{is_label_text}
-use Rattle.cell_tree.specs.declared.sizes.Dimension.TheVariants.{Hull}
-use Rattle.cell_tree.specs.Trees.{Tree, IsLawfulTree, cell_at, with_own, empty_cell as empty_state}
-use Rattle.cell_library.specs.declared.faults.LibFault.{LibFault}
 use Rattle.cell_library.specs.declared.faults.LibFault.TheVariants.{NoLabel}
 use Rattle.cell_library.specs.steps.CellEdits.{with_area, BoxIsRefused, IsErasedIn, IsLabelledIn, IsUnlabelledIn}
-use Rattle.cell_library.specs.Contents.{Held, held_at, no_held, with_label, without_labels}
-use Rattle.cell_library.specs.Edits.{erased, labelled}
-use Rattle.cell_library.specs.Libraries.{LibraryParts, IsLawfulLibrary, cells_seen, uses_in, seen, edits_of}
-use Rattle.cell_library.specs.Limits.{AreStatesOf}
-use Rattle.cell_library.specs.OwnBoxes.{OwnBoxIs}
-use Rattle.cell_library.specs.Refusals.{FirstOf, NothingElse, EditIsRefused, AreaIsRefused, LabelAreaIsRefused, EraseIsRefused, LabelIsRefused}
-use Rattle.cell_library.specs.Refusals.{UnlabelIsRefused, HasFaultOrLacksMemory, has_text}
-use Rattle.cell_library.specs.Seen.{cell_view}
-use Rattle.cell_library.specs.Views.{CellView, changed_at, view_at}
+use Rattle.cell_library.specs.Contents.{with_label, without_labels}
+use Rattle.cell_library.specs.Edits.{labelled}
+use Rattle.cell_library.specs.Refusals.{AreaIsRefused, LabelAreaIsRefused, EraseIsRefused, LabelIsRefused}
+use Rattle.cell_library.specs.Refusals.{UnlabelIsRefused, has_text}
 use Rattle.cell_library.proofs.BoxLaws.{labelled_box}
 use Rattle.cell_library.proofs.EditLaws.{edit_seen, edit_lawful}
 use Rattle.cell_library.proofs.FaultLaws.{first_of_map, not_first, or_memory_map, not_full}

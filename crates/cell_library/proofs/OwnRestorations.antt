@@ -1,46 +1,18 @@
 -- What gives a cell back its paint or its labels: it has room for them, and what becomes of the library.
-use Rattle.std.proofs.Common.{◌≡◌, ◌<◌, ◌-◌, ℕ, List, ◌++◌, length, set, Option, refl, sym, ap, subst, ◌∙◌, arith, inl, inr}
-use Rattle.std.specs.Prelude.{All, Bool, IsTrue, IfSome, Some, None, false, if◌then◌else◌}
-use Rattle.std.specs.Option.{option_to_list}
-use Rattle.std.proofs.lemmas.Int.{ints}
-use Rattle.std.proofs.lemmas.List.{get_or-set_same, length-set}
-use Rattle.std.proofs.lemmas.List.Elements.{All-take}
-use Rattle.geo_core.specs.FiniteSets.Lists.{In}
-use Rattle.geo_core.proofs.FiniteSets.Members.{In-push_cases}
+use Rattle.cell_library.proofs.Common.{◌≡◌, ◌<◌, ◌-◌, ℕ, List, ◌++◌, length, set, Option, refl, sym, ap, subst, ◌∙◌, arith, inl, inr, All, IsTrue}
+use Rattle.cell_library.proofs.Common.{IfSome, Some, None, if◌then◌else◌, option_to_list, ints, get_or-set_same, length-set, All-take, In}
+use Rattle.cell_library.proofs.Common.{In-push_cases, Rect, Piece, LiesWithin, is_covered, Label, RawTech, TypeRec, TypeId, erased_column, type_on}
+use Rattle.cell_library.proofs.Common.{Layout, Place, with_erased, layout_of, IsSoundPaint, with_pieces, IsLabel, has_sides, Hull, IsInside}
+use Rattle.cell_library.proofs.Common.{CellState, Tree, IsLawfulTree, IsLawfulOwn, cell_at, with_own, empty_state, LibFault, MOST_EDITS, Held}
+use Rattle.cell_library.proofs.Common.{held_at, without_last, IsRepainted, LibraryParts, IsLawfulLibrary, cells_seen, uses_in, seen, AreStatesOf}
+use Rattle.cell_library.proofs.Common.{OwnBoxIs, EditIsRefused, NothingElse, IsLawfulView, relabelled, cell_view, CellView, LibraryView, changed_at}
+use Rattle.cell_library.proofs.Common.{no_cell, view_at, with_cell_changed}
+use Rattle.std.specs.Prelude.{Bool, false}
 use Rattle.geo_core.proofs.FiniteSets.Places.{In-take}
-use Rattle.geo_core.specs.declared.squares.Rect.{Rect}
-use Rattle.geo_core.specs.declared.squares.Piece.{Piece}
-use Rattle.geo_core.specs.Areas.{LiesWithin}
-use Rattle.geo_core.specs.Covering.{is_covered}
-use Rattle.tech_model.specs.declared.raw.Label.{Label}
-use Rattle.tech_model.specs.declared.raw.RawTech.{RawTech}
-use Rattle.tech_model.specs.declared.raw.TypeRec.{TypeRec}
-use Rattle.tech_model.specs.declared.raw.TypeId.{TypeId}
-use Rattle.tech_model.specs.Columns.{erased_column, type_on}
-use Rattle.cell_bodies.specs.LayoutModel.Layouts.{Layout}
-use Rattle.cell_bodies.specs.LayoutModel.Places.{Place}
-use Rattle.cell_bodies.specs.CellPaint.Painting.{column_at, with_columns, with_erased}
-use Rattle.cell_bodies.specs.CellPaint.Paints.{layout_of, IsSoundPaint}
-use Rattle.cell_bodies.specs.CellPaint.Pieces.{with_pieces}
+use Rattle.cell_bodies.specs.CellPaint.Painting.{column_at, with_columns}
 use Rattle.cell_bodies.proofs.CellPaint.PieceLaws.{pieces_outside}
-use Rattle.cell_bodies.specs.Bodies.{IsLabel}
-use Rattle.cell_bodies.specs.Numbers.{has_sides}
-use Rattle.cell_tree.specs.declared.sizes.Dimension.TheVariants.{Hull}
-use Rattle.cell_tree.specs.Hulls.{IsInside}
-use Rattle.cell_tree.specs.Sizes.{CellState}
-use Rattle.cell_tree.specs.Trees.{Tree, IsLawfulTree, IsLawfulOwn, cell_at, with_own, empty_cell as empty_state}
-use Rattle.cell_library.specs.declared.faults.LibFault.{LibFault}
-use Rattle.cell_library.specs.declared.limits.TheConstants.{MOST_EDITS}
-use Rattle.cell_library.specs.Contents.{Held, held_at, with_labels, without_last, IsRepainted}
-use Rattle.cell_library.specs.Libraries.{LibraryParts, IsLawfulLibrary, cells_seen, uses_in, seen}
-use Rattle.cell_library.specs.Limits.{AreStatesOf}
-use Rattle.cell_library.specs.OwnBoxes.{OwnBoxIs}
+use Rattle.cell_library.specs.Contents.{with_labels}
 use Rattle.cell_library.specs.steps.OwnRestorations.{HasRoomFor, IsBoxBefore, IsPutBackIn, IsRelabelledIn}
-use Rattle.cell_library.specs.Refusals.{EditIsRefused, NothingElse}
-use Rattle.cell_library.specs.LawfulViews.{IsLawfulView}
-use Rattle.cell_library.specs.Restorations.{relabelled}
-use Rattle.cell_library.specs.Seen.{cell_view}
-use Rattle.cell_library.specs.Views.{CellView, LibraryView, changed_at, no_cell, view_at, with_cell_changed}
 use Rattle.cell_library.proofs.BoxLaws.{fewer_inside}
 use Rattle.cell_library.proofs.BoxSteps.{own_lawful}
 use Rattle.cell_library.proofs.EditLaws.{edit_seen, edit_lawful}

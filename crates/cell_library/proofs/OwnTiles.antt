@@ -1,32 +1,17 @@
 -- The tiles that one standing cell has of its own, plane by plane.
-use Rattle.std.proofs.Common.{◌≡◌, ◌≢◌, ◌⊎◌, ◌+◌, ◌<◌, ℕ, zero, suc, ◌<ℤ◌, List, [], ◌∷◌, ◌++◌, map, get_or, Some, refl, sym, ap, subst, ◌∙◌, arith}
-use Rattle.std.proofs.Common.{inl, inr, append_assoc}
-use Rattle.std.specs.Prelude.{slice_get}
-use Rattle.std.proofs.lemmas.Bool.{cases_lt}
-use Rattle.std.proofs.lemmas.Int.{ints}
-use Rattle.geo_core.specs.FiniteSets.Lists.{In, Distinct}
-use Rattle.geo_core.proofs.FiniteSets.Members.{In-append_left, In-append_right, In-append_cases, In-map, In-map_source}
+use Rattle.cell_library.proofs.Common.{◌≡◌, ◌≢◌, ◌⊎◌, ◌+◌, ◌<◌, ℕ, zero, suc, ◌<ℤ◌, List, [], ◌∷◌, ◌++◌, map, get_or, refl, sym, ap, subst, ◌∙◌}
+use Rattle.cell_library.proofs.Common.{arith, inl, inr, append_assoc, slice_get, cases_lt, ints, In, Distinct, In-append_left, In-append_right}
+use Rattle.cell_library.proofs.Common.{In-append_cases, In-map, In-map_source, Square, Rect, Piece, common_rect, LiesWithin, Covers, IsProper}
+use Rattle.cell_library.proofs.Common.{inverted, AreTilesIn, covers_both, filled_within, image-forth, rect_image-covers, Layout, IsMaterial, Place}
+use Rattle.cell_library.proofs.Common.{Standing, place_back, kinds_on, PartTile, Spot, standing_at, tile_at, AddsOwn, LibraryView, view_at, IsCutOf}
+use Rattle.cell_library.proofs.Common.{HasThere, AddsTiles}
+use Rattle.std.proofs.Common.{Some}
 use Rattle.geo_core.proofs.FiniteSets.Distincts.{Distinct-append, Distinct-map, Distinct-from_places}
-use Rattle.geo_core.specs.declared.squares.Square.{Square}
-use Rattle.geo_core.specs.declared.squares.Rect.{Rect}
-use Rattle.geo_core.specs.declared.squares.Piece.{Piece}
-use Rattle.geo_core.specs.Areas.{common_rect, LiesWithin}
-use Rattle.geo_core.specs.Covering.{Covers, IsProper}
-use Rattle.geo_core.specs.Images.{inverted, rect_image}
-use Rattle.geo_core.specs.Planes.{HasValue, IsTileIn, AreTilesIn}
+use Rattle.geo_core.specs.Images.{rect_image}
+use Rattle.geo_core.specs.Planes.{HasValue, IsTileIn}
 use Rattle.geo_core.specs.Strips.{IsStrip, StandsBefore}
-use Rattle.geo_core.proofs.CoveringLaws.{covers_both, filled_within}
-use Rattle.geo_core.proofs.ImageLaws.{image-forth, rect_image-covers}
 use Rattle.geo_core.proofs.StripSets.{strip_is_proper, strip_within}
-use Rattle.cell_bodies.specs.LayoutModel.Layouts.{Layout, IsMaterial}
-use Rattle.cell_bodies.specs.LayoutModel.Places.{Place}
-use Rattle.cell_bodies.specs.LayoutModel.CellTrees.{Standing, place_back}
-use Rattle.cell_bodies.specs.CellPaint.Painting.{kinds_on}
-use Rattle.cell_library.specs.declared.part_tiles.PartTile.{PartTile}
-use Rattle.cell_library.specs.declared.spots.Spot.{Spot}
-use Rattle.cell_library.specs.Spots.{standing_at, tile_at, AddsOwn}
-use Rattle.cell_library.specs.Views.{LibraryView, view_at}
-use Rattle.cell_library.specs.steps.VisitedTiles.{IsCutOf, HasTileAt, HasThere, AreOwnTold, AddsTiles}
+use Rattle.cell_library.specs.steps.VisitedTiles.{HasTileAt, AreOwnTold}
 use Rattle.cell_library.proofs.PlacedRects.{cut_there, rect_back, rect_proper, rect_unproper, covers_back}
 
 -- ---- pieces

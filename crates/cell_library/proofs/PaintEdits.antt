@@ -1,34 +1,16 @@
 -- Paint and labels of one cell: what becomes of the library, and what it is refused for.
-use Rattle.std.proofs.Common.{◌≡◌, ◌<◌, ◌≤◌, ℕ, true, false, Bool, List, [], length, Option, refl, sym, ap, subst, ◌∙◌, arith, inl, inr, true≢false}
-use Rattle.std.specs.Prelude.{Some, slice_get, slice_set, slice_index_or}
-use Rattle.std.proofs.lemmas.Bool.{cases_lt}
-use Rattle.geo_core.specs.declared.squares.Rect.{Rect}
+use Rattle.cell_library.proofs.Common.{◌≡◌, ◌<◌, ◌≤◌, ℕ, true, false, Bool, List, [], length, Option, refl, sym, ap, subst, ◌∙◌, arith, inl, inr}
+use Rattle.cell_library.proofs.Common.{true≢false, Some, slice_get, slice_set, slice_index_or, cases_lt, Rect, IsProper-has_square, MOST_PLANES}
+use Rattle.cell_library.proofs.Common.{TypeRec, RawTech, plane_of, Place, Layout, IsMaterial, with_paint, Paint, layout_of, KeepsTypes, IsSoundPaint}
+use Rattle.cell_library.proofs.Common.{space_past, Hull, CellState, Tree, IsLawfulTree, cell_at, empty_state, LibFault, Held, held_at, no_held}
+use Rattle.cell_library.proofs.Common.{painted, LibraryParts, IsLawfulLibrary, IsLawfulHeld, cells_seen, uses_in, seen, edits_of, AreStatesOf}
+use Rattle.cell_library.proofs.Common.{GoesPast, OwnBoxIs, IsOwnBox, box_with, EditIsRefused, HasFaultOrLacksMemory, cell_view, CellView, changed_at}
 use Rattle.geo_core.specs.Areas.{has_square}
-use Rattle.geo_core.proofs.CoveringLaws.{IsProper-has_square}
-use Rattle.tech_model.specs.declared.limits.TheConstants.{MOST_PLANES}
-use Rattle.tech_model.specs.declared.raw.TypeRec.{TypeRec}
-use Rattle.tech_model.specs.declared.raw.RawTech.{RawTech}
-use Rattle.tech_model.specs.Types.{plane_of}
 use Rattle.tech_model.specs.WellFormed.{IsWellFormed}
 use Rattle.tech_model.specs.Rules.{KeepsRules}
-use Rattle.cell_bodies.specs.LayoutModel.Places.{Place}
-use Rattle.cell_bodies.specs.LayoutModel.Layouts.{Layout, IsMaterial}
-use Rattle.cell_bodies.specs.CellPaint.Painting.{place_at, with_paint}
-use Rattle.cell_bodies.specs.CellPaint.Paints.{Paint, layout_of, KeepsTypes, IsSoundPaint}
-use Rattle.cell_bodies.proofs.CellPaint.PlaneLaws.{space_past}
-use Rattle.cell_tree.specs.declared.sizes.Dimension.TheVariants.{Hull}
-use Rattle.cell_tree.specs.Sizes.{CellState}
-use Rattle.cell_tree.specs.Trees.{Tree, IsLawfulTree, cell_at, empty_cell as empty_state}
-use Rattle.cell_library.specs.declared.faults.LibFault.{LibFault}
+use Rattle.cell_bodies.specs.CellPaint.Painting.{place_at}
 use Rattle.cell_library.specs.steps.CellEdits.{with_area, BoxIsRefused, IsPaintedIn}
-use Rattle.cell_library.specs.Contents.{Held, held_at, no_held}
-use Rattle.cell_library.specs.Edits.{painted}
-use Rattle.cell_library.specs.Libraries.{LibraryParts, IsLawfulLibrary, IsLawfulHeld, cells_seen, uses_in, seen, edits_of}
-use Rattle.cell_library.specs.Limits.{AreStatesOf, GoesPast}
-use Rattle.cell_library.specs.OwnBoxes.{OwnBoxIs, IsOwnBox, box_with}
-use Rattle.cell_library.specs.Refusals.{EditIsRefused, AreaIsRefused, PaintIsRefused, HasFaultOrLacksMemory}
-use Rattle.cell_library.specs.Seen.{cell_view}
-use Rattle.cell_library.specs.Views.{CellView, changed_at}
+use Rattle.cell_library.specs.Refusals.{AreaIsRefused, PaintIsRefused}
 use Rattle.cell_library.proofs.BoxLaws.{filled_box}
 use Rattle.cell_library.proofs.EditLaws.{edit_seen, edit_lawful}
 use Rattle.cell_library.proofs.FaultLaws.{first_of_map, not_first, or_memory_map, not_full}

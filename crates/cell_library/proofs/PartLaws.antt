@@ -1,23 +1,9 @@
 -- What the boxes of a cell's elements tell of its parts.
-use Rattle.std.proofs.Common.{◌≡◌, ◌≢◌, ◌<◌, ◌+◌, inl, inr, ℕ, zero, suc, List, [], ◌∷◌, map, length, sym, ap, ◌∙◌, arith}
-use Rattle.std.specs.Prelude.{Some, slice_get}
-use Rattle.std.proofs.lemmas.Bool.{cases_lt}
-use Rattle.geo_core.specs.FiniteSets.Lists.{In}
-use Rattle.geo_core.proofs.FiniteSets.Members.{In-append_cases, In-map_source}
-use Rattle.geo_core.proofs.FiniteSets.Places.{In-slice_get}
-use Rattle.geo_core.specs.declared.squares.Rect.{Rect}
-use Rattle.geo_core.specs.Covering.{Covers}
-use Rattle.tech_model.specs.declared.raw.RawTech.{RawTech}
-use Rattle.cell_bodies.specs.LayoutModel.Places.{Place}
-use Rattle.cell_bodies.specs.LayoutModel.CellTrees.{CellTree, Elements, Standing, standings, standings_from, under}
-use Rattle.cell_bodies.specs.LayoutModel.CellTrees.CellTree.{cell_tree}
-use Rattle.cell_bodies.specs.LayoutModel.CellTrees.Elements.{no_elements, element_and}
-use Rattle.cell_bodies.specs.LayoutModel.FlatSets.{element_parts, parts_in}
-use Rattle.cell_tree.specs.Sizes.{hulls_below, size_at}
-use Rattle.cell_library.specs.declared.part_tiles.PartTile.{PartTile}
-use Rattle.cell_library.specs.ElementBoxes.{AreElementBoxes, HoldParts}
-use Rattle.cell_library.specs.Libraries.{IsLawfulLibrary, LibraryParts, seen}
-use Rattle.cell_library.specs.PartTiles.{IsPartTileIn}
+use Rattle.cell_library.proofs.Common.{◌≡◌, ◌≢◌, ◌<◌, ◌+◌, inl, inr, ℕ, zero, suc, List, [], ◌∷◌, map, length, sym, ap, ◌∙◌, arith, Some, slice_get}
+use Rattle.cell_library.proofs.Common.{cases_lt, In, In-append_cases, In-map_source, In-slice_get, Rect, Covers, RawTech, Place, CellTree, Standing}
+use Rattle.cell_library.proofs.Common.{standings, cell_tree, no_elements, element_and, element_parts, parts_in, hulls_below, size_at, PartTile}
+use Rattle.cell_library.proofs.Common.{AreElementBoxes, HoldParts, IsLawfulLibrary, LibraryParts, seen, IsPartTileIn}
+use Rattle.cell_bodies.specs.LayoutModel.CellTrees.{Elements, standings_from, under}
 use Rattle.cell_library.proofs.BoxesBelow.{boxes_are, none_past}
 
 -- ---- boxes of parts

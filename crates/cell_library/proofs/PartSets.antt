@@ -1,30 +1,17 @@
 -- The tiles of a cell have the sets of its parts.
-use Rattle.std.proofs.Common.{◌≡◌, ◌≢◌, ◌+◌, ◌<◌, ℕ, zero, suc, Bool, true, false, cond, eqb, bit_or, List, [], ◌∷◌, ◌++◌, Some, refl, sym, ap, subst}
-use Rattle.std.proofs.Common.{◌∙◌, arith, inl, inr}
-use Rattle.std.specs.Prelude.{slice_get, slice_index_or, ◌==◌, ◌&&◌, if◌then◌else◌}
-use Rattle.std.specs.Int.{bit_at}
-use Rattle.std.proofs.lemmas.Bool.{cases_Bool, cases_eq, eq-eqb, eqb-true, and_parts}
+use Rattle.cell_library.proofs.Common.{◌≡◌, ◌≢◌, ◌+◌, ◌<◌, ℕ, zero, suc, Bool, true, false, List, [], ◌∷◌, ◌++◌, refl, sym, ap, subst, ◌∙◌, arith}
+use Rattle.cell_library.proofs.Common.{inl, inr, slice_get, slice_index_or, if◌then◌else◌, bit_at, cases_Bool, cases_eq, and_parts, In, Lists}
+use Rattle.cell_library.proofs.Common.{In-slice_get, Rect, Transform, Covers, is_covered, composed, identity, image, inverted, Covers-is_covered}
+use Rattle.cell_library.proofs.Common.{is_covered-Covers, RawTech, parts_of, Place, CellTree, Standing, place_back, cell_tree, no_elements}
+use Rattle.cell_library.proofs.Common.{element_and, flat_sets, sets_below, element_parts, MOST_DEPTH, PartTile, tree_to, LibraryView, set_of_part}
+use Rattle.cell_library.proofs.Common.{set_of_tiles, IsPartTileIn, placed_cells, placed_below, AddsTiles, IsCutOf, HasThere, AreTold}
+use Rattle.std.proofs.Common.{cond, eqb, bit_or, Some}
+use Rattle.std.specs.Prelude.{◌==◌, ◌&&◌}
+use Rattle.std.proofs.lemmas.Bool.{eq-eqb, eqb-true}
 use Rattle.std.proofs.lemmas.Nat.Bits.{bit_at-zero, bit_at_or, bit_at-lt, same_from_bits}
-use Rattle.geo_core.specs.FiniteSets.Lists.{In, Lists}
-use Rattle.geo_core.proofs.FiniteSets.Places.{In-slice_get}
-use Rattle.geo_core.specs.declared.squares.Rect.{Rect}
-use Rattle.geo_core.specs.declared.transforms.Transform.{Transform}
-use Rattle.geo_core.specs.Covering.{Covers, is_covered}
-use Rattle.geo_core.specs.Images.{composed, identity, image, inverted}
-use Rattle.geo_core.proofs.CoveringLaws.{Covers-is_covered, is_covered-Covers}
-use Rattle.tech_model.specs.declared.raw.RawTech.{RawTech}
-use Rattle.tech_model.specs.Types.{parts_of}
-use Rattle.cell_bodies.specs.LayoutModel.Places.{Place}
-use Rattle.cell_bodies.specs.LayoutModel.CellTrees.{CellTree, Elements, Standing, place_back}
-use Rattle.cell_bodies.specs.LayoutModel.CellTrees.CellTree.{cell_tree}
-use Rattle.cell_bodies.specs.LayoutModel.CellTrees.Elements.{no_elements, element_and}
-use Rattle.cell_bodies.specs.LayoutModel.FlatSets.{flat_sets, sets_below, element_parts}
-use Rattle.cell_tree.specs.declared.limits.TheConstants.{MOST_DEPTH}
-use Rattle.cell_library.specs.declared.part_tiles.PartTile.{PartTile}
-use Rattle.cell_library.specs.LayoutTrees.{tree_at, tree_to}
-use Rattle.cell_library.specs.Views.{LibraryView}
-use Rattle.cell_library.specs.PartTiles.{set_from, set_of_part, set_of_tiles, IsPartTileIn}
-use Rattle.cell_library.specs.steps.VisitedTiles.{placed_cells, placed_below, AddsTiles, IsCutOf, HasThere, AreTold}
+use Rattle.cell_bodies.specs.LayoutModel.CellTrees.{Elements}
+use Rattle.cell_library.specs.LayoutTrees.{tree_at}
+use Rattle.cell_library.specs.PartTiles.{set_from}
 use Rattle.cell_library.proofs.PlacedCells.{standings_placed}
 use Rattle.cell_library.proofs.PlacedRects.{back_on, identity_back, then_identity}
 use Rattle.cell_bodies.proofs.LayoutModel.SetUnions.{union_none, none_union, union_assoc}

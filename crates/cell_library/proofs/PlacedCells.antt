@@ -1,29 +1,13 @@
 -- Where the cells of a tree stand: what they have, how many they are, and that they are the standings.
-use Rattle.std.proofs.Common.{◌≡◌, ◌+◌, ◌*◌, ◌<◌, ◌≤◌, ℕ, zero, suc, ℤ, List, [], ◌∷◌, ◌++◌, map, length, refl, sym, ap, subst, ◌∙◌, arith, inl, inr}
-use Rattle.std.specs.Prelude.{Some, slice_get}
-use Rattle.std.proofs.lemmas.List.{length-append, map-append}
-use Rattle.geo_core.specs.FiniteSets.Lists.{In}
-use Rattle.geo_core.proofs.FiniteSets.Members.{In-append_cases}
-use Rattle.geo_core.specs.declared.squares.Rect.{Rect}
-use Rattle.geo_core.specs.declared.transforms.Transform.{Transform}
-use Rattle.geo_core.specs.Covering.{Covers}
-use Rattle.geo_core.specs.Images.{composed, identity}
-use Rattle.cell_bodies.specs.LayoutModel.Places.{Place}
-use Rattle.cell_tree.specs.declared.sizes.Size.{Size}
-use Rattle.cell_tree.specs.declared.use_tables.UseBody.{UseBody}
-use Rattle.cell_tree.specs.Uses.{displacements}
-use Rattle.cell_tree.specs.Sizes.{CellState, AreSizes, size_at, size_of, elements_below}
-use Rattle.cell_tree.specs.Trees.{cell_at}
-use Rattle.cell_tree.proofs.SizeLaws.{child_is_lower}
-use Rattle.cell_tree.proofs.WholeLaws.{cell_is}
-use Rattle.cell_bodies.specs.LayoutModel.CellTrees.{CellTree, Elements, Standing, under, place_back, standings, standings_from}
-use Rattle.cell_bodies.specs.LayoutModel.CellTrees.CellTree.{cell_tree}
-use Rattle.cell_bodies.specs.LayoutModel.CellTrees.Elements.{no_elements, element_and}
-use Rattle.cell_library.specs.LayoutTrees.{elements_at, elements_from, tree_to}
-use Rattle.cell_library.specs.Limits.{AreStatesOf}
-use Rattle.cell_library.specs.steps.MaterialBelow.{HasMaterial, HasMaterialBelow}
-use Rattle.cell_library.specs.Views.{LibraryView, view_at}
-use Rattle.cell_library.specs.steps.VisitedTiles.{placed_cells, placed_below, HasThere, AreOutside}
+use Rattle.cell_library.proofs.Common.{◌≡◌, ◌+◌, ◌*◌, ◌<◌, ◌≤◌, ℕ, zero, suc, ℤ, List, [], ◌∷◌, ◌++◌, map, length, refl, sym, ap, subst, ◌∙◌, arith}
+use Rattle.cell_library.proofs.Common.{inl, inr, Some, slice_get, map-append, In, In-append_cases, Rect, Transform, Covers, composed, identity}
+use Rattle.cell_library.proofs.Common.{Place, Size, UseBody, displacements, CellState, AreSizes, size_at, elements_below, cell_at, child_is_lower}
+use Rattle.cell_library.proofs.Common.{cell_is, CellTree, Standing, place_back, standings, cell_tree, no_elements, element_and, elements_at}
+use Rattle.cell_library.proofs.Common.{elements_from, tree_to, AreStatesOf, HasMaterial, HasMaterialBelow, LibraryView, view_at, placed_cells}
+use Rattle.cell_library.proofs.Common.{placed_below, HasThere, AreOutside}
+use Rattle.std.proofs.lemmas.List.{length-append}
+use Rattle.cell_tree.specs.Sizes.{size_of}
+use Rattle.cell_bodies.specs.LayoutModel.CellTrees.{Elements, under, standings_from}
 use Rattle.cell_library.proofs.ElementCounts.{size_elements}
 use Rattle.cell_library.proofs.HullsHoldMaterial.{hull_holds_material, state_uses}
 use Rattle.cell_library.proofs.PlacedRects.{back_on, composed_assoc, identity_then, then_identity}

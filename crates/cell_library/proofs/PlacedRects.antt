@@ -1,19 +1,10 @@
 -- Transforms of rectangles, one after another and back.
-use Rattle.std.proofs.Common.{◌≡◌, ℤ, ◌≤ℤ◌, refl, sym, ap, ◌∙◌, arith}
-use Rattle.std.proofs.lemmas.Int.{ints, clamps}
-use Rattle.geo_core.specs.declared.orients.Orient.{Orient}
-use Rattle.geo_core.specs.declared.orients.Orient.TheVariants.{R0, R90, R180, R270, Mx, My, Mx90, My90}
-use Rattle.geo_core.specs.declared.squares.Square.{Square}
-use Rattle.geo_core.specs.declared.squares.Rect.{Rect}
-use Rattle.geo_core.specs.declared.transforms.Transform.{Transform}
-use Rattle.geo_core.specs.Areas.{common_rect, LiesWithin}
-use Rattle.geo_core.specs.Covering.{Covers, IsProper}
-use Rattle.geo_core.specs.Images.{composed, identity, image, inverted, point_x, point_y, rect_image}
+use Rattle.cell_library.proofs.Common.{◌≡◌, ℤ, ◌≤ℤ◌, refl, sym, ap, ◌∙◌, arith, ints, clamps, Orient, R0, R90, R180, R270, Mx, My, Mx90, My90}
+use Rattle.cell_library.proofs.Common.{Square, Rect, Transform, common_rect, LiesWithin, Covers, IsProper, composed, identity, image, inverted}
+use Rattle.cell_library.proofs.Common.{rect_is, transform_of, image-forth, rect_image-covers, Place, place_back}
+use Rattle.geo_core.specs.Images.{point_x, point_y, rect_image}
 use Rattle.geo_core.specs.Orientation.{after_turn, after_mirror, orient_then}
-use Rattle.geo_core.proofs.SquareLaws.{rect_is}
-use Rattle.geo_core.proofs.ImageLaws.{transform_of, transform_is, image-forth, image-composed, image-injective, rect_image-covers}
-use Rattle.cell_bodies.specs.LayoutModel.Places.{Place}
-use Rattle.cell_bodies.specs.LayoutModel.CellTrees.{place_back}
+use Rattle.geo_core.proofs.ImageLaws.{transform_is, image-composed, image-injective}
 
 -- ---- there and back
 

@@ -1,42 +1,19 @@
 -- Uses that are given back to a cell: where a use stands, which states of a cell a lawful library allows, and what becomes of the library.
-use Rattle.std.proofs.Common.{◌≡◌, ◌+◌, ◌<◌, ◌≤◌, ℕ, zero, suc, true, Bool, List, [], ◌∷◌, length, map, cond, Option, Some, None, refl, sym, ap, subst, ◌∙◌}
-use Rattle.std.proofs.Common.{false, arith, inl, inr}
-use Rattle.std.specs.Prelude.{not, insert, slice_get, slice_set, nat_lt, IfSome, IfNone}
-use Rattle.std.specs.List.{position_or_len}
-use Rattle.std.specs.Str.{bytes_eq}
-use Rattle.std.proofs.lemmas.Bool.{cases_Bool}
-use Rattle.std.proofs.lemmas.Bool.Decides.{nat_tests}
-use Rattle.std.proofs.lemmas.List.{length-set, get_or-set_same}
+use Rattle.cell_library.proofs.Common.{◌≡◌, ◌+◌, ◌<◌, ◌≤◌, ℕ, zero, suc, true, Bool, List, [], ◌∷◌, length, map, Option, refl, sym, ap, subst, ◌∙◌}
+use Rattle.cell_library.proofs.Common.{false, arith, inl, inr, not, slice_get, slice_set, nat_lt, IfSome, position_or_len, bytes_eq, cases_Bool}
+use Rattle.cell_library.proofs.Common.{nat_tests, length-set, get_or-set_same, slice_get_within, bytes_eq-Decides, In, Distinct, slice_get-set_same}
+use Rattle.cell_library.proofs.Common.{Grid, Transform, TreeFault, Crossing, TooManyUses, Passed, NoMemory, MOST_USES, Dimension, Depth, Elements}
+use Rattle.cell_library.proofs.Common.{Hull, UseBody, HasIdAt, IsLawfulGrid, IsLawfulUse, moved_at, CellState, AreSizes, IsAbove, Tree, IsLawfulTree}
+use Rattle.cell_library.proofs.Common.{RefusesMove, WouldPass, cell_at, empty_cell, with_moved, LibFault, MOST_EDITS, TreeRefusesMove, HasUseAt}
+use Rattle.cell_library.proofs.Common.{with_use_changed, LibraryParts, IsLawfulLibrary, HasUseIds, cells_seen, seen, AreStatesOf, EditIsRefused}
+use Rattle.cell_library.proofs.Common.{NothingElse, IsLawfulView, regridded, with_use_at, LibraryView, changed_at, with_cell_changed}
+use Rattle.std.proofs.Common.{cond, Some, None}
+use Rattle.std.specs.Prelude.{insert, IfNone}
 use Rattle.std.proofs.lemmas.List.Edits.{length-insert}
-use Rattle.std.proofs.lemmas.Option.{slice_get_within}
-use Rattle.std.proofs.lemmas.Slice.Eq.{bytes_eq-Decides}
-use Rattle.geo_core.specs.FiniteSets.Lists.{In, Distinct}
-use Rattle.geo_core.proofs.FiniteSets.Places.{slice_get-set_same}
-use Rattle.geo_core.specs.declared.grids.Grid.{Grid}
-use Rattle.geo_core.specs.declared.transforms.Transform.{Transform}
-use Rattle.cell_tree.specs.declared.faults.TreeFault.{TreeFault}
-use Rattle.cell_tree.specs.declared.faults.TreeFault.TheVariants.{Cycle as Crossing, TooManyUses, Passed, Memory as NoMemory}
-use Rattle.cell_tree.specs.declared.limits.TheConstants.{MOST_USES}
-use Rattle.cell_tree.specs.declared.sizes.Dimension.{Dimension}
-use Rattle.cell_tree.specs.declared.sizes.Dimension.TheVariants.{Depth, Elements, Hull}
-use Rattle.cell_tree.specs.declared.use_tables.UseBody.{UseBody}
-use Rattle.cell_tree.specs.Uses.{HasIdAt, IsLawfulGrid, IsLawfulUse, moved_at}
-use Rattle.cell_tree.specs.Sizes.{CellState, AreSizes}
-use Rattle.cell_tree.specs.Cells.{IsAbove}
-use Rattle.cell_tree.specs.Trees.{Tree, IsLawfulTree, RefusesInsertion, RefusesMove, WouldPass, cell_at, empty_cell, with_inserted, with_moved}
+use Rattle.cell_tree.specs.Trees.{RefusesInsertion, with_inserted}
 use Rattle.cell_tree.proofs.ShrinkLaws.{AreAmong}
 use Rattle.cell_tree.proofs.StateLaws.{among_get, among_inserted, get_new}
-use Rattle.cell_library.specs.declared.faults.LibFault.{LibFault}
-use Rattle.cell_library.specs.declared.limits.TheConstants.{MOST_EDITS}
-use Rattle.cell_library.specs.steps.CellEdits.{TreeRefusesMove, HasUseAt}
-use Rattle.cell_library.specs.Edits.{with_use_changed}
-use Rattle.cell_library.specs.Libraries.{LibraryParts, IsLawfulLibrary, HasUseIds, cells_seen, seen}
-use Rattle.cell_library.specs.Limits.{AreStatesOf}
 use Rattle.cell_library.specs.PutBackUses.{place_of, MayTake, MayBeRegridded, IsInsertedIn, IsRegriddedIn}
-use Rattle.cell_library.specs.Refusals.{EditIsRefused, NothingElse}
-use Rattle.cell_library.specs.LawfulViews.{IsLawfulView}
-use Rattle.cell_library.specs.Restorations.{regridded, with_use_at}
-use Rattle.cell_library.specs.Views.{LibraryView, changed_at, with_cell_changed}
 use Rattle.cell_library.proofs.EditLaws.{seen_cells}
 use Rattle.cell_library.proofs.FaultLaws.{not_first, not_full}
 use Rattle.cell_library.proofs.LimitLaws.{states_unique}

@@ -1,38 +1,17 @@
 -- The spots of the rows of a grid: those outside the ranges of indices that may meet an area are dropped.
-use Rattle.std.proofs.Common.{◌≡◌, ◌+◌, ◌*◌, ◌-◌, ◌/◌, ◌%◌, ◌<◌, ◌≤◌, ℕ, ℤ, pos, neg_ℤ, ◌-ℤ◌, ◌*ℤ◌, ◌≤ℤ◌, ◌<ℤ◌, to_z, of_z, w64, FitsSigned, List, []}
-use Rattle.std.proofs.Common.{◌∷◌, length, Option, Some, None, refl, sym, ap, subst, ◌∙◌, arith, inl, inr}
-use Rattle.std.specs.Prelude.{slice_get}
-use Rattle.std.specs.Option.{option_map}
+use Rattle.cell_library.proofs.Common.{◌≡◌, ◌+◌, ◌*◌, ◌-◌, ◌/◌, ◌%◌, ◌<◌, ◌≤◌, ℕ, ℤ, pos, neg_ℤ, ◌-ℤ◌, ◌*ℤ◌, ◌≤ℤ◌, ◌<ℤ◌, to_z, of_z, w64, FitsSigned}
+use Rattle.cell_library.proofs.Common.{List, [], ◌∷◌, length, Option, refl, sym, ap, subst, ◌∙◌, arith, inl, inr, slice_get, option_map, cases_lt}
+use Rattle.cell_library.proofs.Common.{ints, to_z-of_z, take_all, slice_get-map, mul-le-mul_right, div-lt_iff_lt-mul, In, Grid, MOST_ELEMENTS}
+use Rattle.cell_library.proofs.Common.{Orient, R0, Rect, Transform, elements_of, indices, inverted, IsInReach, MovesInReach, columns, rows}
+use Rattle.cell_library.proofs.Common.{length-elements_of, transform_of, Size, UseBody, IsPaintable, size_at, displacements, IsLawfulGrid}
+use Rattle.cell_library.proofs.Common.{IsLawfulUse, IsShift, Spot, UseSearch, HoldsMultiples, IsGridOf, spots_to, seen_low_x, seen_high_x}
+use Rattle.cell_library.proofs.Common.{seen_low_y, seen_high_y, CanBeDropped, AddsRow, SpansFar, spots_at, AddsSpots, IsApart}
+use Rattle.std.proofs.Common.{Some, None}
 use Rattle.std.specs.Int.{w32}
-use Rattle.std.proofs.lemmas.Bool.{cases_lt}
-use Rattle.std.proofs.lemmas.Int.{ints, to_z-of_z}
-use Rattle.std.proofs.lemmas.List.{take_all}
 use Rattle.std.proofs.lemmas.Nat.{mul-add-lt}
-use Rattle.std.proofs.lemmas.Option.{slice_get-map}
-use Rattle.std.proofs.Math.Nat.{mul-le-mul_right, div-lt_iff_lt-mul, div-add-mod, mod-lt}
-use Rattle.geo_core.specs.FiniteSets.Lists.{In}
-use Rattle.geo_core.specs.declared.grids.Grid.{Grid}
-use Rattle.geo_core.specs.declared.limits.TheConstants.{MOST_ELEMENTS}
-use Rattle.geo_core.specs.declared.orients.Orient.{Orient}
-use Rattle.geo_core.specs.declared.orients.Orient.TheVariants.{R0}
-use Rattle.geo_core.specs.declared.squares.Rect.{Rect}
-use Rattle.geo_core.specs.declared.transforms.Transform.{Transform}
-use Rattle.geo_core.specs.Elements.{elements_of, indices}
-use Rattle.geo_core.specs.Images.{inverted, rect_image}
-use Rattle.geo_core.specs.Reach.{IsInReach, MovesInReach}
-use Rattle.geo_core.proofs.ElementLaws.{columns, rows, length-elements_of}
-use Rattle.geo_core.proofs.ImageLaws.{transform_of}
-use Rattle.cell_tree.specs.declared.sizes.Size.{Size}
-use Rattle.cell_tree.specs.declared.use_tables.UseBody.{UseBody}
-use Rattle.cell_tree.specs.Hulls.{IsPaintable}
-use Rattle.cell_tree.specs.Sizes.{size_at}
-use Rattle.cell_tree.specs.Uses.{displacements, IsLawfulGrid, IsLawfulUse, IsShift}
-use Rattle.cell_library.specs.declared.spots.Spot.{Spot}
-use Rattle.cell_library.specs.declared.spots.UseSearch.{UseSearch}
-use Rattle.cell_library.specs.steps.Spans.{HoldsMultiples, IsGridOf, spots_to, seen_low_x, seen_high_x, seen_low_y, seen_high_y, CanBeDropped, AddsRow}
-use Rattle.cell_library.specs.steps.Spans.{SpansFar}
-use Rattle.cell_library.specs.Spots.{spots_at, AddsSpots, StandsApart}
-use Rattle.cell_library.specs.steps.UsePlaces.{IsApart}
+use Rattle.std.proofs.Math.Nat.{div-add-mod, mod-lt}
+use Rattle.geo_core.specs.Images.{rect_image}
+use Rattle.cell_library.specs.Spots.{StandsApart}
 use Rattle.cell_library.proofs.GridSpots.{IsStepSmall, displaced_at, dropped_from, length-displacements, rows_dropped}
 use Rattle.cell_library.proofs.SpotLaws.{sifted_weaken, spots_dropped}
 

@@ -1,25 +1,16 @@
 -- Sizes of cells: cells have one list of sizes, and the size of a cell rests on those below it alone.
-use Rattle.std.proofs.Common.{◌≡◌, ◌+◌, ◌<◌, ◌≤◌, ℕ, zero, suc, max, List, [], ◌∷◌, ◌++◌, length, get_or, refl, sym, ap, subst, ◌∙◌, arith, inl}
-use Rattle.std.proofs.Common.{inr}
-use Rattle.std.specs.Prelude.{Some, slice_get, slice_set, ◌*◌}
-use Rattle.std.specs.Option.{option_to_list}
-use Rattle.std.proofs.lemmas.Bool.{cases_eq, cases_lt}
-use Rattle.std.proofs.lemmas.List.{length-set, get_or_past, get_or-set_same, get_or-set_other}
-use Rattle.std.proofs.lemmas.Option.{slice_get-get_or, slice_get_within, get_or_from_slice_get}
+use Rattle.cell_library.proofs.Common.{◌≡◌, ◌+◌, ◌<◌, ◌≤◌, ℕ, zero, suc, List, [], ◌∷◌, ◌++◌, length, get_or, refl, sym, ap, subst, ◌∙◌, arith, inl}
+use Rattle.cell_library.proofs.Common.{inr, Some, slice_get, slice_set, option_to_list, cases_eq, cases_lt, length-set, get_or_past, get_or-set_same}
+use Rattle.cell_library.proofs.Common.{slice_get-get_or, slice_get_within, get_or_from_slice_get, slice_get-set_other, Dimension, Depth, Elements}
+use Rattle.cell_library.proofs.Common.{Hull, Size, UseBody, displacements, element_hulls, round_all, CellState, size_at, hulls_below, elements_below}
+use Rattle.cell_library.proofs.Common.{AreSizes, IsWithin, IsAbove, cell_at, Tree, IsLawfulTree, WouldPass, child_is_lower, cell_is}
+use Rattle.std.proofs.Common.{max}
+use Rattle.std.specs.Prelude.{◌*◌}
+use Rattle.std.proofs.lemmas.List.{get_or-set_other}
 use Rattle.geo_core.specs.FiniteSets.Chain.{stay}
 use Rattle.geo_core.proofs.FiniteSets.Chains.{Chain-push}
-use Rattle.geo_core.proofs.FiniteSets.Places.{slice_get-set_other}
-use Rattle.cell_tree.specs.declared.sizes.Dimension.{Dimension}
-use Rattle.cell_tree.specs.declared.sizes.Dimension.TheVariants.{Depth, Elements, Hull}
-use Rattle.cell_tree.specs.declared.sizes.Size.{Size}
-use Rattle.cell_tree.specs.declared.use_tables.UseBody.{UseBody}
-use Rattle.cell_tree.specs.Uses.{displacements}
-use Rattle.cell_tree.specs.Hulls.{element_hulls, round_all}
-use Rattle.cell_tree.specs.Sizes.{CellState, size_at, no_size, size_of, hulls_below, elements_below, depth_below, AreSizes, IsWithin}
-use Rattle.cell_tree.specs.Cells.{IsAbove}
-use Rattle.cell_tree.specs.Trees.{cell_at, Tree, IsLawfulTree, WouldPass, WouldKeepWithin}
-use Rattle.cell_tree.proofs.SizeLaws.{child_is_lower}
-use Rattle.cell_tree.proofs.WholeLaws.{cell_is}
+use Rattle.cell_tree.specs.Sizes.{no_size, size_of, depth_below}
+use Rattle.cell_tree.specs.Trees.{WouldKeepWithin}
 
 -- ---- what the size of a cell rests on
 

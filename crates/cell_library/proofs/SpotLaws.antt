@@ -1,23 +1,11 @@
 -- The spots of a cell's elements, which of them are kept, and what is told at them.
-use Rattle.std.proofs.Common.{◌≡◌, ◌+◌, ◌*◌, ℕ, zero, suc, ℤ, List, [], ◌∷◌, ◌++◌, length, take, drop, refl, sym, ap, subst, ◌∙◌, arith, inl, inr}
-use Rattle.std.proofs.Common.{append_assoc}
-use Rattle.std.specs.Prelude.{Some, slice_get}
-use Rattle.std.proofs.lemmas.List.{length-append, append-nil, drop_all}
-use Rattle.geo_core.specs.FiniteSets.Lists.{In}
-use Rattle.geo_core.proofs.FiniteSets.Members.{In-append_cases}
-use Rattle.geo_core.specs.declared.squares.Rect.{Rect}
-use Rattle.geo_core.specs.declared.transforms.Transform.{Transform}
-use Rattle.geo_core.specs.Images.{composed}
-use Rattle.cell_tree.specs.declared.sizes.Size.{Size}
-use Rattle.cell_tree.specs.declared.use_tables.UseBody.{UseBody}
-use Rattle.cell_tree.specs.Uses.{displacements}
-use Rattle.cell_tree.specs.Sizes.{elements_below}
-use Rattle.cell_bodies.specs.LayoutModel.CellTrees.{CellTree, Elements, Standing}
-use Rattle.cell_library.specs.declared.part_tiles.PartTile.{PartTile}
-use Rattle.cell_library.specs.declared.spots.Spot.{Spot}
-use Rattle.cell_library.specs.LayoutTrees.{element_transform, elements_at, elements_from}
-use Rattle.cell_library.specs.Spots.{spots_at, spots_from, own_elements, cells_at, AreSifted, AreSiftedBy, AreNumbered, AreToldTo, AddsSpots}
-use Rattle.cell_library.specs.steps.VisitedTiles.{placed_cells, placed_below, AddsTiles, AreOutside}
+use Rattle.cell_library.proofs.Common.{◌≡◌, ◌+◌, ◌*◌, ℕ, zero, suc, ℤ, List, [], ◌∷◌, ◌++◌, length, take, drop, refl, sym, ap, subst, ◌∙◌, arith}
+use Rattle.cell_library.proofs.Common.{inl, inr, append_assoc, Some, slice_get, append-nil, drop_all, In, In-append_cases, Rect, Transform, composed}
+use Rattle.cell_library.proofs.Common.{Size, UseBody, displacements, elements_below, CellTree, Standing, PartTile, Spot, element_transform}
+use Rattle.cell_library.proofs.Common.{elements_at, elements_from, spots_at, spots_from, own_elements, cells_at, AreSifted, AreSiftedBy, AreNumbered}
+use Rattle.cell_library.proofs.Common.{AreToldTo, AddsSpots, placed_cells, placed_below, AddsTiles, AreOutside}
+use Rattle.std.proofs.lemmas.List.{length-append}
+use Rattle.cell_bodies.specs.LayoutModel.CellTrees.{Elements}
 use Rattle.cell_library.proofs.PlacedCells.{cells_in, length-placed}
 use Rattle.cell_library.proofs.ToldTiles.{adds_none, adds_both}
 

@@ -1,12 +1,7 @@
 -- How many cells stand at and below a cell.
-use Rattle.std.proofs.Common.{◌≡◌, ◌<◌, ◌≤◌, ℕ, List, length, ap, ◌∙◌, arith}
-use Rattle.geo_core.specs.Images.{identity}
-use Rattle.cell_bodies.specs.LayoutModel.CellTrees.{CellTree, Standing, standings}
-use Rattle.cell_tree.specs.declared.limits.TheConstants.{MOST_DEPTH, MOST_ELEMENTS_BELOW}
-use Rattle.cell_tree.specs.declared.sizes.Dimension.TheVariants.{Depth, Elements}
-use Rattle.cell_tree.specs.Sizes.{size_at}
-use Rattle.cell_library.specs.LayoutTrees.{tree_at, tree_to}
-use Rattle.cell_library.specs.Libraries.{LibraryParts, IsLawfulLibrary, seen}
+use Rattle.cell_library.proofs.Common.{◌≡◌, ◌<◌, ◌≤◌, ℕ, List, length, ap, ◌∙◌, arith, identity, CellTree, Standing, standings, MOST_DEPTH}
+use Rattle.cell_library.proofs.Common.{MOST_ELEMENTS_BELOW, Depth, Elements, size_at, tree_to, LibraryParts, IsLawfulLibrary, seen}
+use Rattle.cell_library.specs.LayoutTrees.{tree_at}
 use Rattle.cell_library.proofs.PlacedCells.{cells_counted, cells_in, length-placed, standings_placed}
 use Rattle.cell_library.proofs.SizeLaws.{tree_children}
 

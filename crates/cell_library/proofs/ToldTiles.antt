@@ -1,22 +1,14 @@
 -- Lists of the tiles of standing cells.
-use Rattle.std.proofs.Common.{◌≡◌, ◌+◌, ℕ, List, [], ◌++◌, length, refl, sym, ap, subst, ◌∙◌, arith, inl, inr}
-use Rattle.std.proofs.Common.{append_assoc}
-use Rattle.std.proofs.lemmas.Option.{slice_get_within}
-use Rattle.std.proofs.lemmas.List.{append-nil}
-use Rattle.geo_core.proofs.FiniteSets.Members.{In-append_left, In-append_right, In-append_cases}
+use Rattle.cell_library.proofs.Common.{◌≡◌, ◌+◌, ℕ, List, [], ◌++◌, length, refl, sym, ap, subst, ◌∙◌, arith, inl, inr, append_assoc}
+use Rattle.cell_library.proofs.Common.{slice_get_within, append-nil, In-append_left, In-append_right, In-append_cases, In-slice_get, Square, Rect}
+use Rattle.cell_library.proofs.Common.{Covers, image, inverted, image-forth, Place, Standing, PartTile, IsCutOf, HasThere, AreTold, AddsTiles}
+use Rattle.cell_library.proofs.Common.{AreOutside}
 use Rattle.geo_core.proofs.FiniteSets.Distincts.{Distinct-append}
-use Rattle.geo_core.proofs.FiniteSets.Places.{In-slice_get, slice_get-append_left, slice_get-append_right, slice_get-append_cases}
-use Rattle.geo_core.specs.declared.squares.Square.{Square}
-use Rattle.geo_core.specs.declared.squares.Rect.{Rect}
-use Rattle.geo_core.specs.Covering.{Covers}
-use Rattle.geo_core.specs.Images.{image, inverted, rect_image}
+use Rattle.geo_core.proofs.FiniteSets.Places.{slice_get-append_left, slice_get-append_right, slice_get-append_cases}
+use Rattle.geo_core.specs.Images.{rect_image}
 use Rattle.geo_core.proofs.CoveringLaws.{covers_first, covers_second, corner_covered}
-use Rattle.geo_core.proofs.ImageLaws.{image-forth, rect_image-covered}
+use Rattle.geo_core.proofs.ImageLaws.{rect_image-covered}
 use Rattle.geo_core.proofs.StripSets.{strip_within}
-use Rattle.cell_bodies.specs.LayoutModel.Places.{Place}
-use Rattle.cell_bodies.specs.LayoutModel.CellTrees.{Standing}
-use Rattle.cell_library.specs.declared.part_tiles.PartTile.{PartTile}
-use Rattle.cell_library.specs.steps.VisitedTiles.{IsCutOf, HasThere, AreTold, AddsTiles, AreOutside}
 
 -- ---- places in lists
 

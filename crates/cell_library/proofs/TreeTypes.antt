@@ -1,23 +1,13 @@
 -- The types of the tree of a cell are those of the technology.
-use Rattle.std.proofs.Common.{◌≡◌, ◌≤◌, inl, inr, ℕ, zero, suc, ℤ, List, [], ◌∷◌, length, sym, ap, subst, arith}
-use Rattle.std.specs.Prelude.{All}
-use Rattle.std.proofs.lemmas.Bool.{cases_lt}
-use Rattle.std.proofs.lemmas.List.{get_or_past}
-use Rattle.geo_core.specs.declared.transforms.Transform.{Transform}
-use Rattle.tech_model.specs.declared.limits.TheConstants.{MOST_PLANES}
-use Rattle.tech_model.specs.declared.raw.RawTech.{RawTech}
-use Rattle.cell_bodies.specs.LayoutModel.Layouts.{Layout}
+use Rattle.cell_library.proofs.Common.{◌≡◌, ◌≤◌, inl, inr, ℕ, zero, suc, ℤ, List, [], ◌∷◌, length, sym, ap, subst, arith, All, cases_lt, get_or_past}
+use Rattle.cell_library.proofs.Common.{Transform, MOST_PLANES, RawTech, Layout, CellTree, IsTyped, layout_of, UseBody, displacements, held_at}
+use Rattle.cell_library.proofs.Common.{no_held, IsSoundHeld, elements_at, elements_from, tree_to, LibraryParts, IsLawfulLibrary, cells_seen, seen}
+use Rattle.cell_library.proofs.Common.{uses_in, CellView, LibraryView, no_cell, view_at}
 use Rattle.cell_bodies.specs.LayoutModel.LayerTypes.{HasTypesOf}
-use Rattle.cell_bodies.specs.LayoutModel.CellTrees.{CellTree, Elements}
-use Rattle.cell_bodies.specs.LayoutModel.FlatSets.{IsTyped, AreTyped}
-use Rattle.cell_bodies.specs.CellPaint.Paints.{layout_of}
+use Rattle.cell_bodies.specs.LayoutModel.CellTrees.{Elements}
+use Rattle.cell_bodies.specs.LayoutModel.FlatSets.{AreTyped}
 use Rattle.cell_bodies.proofs.CellPaint.PaintTypes.{paint_has_types}
-use Rattle.cell_tree.specs.declared.use_tables.UseBody.{UseBody}
-use Rattle.cell_tree.specs.Uses.{displacements}
-use Rattle.cell_library.specs.Contents.{held_at, no_held, IsSoundHeld}
-use Rattle.cell_library.specs.LayoutTrees.{elements_at, elements_from, tree_at, tree_to}
-use Rattle.cell_library.specs.Libraries.{LibraryParts, IsLawfulLibrary, cells_seen, seen, uses_in}
-use Rattle.cell_library.specs.Views.{CellView, LibraryView, no_cell, view_at}
+use Rattle.cell_library.specs.LayoutTrees.{tree_at}
 use Rattle.cell_library.proofs.ViewLaws.{cell_viewed, length-cell_views}
 
 -- ---- paint

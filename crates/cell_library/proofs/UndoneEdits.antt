@@ -1,21 +1,11 @@
 -- What gives a cell back its paint or its labels undoes the edits of these.
-use Rattle.std.proofs.Common.{◌≡◌, ◌<◌, ◌∷◌, [], ℕ, zero, suc, List, length, refl, sym, ap, subst, arith}
-use Rattle.std.specs.Prelude.{false, slice_index_or}
-use Rattle.geo_core.specs.declared.squares.Piece.{Piece}
-use Rattle.geo_core.specs.declared.squares.Rect.{Rect}
-use Rattle.geo_core.specs.Covering.{is_covered}
-use Rattle.tech_model.specs.declared.raw.TypeRec.{TypeRec}
-use Rattle.tech_model.specs.Columns.{painted_column, erased_column}
-use Rattle.cell_bodies.specs.LayoutModel.Layouts.{Layout}
-use Rattle.cell_bodies.specs.LayoutModel.Places.{Place}
-use Rattle.cell_bodies.specs.CellPaint.Painting.{with_paint, with_erased}
-use Rattle.cell_bodies.specs.CellPaint.Paints.{IsSoundPaint}
-use Rattle.cell_bodies.specs.CellPaint.Pieces.{with_pieces, AreTakenOut}
+use Rattle.cell_library.proofs.Common.{◌≡◌, ◌<◌, ◌∷◌, [], ℕ, zero, suc, List, length, refl, sym, ap, subst, arith, slice_index_or, Piece, Rect}
+use Rattle.cell_library.proofs.Common.{is_covered, TypeRec, painted_column, erased_column, Layout, Place, with_paint, with_erased, IsSoundPaint}
+use Rattle.cell_library.proofs.Common.{with_pieces, AreTakenOut, painted, erased, repainted, CellView, LibraryView, changed_at, no_cell, view_at}
+use Rattle.cell_library.proofs.Common.{with_cell_changed}
+use Rattle.std.specs.Prelude.{false}
 use Rattle.cell_bodies.proofs.CellPaint.PaintLaws.{changed_outside}
 use Rattle.cell_bodies.proofs.CellPaint.PieceLaws.{taken_brings_back}
-use Rattle.cell_library.specs.Edits.{painted, erased}
-use Rattle.cell_library.specs.Restorations.{repainted}
-use Rattle.cell_library.specs.Views.{CellView, LibraryView, changed_at, no_cell, view_at, with_cell_changed}
 
 -- ---- one cell
 

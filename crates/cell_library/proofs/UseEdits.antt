@@ -1,45 +1,25 @@
 -- Uses of one cell: what becomes of the library, and what an edit is refused for.
-use Rattle.std.proofs.Common.{◌≡◌, ◌⊎◌, ◌<◌, ◌≤◌, ℕ, zero, suc, false, Bool, List, [], ◌∷◌, ◌++◌, length, length-append, map, filter, remove, set, Option, refl}
-use Rattle.std.proofs.Common.{sym, ap, subst, ◌∙◌, arith, inl, inr, true≢false}
-use Rattle.std.specs.Prelude.{Some, None, not, ℤ, slice_get, slice_set, All, IsTrue}
+use Rattle.cell_library.proofs.Common.{◌≡◌, ◌⊎◌, ◌<◌, ◌≤◌, ℕ, zero, suc, false, Bool, List, [], ◌∷◌, ◌++◌, length, length-append, map, filter}
+use Rattle.cell_library.proofs.Common.{remove, set, Option, refl, sym, ap, subst, ◌∙◌, arith, inl, inr, true≢false, Some, None, not, slice_get}
+use Rattle.cell_library.proofs.Common.{slice_set, All, IsTrue, bytes_eq, cases_eq, set-get_or, All-push, Distinct, In-filter_source, All-from_In}
+use Rattle.cell_library.proofs.Common.{All-In, slice_get-set_other, slice_get-set_same, Transform, layout_of, is_use_id, TreeFault, Crossing}
+use Rattle.cell_library.proofs.Common.{TooManyUses, Passed, NoMemory, MOST_USES, Depth, Elements, Hull, Size, UseBody, IsAbove, CellState, size_at}
+use Rattle.cell_library.proofs.Common.{AreSizes, Tree, IsLawfulTree, IsEdited, cell_at, child_is_lower, above_as_deep, cell_is, LibFault, OutOfRange}
+use Rattle.cell_library.proofs.Common.{NoUse, Cycle, TooMany, Memory, of_tree, held_at, no_held, LibraryParts, IsLawfulLibrary, HasUseIds}
+use Rattle.cell_library.proofs.Common.{cells_seen, uses_in, seen, edits_of, AreStatesOf, GoesPast, OwnBoxIs, FirstOf, NothingElse, EditIsRefused}
+use Rattle.cell_library.proofs.Common.{HasFaultOrLacksMemory, has_id, cell_view, CellView, LibraryView, changed_at, view_at, with_cell_changed}
+use Rattle.std.specs.Prelude.{ℤ}
 use Rattle.std.specs.Option.{option_map_or}
-use Rattle.std.specs.Str.{bytes_eq}
-use Rattle.std.proofs.lemmas.Bool.{cases_eq}
-use Rattle.std.proofs.lemmas.List.{set-get_or}
-use Rattle.std.proofs.lemmas.List.Elements.{All-push}
-use Rattle.geo_core.specs.FiniteSets.Lists.{Distinct}
 use Rattle.geo_core.proofs.FiniteSets.Chains.{Chain-weaker}
-use Rattle.geo_core.proofs.FiniteSets.Members.{In-filter_source}
-use Rattle.geo_core.proofs.FiniteSets.Searches.{All-from_In, All-In}
-use Rattle.geo_core.proofs.FiniteSets.Places.{slice_get-append_left, slice_get-push_new, slice_get-set_other, slice_get-set_same}
-use Rattle.geo_core.specs.declared.transforms.Transform.{Transform}
-use Rattle.cell_bodies.specs.CellPaint.Paints.{layout_of}
-use Rattle.cell_bodies.specs.Words.{is_use_id}
-use Rattle.cell_tree.specs.declared.faults.TreeFault.{TreeFault}
-use Rattle.cell_tree.specs.declared.faults.TreeFault.TheVariants.{Cycle as Crossing, TooManyUses, Passed, Memory as NoMemory}
-use Rattle.cell_tree.specs.declared.limits.TheConstants.{MOST_USES}
-use Rattle.cell_tree.specs.declared.sizes.Dimension.TheVariants.{Depth, Elements, Hull}
-use Rattle.cell_tree.specs.declared.sizes.Size.{Size}
-use Rattle.cell_tree.specs.declared.use_tables.UseBody.{UseBody}
-use Rattle.cell_tree.specs.Cells.{Uses, IsAbove}
-use Rattle.cell_tree.specs.Sizes.{CellState, size_at, size_of, AreSizes}
-use Rattle.cell_tree.specs.Trees.{Tree, IsLawfulTree, IsEdited, RefusesUse, cell_at, with_placed, without_use}
-use Rattle.cell_tree.proofs.SizeLaws.{child_is_lower}
-use Rattle.cell_tree.proofs.ArrivalLaws.{above_as_deep}
-use Rattle.cell_tree.proofs.WholeLaws.{cell_is}
-use Rattle.cell_library.specs.declared.faults.LibFault.{LibFault}
-use Rattle.cell_library.specs.declared.faults.LibFault.TheVariants.{OutOfRange, NoUse, Cycle, TooMany, Memory}
+use Rattle.geo_core.proofs.FiniteSets.Places.{slice_get-append_left, slice_get-push_new}
+use Rattle.cell_tree.specs.Cells.{Uses}
+use Rattle.cell_tree.specs.Sizes.{size_of}
+use Rattle.cell_tree.specs.Trees.{RefusesUse, with_placed, without_use}
 use Rattle.cell_library.specs.declared.limits.LibraryLimit.TheVariants.{Uses as UsesLimit, Depth as DepthLimit, Elements as ElementsLimit}
-use Rattle.cell_library.specs.steps.CellEdits.{of_tree, TreeRefusesUse, IsPlacedIn, IsDeletedIn}
-use Rattle.cell_library.specs.Contents.{held_at, no_held}
+use Rattle.cell_library.specs.steps.CellEdits.{TreeRefusesUse, IsPlacedIn, IsDeletedIn}
 use Rattle.cell_library.specs.Edits.{placed, transform_of, single_use}
-use Rattle.cell_library.specs.Libraries.{LibraryParts, IsLawfulLibrary, HasUseIds, cells_seen, uses_in, seen, edits_of}
-use Rattle.cell_library.specs.Limits.{AreStatesOf, GoesPast}
-use Rattle.cell_library.specs.OwnBoxes.{OwnBoxIs}
-use Rattle.cell_library.specs.Refusals.{FirstOf, NothingElse, EditIsRefused, PlacingIsRefused, PlaceIsRefused, DeleteIsRefused, HasFaultOrLacksMemory}
-use Rattle.cell_library.specs.Refusals.{StandsAbove, uses_of, has_id}
-use Rattle.cell_library.specs.Seen.{cell_view}
-use Rattle.cell_library.specs.Views.{CellView, LibraryView, changed_at, view_at, with_cell_changed}
+use Rattle.cell_library.specs.Refusals.{PlacingIsRefused, PlaceIsRefused, DeleteIsRefused}
+use Rattle.cell_library.specs.Refusals.{StandsAbove, uses_of}
 use Rattle.cell_library.proofs.EditLaws.{edit_seen, edit_lawful, seen_cells}
 use Rattle.cell_library.proofs.FaultLaws.{first_of_or, not_first, not_full}
 use Rattle.cell_library.proofs.LimitLaws.{never_past, would_go_past, none_before}

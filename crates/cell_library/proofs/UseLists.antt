@@ -1,15 +1,7 @@
 -- Lists of uses with their ids: what a change of the use with an id does to the list.
-use Rattle.std.proofs.Common.{◌≡◌, ℕ, zero, suc, true, false, Bool, List, [], ◌∷◌, map, filter, remove, refl, sym, ap, subst, ◌∙◌, inl, inr, true≢false}
-use Rattle.std.specs.Prelude.{Some, not, ◌||◌, slice_get, if◌then◌else◌}
-use Rattle.std.specs.List.{list_any}
-use Rattle.std.specs.Str.{bytes_eq}
-use Rattle.std.proofs.lemmas.Bool.{cases_Bool}
-use Rattle.std.proofs.lemmas.Slice.Eq.{bytes_eq-Decides}
-use Rattle.geo_core.specs.FiniteSets.Lists.{In, Distinct}
-use Rattle.cell_tree.specs.declared.use_tables.UseBody.{UseBody}
-use Rattle.cell_tree.specs.Uses.{HasIdAt, moved_at}
-use Rattle.cell_library.specs.Edits.{with_use_changed}
-use Rattle.cell_library.specs.Refusals.{has_id}
+use Rattle.cell_library.proofs.Common.{◌≡◌, ℕ, zero, suc, true, false, Bool, List, [], ◌∷◌, map, filter, remove, refl, sym, ap, subst, ◌∙◌, inl, inr}
+use Rattle.cell_library.proofs.Common.{true≢false, Some, not, ◌||◌, slice_get, if◌then◌else◌, list_any, bytes_eq, cases_Bool, bytes_eq-Decides, In}
+use Rattle.cell_library.proofs.Common.{Distinct, UseBody, HasIdAt, moved_at, with_use_changed, has_id}
 
 -- an id is itself
 pub id_same : (id : List ℕ) → bytes_eq id id ≡ true

@@ -1,38 +1,18 @@
 -- A search of the uses of a cell by area: the elements of those that are not found do not meet the area.
-use Rattle.std.proofs.Common.{◌≡◌, ℕ, ℤ, zero, suc, ◌+◌, ◌-◌, ◌<◌, ◌≤◌, List, [], length, take, get_or, Option, Some, refl, sym, ap, subst, ◌∙◌, arith}
-use Rattle.std.proofs.Common.{inl, inr}
-use Rattle.std.specs.Prelude.{slice_get, unwrap_or}
-use Rattle.std.specs.Option.{option_map}
-use Rattle.std.proofs.lemmas.Bool.{cases_lt}
-use Rattle.std.proofs.lemmas.List.{length-map, take_all}
-use Rattle.std.proofs.lemmas.Option.{get_or_from_slice_get, slice_get-map, slice_get_cases, slice_get_within}
-use Rattle.geo_core.specs.FiniteSets.Lists.{In}
-use Rattle.geo_core.proofs.FiniteSets.Members.{In-get_or, In-index}
-use Rattle.geo_core.specs.declared.squares.Rect.{Rect}
-use Rattle.geo_core.specs.declared.transforms.Transform.{Transform}
-use Rattle.geo_core.specs.Areas.{common_rect}
-use Rattle.geo_core.specs.Covering.{Covers, IsProper}
-use Rattle.geo_core.specs.Images.{image, inverted, rect_image}
-use Rattle.geo_core.proofs.CoveringLaws.{covers_both, covers_is_proper}
-use Rattle.geo_core.proofs.ImageLaws.{image-back}
-use Rattle.cell_bodies.specs.LayoutModel.Places.{Place}
-use Rattle.cell_tree.specs.declared.limits.TheConstants.{MOST_ELEMENTS_BELOW}
-use Rattle.cell_tree.specs.declared.sizes.Size.{Size}
-use Rattle.cell_tree.specs.declared.use_tables.UseBody.{UseBody}
-use Rattle.cell_tree.specs.Hulls.{displaced, element_hulls}
-use Rattle.cell_tree.specs.Sizes.{size_at}
-use Rattle.cell_tree.specs.Trees.{Tree, IsLawfulTree, cell_at}
-use Rattle.cell_tree.specs.Uses.{displacements}
+use Rattle.cell_library.proofs.Common.{◌≡◌, ℕ, ℤ, zero, suc, ◌+◌, ◌-◌, ◌<◌, ◌≤◌, List, [], length, take, get_or, Option, refl, sym, ap, subst, ◌∙◌}
+use Rattle.cell_library.proofs.Common.{arith, inl, inr, slice_get, unwrap_or, option_map, cases_lt, length-map, take_all, get_or_from_slice_get}
+use Rattle.cell_library.proofs.Common.{slice_get-map, slice_get_within, In, In-get_or, In-index, Rect, Transform, common_rect, Covers, IsProper}
+use Rattle.cell_library.proofs.Common.{image, inverted, covers_both, covers_is_proper, image-back, Place, MOST_ELEMENTS_BELOW, Size, UseBody}
+use Rattle.cell_library.proofs.Common.{displaced, element_hulls, size_at, Tree, IsLawfulTree, cell_at, displacements, Spot, UsePlace, UseStart}
+use Rattle.cell_library.proofs.Common.{element_transform, spots_from, AddsSpots, AreSiftedBy, spots_before, spots_of_use, spots_under, HasRoomBelow}
+use Rattle.cell_library.proofs.Common.{IsApart, start_at, use_box}
+use Rattle.std.proofs.Common.{Some}
+use Rattle.std.proofs.lemmas.Option.{slice_get_cases}
+use Rattle.geo_core.specs.Images.{rect_image}
 use Rattle.rect_trees.specs.Meetings.{AreMeeting}
-use Rattle.cell_library.specs.declared.spots.Spot.{Spot}
-use Rattle.cell_library.specs.declared.spots.UsePlace.{UsePlace}
 use Rattle.cell_library.specs.declared.use_trees.TheConstants.{NO_BOX}
-use Rattle.cell_library.specs.declared.use_trees.UseStart.{UseStart}
 use Rattle.cell_library.specs.declared.use_trees.UseTree.{UseTree}
-use Rattle.cell_library.specs.LayoutTrees.{element_transform}
-use Rattle.cell_library.specs.Spots.{spots_from, AddsSpots, AreSiftedBy}
-use Rattle.cell_library.specs.steps.UsePlaces.{spots_before, spots_of_use, spots_under, HasRoomBelow, IsApart}
-use Rattle.cell_library.specs.UseTrees.{place_at, start_at, use_box, IsUseTree}
+use Rattle.cell_library.specs.UseTrees.{place_at, IsUseTree}
 use Rattle.cell_library.proofs.HullsHoldMaterial.{covered_by_all, covers_from_back, element_image, In-element_hulls}
 use Rattle.cell_library.proofs.PlacedRects.{back_on}
 use Rattle.cell_library.proofs.SpotLaws.{spots_dropped}

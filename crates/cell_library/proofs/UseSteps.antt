@@ -1,27 +1,17 @@
 -- Steps of edits of uses.
-use Rattle.std.proofs.Common.{◌≡◌, ◌≢◌, ◌<◌, ◌&&◌, ℕ, true, List, [], ◌∷◌, length, Option, refl, sym, ap, ◌∙◌, arith}
-use Rattle.std.specs.Prelude.{Some, None, IfSome, IfNone, ℤ, pos, neg_ℤ, ◌+ℤ◌, ◌≤ℤ◌, ◌<ℤ◌, ◌^◌}
-use Rattle.std.specs.Option.{option_map}
-use Rattle.std.proofs.lemmas.Int.{ints, to_z-of_z}
+use Rattle.cell_library.proofs.Common.{◌≡◌, ◌≢◌, ◌<◌, ◌&&◌, ℕ, true, List, [], ◌∷◌, length, Option, refl, sym, ap, ◌∙◌, arith, Some, None, IfSome}
+use Rattle.cell_library.proofs.Common.{option_map, ints, to_z-of_z, and_parts, slice_get_within, Orient, R0, R90, R180, R270, Mx, My, Mx90, My90}
+use Rattle.cell_library.proofs.Common.{Transform, is_displacement, UseBody, HasIdAt, IsShift, IsLawfulUse, CellState, Tree, IsLawfulTree, cell_at}
+use Rattle.cell_library.proofs.Common.{cell_is, HasUseAt, has_id}
+use Rattle.std.specs.Prelude.{IfNone, ℤ, pos, neg_ℤ, ◌+ℤ◌, ◌≤ℤ◌, ◌<ℤ◌, ◌^◌}
 use mir.Val.{SFits, of_z, to_z}
 use mir.Syntax.{w64}
-use Rattle.std.proofs.lemmas.Bool.{and_parts}
-use Rattle.std.proofs.lemmas.Option.{slice_get_within}
-use Rattle.geo_core.specs.declared.orients.Orient.{Orient}
-use Rattle.geo_core.specs.declared.orients.Orient.TheVariants.{R0, R90, R180, R270, Mx, My, Mx90, My90}
-use Rattle.geo_core.specs.declared.transforms.Transform.{Transform}
 use Rattle.geo_core.specs.Images.{six_of}
 use Rattle.geo_core.specs.Orientation.{orient_of}
 use Rattle.geo_core.proofs.OrientationLaws.{six_of-orient_of}
-use Rattle.cell_bodies.specs.Numbers.{is_displacement, is_index}
-use Rattle.cell_tree.specs.declared.use_tables.UseBody.{UseBody}
-use Rattle.cell_tree.specs.Uses.{HasIdAt, IsShift, IsLawfulUse}
-use Rattle.cell_tree.specs.Sizes.{CellState}
-use Rattle.cell_tree.specs.Trees.{Tree, IsLawfulTree, cell_at}
-use Rattle.cell_tree.proofs.WholeLaws.{cell_is}
-use Rattle.cell_library.specs.steps.CellEdits.{HasUseAt}
+use Rattle.cell_bodies.specs.Numbers.{is_index}
 use Rattle.cell_library.specs.Edits.{transform_of, single_use}
-use Rattle.cell_library.specs.Refusals.{has_id, are_displacements}
+use Rattle.cell_library.specs.Refusals.{are_displacements}
 use Rattle.cell_library.proofs.UseLists.{has_there}
 
 -- a displacement that a use may have is one that the tree takes

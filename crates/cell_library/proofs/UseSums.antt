@@ -1,27 +1,13 @@
 -- The parts and numbers of the elements of uses, which leave room for them, and what can be visited below a spot.
-use Rattle.std.proofs.Common.{◌≡◌, ◌+◌, ◌*◌, ◌<◌, ◌≤◌, ℕ, zero, suc, ℤ, List, [], ◌∷◌, length, take, Some, refl, sym, ap, subst, ◌∙◌, arith, inl, inr}
-use Rattle.std.specs.Prelude.{slice_get}
-use Rattle.std.specs.Option.{option_map}
-use Rattle.std.proofs.Math.Nat.{mul-le-mul_right}
-use Rattle.geo_core.specs.FiniteSets.Lists.{In}
-use Rattle.geo_core.proofs.FiniteSets.Members.{In-append_cases}
-use Rattle.geo_core.specs.declared.transforms.Transform.{Transform}
-use Rattle.geo_core.specs.Images.{composed}
-use Rattle.cell_tree.specs.declared.limits.TheConstants.{MOST_ELEMENTS_BELOW}
-use Rattle.cell_tree.specs.declared.sizes.Dimension.TheVariants.{Elements}
-use Rattle.cell_tree.specs.declared.sizes.Size.{Size}
-use Rattle.cell_tree.specs.declared.use_tables.UseBody.{UseBody}
-use Rattle.cell_tree.specs.Sizes.{size_at, size_of, elements_below}
-use Rattle.cell_tree.specs.Trees.{Tree, IsLawfulTree, cell_at}
-use Rattle.cell_tree.specs.Uses.{displacements, IsLawfulUse}
-use Rattle.cell_tree.proofs.SizeLaws.{body_at, child_is_lower}
-use Rattle.cell_tree.proofs.WholeLaws.{cell_is}
-use Rattle.cell_library.specs.declared.spots.Spot.{Spot}
-use Rattle.cell_library.specs.declared.spots.UsePlace.{UsePlace}
-use Rattle.cell_library.specs.LayoutTrees.{element_transform}
-use Rattle.cell_library.specs.Spots.{spots_at, spots_from, own_elements, AddsSpots, HasRoomToMove, CanBeVisited}
-use Rattle.cell_library.specs.steps.UsePlaces.{HasRoomBelow, spots_before, spots_of_use, spots_under}
-use Rattle.cell_library.specs.UseTrees.{place_at, start_at, start_behind}
+use Rattle.cell_library.proofs.Common.{◌≡◌, ◌+◌, ◌*◌, ◌<◌, ◌≤◌, ℕ, zero, suc, ℤ, List, [], ◌∷◌, length, take, refl, sym, ap, subst, ◌∙◌, arith, inl}
+use Rattle.cell_library.proofs.Common.{inr, slice_get, option_map, mul-le-mul_right, In, In-append_cases, Transform, composed, MOST_ELEMENTS_BELOW}
+use Rattle.cell_library.proofs.Common.{Elements, Size, UseBody, size_at, elements_below, Tree, IsLawfulTree, cell_at, displacements, IsLawfulUse}
+use Rattle.cell_library.proofs.Common.{child_is_lower, cell_is, Spot, UsePlace, element_transform, spots_at, spots_from, own_elements, AddsSpots}
+use Rattle.cell_library.proofs.Common.{HasRoomToMove, CanBeVisited, HasRoomBelow, spots_before, spots_of_use, spots_under, start_at, start_behind}
+use Rattle.std.proofs.Common.{Some}
+use Rattle.cell_tree.specs.Sizes.{size_of}
+use Rattle.cell_tree.proofs.SizeLaws.{body_at}
+use Rattle.cell_library.specs.UseTrees.{place_at}
 use Rattle.cell_library.proofs.GridSpots.{element_moves, room_below, room_for_less}
 use Rattle.cell_library.proofs.ElementCounts.{size_elements}
 use Rattle.cell_library.proofs.SpotLaws.{spots_from-more, spots_both}

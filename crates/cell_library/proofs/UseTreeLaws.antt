@@ -1,14 +1,9 @@
 -- The uses of a cell as they are found by area, use by use.
-use Rattle.std.proofs.Common.{◌≡◌, ℕ, suc, ◌+◌, ◌<◌, List, [], ◌∷◌, ◌++◌, ◌⊎◌, length, map, take, inl, inr, Some, sym, ap, subst, ◌∙◌, arith}
-use Rattle.std.specs.Prelude.{slice_get}
+use Rattle.cell_library.proofs.Common.{◌≡◌, ℕ, suc, ◌+◌, ◌<◌, List, [], ◌∷◌, ◌++◌, ◌⊎◌, length, map, take, inl, inr, sym, ap, subst, ◌∙◌, arith}
+use Rattle.cell_library.proofs.Common.{slice_get, Rect, UseBody, size_at, Tree, cell_at, UseStart, start_at, start_behind, use_box}
+use Rattle.std.proofs.Common.{Some}
 use Rattle.std.proofs.lemmas.List.{length-append}
 use Rattle.geo_core.proofs.FiniteSets.Places.{slice_get-append_front, slice_get-push_new}
-use Rattle.geo_core.specs.declared.squares.Rect.{Rect}
-use Rattle.cell_tree.specs.declared.use_tables.UseBody.{UseBody}
-use Rattle.cell_tree.specs.Sizes.{size_at}
-use Rattle.cell_tree.specs.Trees.{Tree, cell_at}
-use Rattle.cell_library.specs.declared.use_trees.UseStart.{UseStart}
-use Rattle.cell_library.specs.UseTrees.{start_at, start_behind, use_box}
 use Rattle.cell_library.proofs.GridSteps.{images_on}
 use Rattle.cell_library.proofs.UseSums.{start_next, IsUseAt}
 

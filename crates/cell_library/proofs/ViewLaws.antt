@@ -1,18 +1,9 @@
 -- What is seen of cells when what is kept of them changes.
-use Rattle.std.proofs.Common.{◌≡◌, ◌<◌, ℕ, zero, suc, List, [], ◌∷◌, ◌++◌, length, map, set, refl, sym, ap, ◌∙◌, arith}
-use Rattle.std.specs.Prelude.{Some, slice_get, slice_index_or}
-use Rattle.std.proofs.lemmas.List.{get_or-map, set-get_or}
-use Rattle.cell_bodies.specs.LayoutModel.Layouts.{Layout}
-use Rattle.cell_bodies.specs.CellPaint.Paints.{layout_of}
-use Rattle.cell_tree.specs.declared.use_tables.UseBody.{UseBody}
-use Rattle.cell_tree.specs.Sizes.{CellState}
-use Rattle.cell_tree.specs.Trees.{cell_at, empty_cell}
-use Rattle.cell_library.specs.Contents.{Held, held_at, IsRepainted}
-use Rattle.cell_library.specs.Limits.{AreStatesOf}
-use Rattle.cell_library.specs.OwnBoxes.{OwnBoxIs}
-use Rattle.cell_library.specs.Views.{CellView, changed_at, names_of, no_cell}
-use Rattle.cell_library.specs.Seen.{cell_view, cell_views}
-use Rattle.cell_library.specs.Libraries.{uses_in, LibraryParts, seen}
+use Rattle.cell_library.proofs.Common.{◌≡◌, ◌<◌, ℕ, zero, suc, List, [], ◌∷◌, ◌++◌, length, map, set, refl, sym, ap, ◌∙◌, arith, Some, slice_get}
+use Rattle.cell_library.proofs.Common.{slice_index_or, set-get_or, Layout, layout_of, UseBody, CellState, cell_at, empty_cell, Held, held_at}
+use Rattle.cell_library.proofs.Common.{IsRepainted, AreStatesOf, OwnBoxIs, CellView, changed_at, names_of, no_cell, cell_view, cell_views, uses_in}
+use Rattle.cell_library.proofs.Common.{LibraryParts, seen}
+use Rattle.std.proofs.lemmas.List.{get_or-map}
 
 -- uses of cells, each with its id
 abbrev UseLists : Type 0

@@ -1,40 +1,16 @@
 -- What a visit of one standing cell tells, from what it tells at the spots below.
-use Rattle.std.proofs.Common.{◌≡◌, ◌+◌, ◌*◌, ◌<◌, ℕ, suc, ℤ, pos, neg_ℤ, ◌+ℤ◌, ◌≤ℤ◌, ◌<ℤ◌, List, [], ◌∷◌, length, Some, sym, ap, subst, ◌∙◌, arith, inl, inr}
-use Rattle.std.proofs.lemmas.Bool.{cases_lt}
-use Rattle.std.proofs.lemmas.Int.{ints, clamps}
-use Rattle.geo_core.specs.declared.orients.Orient.{Orient}
-use Rattle.geo_core.specs.declared.orients.Orient.TheVariants.{R0}
-use Rattle.geo_core.specs.declared.squares.Square.{Square}
-use Rattle.geo_core.specs.declared.squares.Rect.{Rect}
-use Rattle.geo_core.specs.declared.transforms.Transform.{Transform}
-use Rattle.geo_core.specs.Areas.{common_rect, IsNear}
-use Rattle.geo_core.specs.Covering.{Covers, IsProper}
-use Rattle.geo_core.specs.Images.{identity, image, inverted, rect_image}
-use Rattle.geo_core.proofs.CoveringLaws.{covers_both, covers_is_proper}
-use Rattle.geo_core.proofs.ImageLaws.{transform_of, image-forth}
-use Rattle.cell_bodies.specs.LayoutModel.Layouts.{IsMaterial}
-use Rattle.cell_bodies.specs.LayoutModel.Places.{Place}
-use Rattle.cell_bodies.specs.CellPaint.Paints.{Paint, layout_of}
-use Rattle.cell_bodies.proofs.CellPaint.PlaneLaws.{space_past}
-use Rattle.cell_tree.specs.declared.sizes.Size.{Size}
-use Rattle.cell_tree.specs.declared.sizes.Dimension.TheVariants.{Depth, Elements, Hull}
-use Rattle.cell_tree.specs.declared.use_tables.UseBody.{UseBody}
+use Rattle.cell_library.proofs.Common.{◌≡◌, ◌+◌, ◌*◌, ◌<◌, ℕ, suc, ℤ, pos, neg_ℤ, ◌+ℤ◌, ◌≤ℤ◌, ◌<ℤ◌, List, [], ◌∷◌, length, sym, ap, subst, ◌∙◌}
+use Rattle.cell_library.proofs.Common.{arith, inl, inr, cases_lt, ints, clamps, Orient, R0, Square, Rect, Transform, common_rect, IsNear, Covers}
+use Rattle.cell_library.proofs.Common.{IsProper, identity, image, inverted, covers_both, covers_is_proper, transform_of, image-forth, IsMaterial}
+use Rattle.cell_library.proofs.Common.{Place, Paint, layout_of, space_past, Size, Depth, Elements, Hull, UseBody, IsHullInRange, size_at, Tree}
+use Rattle.cell_library.proofs.Common.{IsLawfulTree, cell_at, child_is_lower, cell_is, Standing, place_back, PartTile, Spot, elements_from, tree_to}
+use Rattle.cell_library.proofs.Common.{LibraryParts, IsLawfulLibrary, seen, SpansFar, cells_at, standing_at, AreNumbered, AreSifted, AreSiftedBy}
+use Rattle.cell_library.proofs.Common.{AreToldTo, CanBeVisited, HasRoomToMove, IsApart, spots_under, view_at, HullIsAt, placed_cells, placed_below}
+use Rattle.cell_library.proofs.Common.{AddsTiles, AreOutside}
+use Rattle.std.proofs.Common.{Some}
+use Rattle.geo_core.specs.Images.{rect_image}
 use Rattle.cell_tree.specs.Hulls.{SpansInRange}
-use Rattle.cell_tree.specs.Sizes.{IsHullInRange, size_at, size_of}
-use Rattle.cell_tree.specs.Trees.{Tree, IsLawfulTree, cell_at}
-use Rattle.cell_tree.proofs.SizeLaws.{child_is_lower}
-use Rattle.cell_tree.proofs.WholeLaws.{cell_is}
-use Rattle.cell_bodies.specs.LayoutModel.CellTrees.{Standing, place_back}
-use Rattle.cell_library.specs.declared.part_tiles.PartTile.{PartTile}
-use Rattle.cell_library.specs.declared.spots.Spot.{Spot}
-use Rattle.cell_library.specs.LayoutTrees.{elements_from, tree_to}
-use Rattle.cell_library.specs.Libraries.{LibraryParts, IsLawfulLibrary, seen}
-use Rattle.cell_library.specs.steps.Spans.{SpansFar}
-use Rattle.cell_library.specs.Spots.{cells_at, standing_at, AreNumbered, AreSifted, AreSiftedBy, AreToldTo, CanBeVisited, HasRoomToMove}
-use Rattle.cell_library.specs.steps.UsePlaces.{IsApart, spots_under}
-use Rattle.cell_library.specs.Views.{view_at}
-use Rattle.cell_library.specs.steps.Visits.{HullIsAt}
-use Rattle.cell_library.specs.steps.VisitedTiles.{placed_cells, placed_below, AddsTiles, AreOutside}
+use Rattle.cell_tree.specs.Sizes.{size_of}
 use Rattle.cell_library.proofs.HullsHoldMaterial.{hull_holds_material, state_uses}
 use Rattle.cell_library.proofs.OwnTiles.{HullHoldsOwn}
 use Rattle.cell_library.proofs.PlacedCells.{cells_counted, outside_hull}

@@ -1,24 +1,15 @@
 -- Cells that come to the library, and what a load means by that.
-use Rattle.std.proofs.Common.{◌≡◌, ◌+◌, ◌<◌, inl, inr, ℕ, List, [], ◌∷◌, length, length-append, map, sym, ap, ◌∙◌, arith}
-use Rattle.std.specs.Prelude.{IsSome, Option}
-use Rattle.std.proofs.lemmas.List.{length-map}
-use Rattle.outside_io.specs.Files.{Files}
-use Rattle.outside_io.specs.CallPlans.{CallPlan}
-use Rattle.session_model.specs.Effects.{GivesFetching}
-use Rattle.session_model.specs.FileTrees.{StopsAsking}
+use Rattle.cell_loading.proofs.Common.{◌≡◌, ◌+◌, ◌<◌, inl, inr, ℕ, List, [], ◌∷◌, length, length-append, sym, ap, ◌∙◌, arith, IsSome, Option}
+use Rattle.cell_loading.proofs.Common.{length-map, Files, CallPlan, GivesFetching, StopsAsking, CellBody, names_with, LibraryParts, seen, uses_in}
+use Rattle.cell_loading.proofs.Common.{LibraryView, cell_named, LoadFault, AreRead, LoadGives, LoadIsRefused, cell_files, files_read}
+use Rattle.std.proofs.Common.{map}
 use Rattle.session_model.proofs.FileTreeLaws.{file_refused_asking}
-use Rattle.mag_text.specs.CellBodies.declared.bodies.CellBody.{CellBody}
-use Rattle.mag_text.specs.CellLibrary.Additions.{kept_cell, names_with, with_all}
-use Rattle.mag_text.specs.CellLibrary.Libraries.{LibraryParts, seen, edits_of, uses_in}
-use Rattle.mag_text.specs.CellLibrary.Views.{LibraryView, cell_named}
+use Rattle.mag_text.specs.CellLibrary.Additions.{kept_cell, with_all}
+use Rattle.mag_text.specs.CellLibrary.Libraries.{edits_of}
 use Rattle.mag_text.proofs.CellLibrary.ViewLaws.{length-cell_views}
-use Rattle.cell_loading.specs.declared.faults.LoadFault.{LoadFault}
 use Rattle.cell_loading.specs.declared.loading.Loaded.{Loaded}
 use Rattle.cell_loading.specs.declared.loading.Loaded.TheVariants as loaded
 use Rattle.cell_loading.specs.Arrivals.{Arrives}
-use Rattle.cell_loading.specs.Loads.{AreRead, LoadGives, LoadIsRefused}
-use Rattle.cell_loading.specs.Readings.{cell_files}
-use Rattle.cell_loading.specs.steps.Walks.{files_read}
 use Rattle.cell_loading.proofs.ReadingLaws.{files_same}
 
 -- there are more cells than before

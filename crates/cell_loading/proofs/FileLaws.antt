@@ -1,16 +1,12 @@
 -- What the file of a cell gives rests on that file alone, and so does what a load comes to.
-use Rattle.std.proofs.Common.{◌≡◌, ℕ, List, Option, inl, inr, sym, ap, subst}
-use Rattle.std.specs.Prelude.{Result, Ok, Err}
-use Rattle.outside_io.specs.Files.{Files}
+use Rattle.cell_loading.proofs.Common.{◌≡◌, ℕ, List, inl, inr, sym, ap, subst, Result, Ok, Err, Files, LibraryView, Draft, LoadFault, LoadIsRefused}
+use Rattle.cell_loading.proofs.Common.{cell_files, with_name}
+use Rattle.std.proofs.Common.{Option}
 use Rattle.session_model.specs.Fetches.{AgreeOn, if_short, text_in}
 use Rattle.session_model.specs.FileTrees.{GivesByFile}
 use Rattle.session_model.proofs.FileTreeLaws.{file_refused_rests, rests_on_fetched}
-use Rattle.mag_text.specs.CellLibrary.Views.{LibraryView}
-use Rattle.mag_text.specs.Drafts.{Draft}
-use Rattle.cell_loading.specs.declared.faults.LoadFault.{LoadFault}
 use Rattle.cell_loading.specs.CellFiles.{ReadCell, cell_file, file_gives, text_gives}
-use Rattle.cell_loading.specs.Loads.{IsLoaded, LoadIsRefused}
-use Rattle.cell_loading.specs.Readings.{cell_files, with_name}
+use Rattle.cell_loading.specs.Loads.{IsLoaded}
 
 -- what is given is given with the name that was asked for
 given_named : (name : List ℕ) (given : Result Draft LoadFault) (said : ReadCell) → with_name name given ≡ Ok said → said.0 ≡ name

@@ -1,20 +1,17 @@
 -- Which names cells have, of the library and of those that were read, and whether there is room for one more.
-use Rattle.std.proofs.Common.{◌≡◌, ◌≤◌, ◌-◌, ◌+◌, inl, inr, ℕ, Bool, false, List, [], refl, sym, ap, ◌∙◌, arith, true≢false}
-use Rattle.std.specs.Prelude.{◌||◌, nat_le, Option, Some, None, IsSome, is_some}
-use Rattle.std.specs.List.{list_any, position}
+use Rattle.cell_loading.proofs.Common.{◌≡◌, ◌≤◌, ◌+◌, inl, inr, ℕ, Bool, false, List, [], refl, sym, ap, ◌∙◌, arith, ◌||◌, Option, Some, None}
+use Rattle.cell_loading.proofs.Common.{IsSome, list_any, bytes_eq, CellBody, LibraryParts, seen, cell_named, names_of, is_among, names_in}
+use Rattle.std.proofs.Common.{◌-◌, true≢false}
+use Rattle.std.specs.Prelude.{nat_le, is_some}
+use Rattle.std.specs.List.{position}
 use Rattle.std.specs.Option.{option_map}
-use Rattle.std.specs.Str.{bytes_eq}
 use Rattle.std.proofs.lemmas.Bool.{cases_Bool, le-leb, leb-true}
 use Rattle.std.proofs.lemmas.List.Folds.{list_any-append, list_any_at, list_any_none}
 use Rattle.std.proofs.lemmas.List.Quantifiers.{position-Some}
 use Rattle.std.proofs.lemmas.List.Sums.{fails_before_first}
 use Rattle.cell_tree.specs.ExtModel.declared.tables.CellKey.{CellKey}
-use Rattle.mag_text.specs.CellBodies.declared.bodies.CellBody.{CellBody}
 use Rattle.mag_text.specs.CellLibrary.declared.limits.TheConstants.{MOST_CELLS}
-use Rattle.mag_text.specs.CellLibrary.Libraries.{LibraryParts, seen}
-use Rattle.mag_text.specs.CellLibrary.Views.{cell_named, names_of}
 use Rattle.mag_text.proofs.CellLibrary.ContentLaws.{position_past}
-use Rattle.cell_loading.specs.steps.ReadCells.{is_among, names_in}
 
 found_or_not : (test : List ℕ → Bool) (names : List (List ℕ)) (found : Option ℕ) → position test names ≡ found
     → is_some (position test names) ≡ list_any test names

@@ -1,19 +1,17 @@
 -- The names that are left, as frames come and go and cells are added.
-use Rattle.std.proofs.Common.{◌≡◌, ◌⊎◌, ◌<◌, ◌≤◌, ◌+◌, ℕ, suc, List, [], ◌∷◌, ◌++◌, length, drop}
-use Rattle.std.proofs.Common.{refl, sym, ap, ◌∙◌, arith, append-nil, append_assoc, get_or, subst, length-append, true, false}
-use Rattle.std.specs.Prelude.{Option, Some, None}
+use Rattle.cell_loading.proofs.Common.{◌≡◌, ◌⊎◌, ◌<◌, ◌≤◌, ◌+◌, ℕ, suc, List, [], ◌∷◌, ◌++◌, length, refl, sym, ap, ◌∙◌, arith, subst, length-append}
+use Rattle.cell_loading.proofs.Common.{true, false, Option, Some, None, length-map, All-push, All-same, CellBody, CellUse, LibraryView, Frame}
+use Rattle.cell_loading.proofs.Common.{children_of, is_among, names_left, rest_of}
+use Rattle.std.proofs.Common.{drop}
+use Rattle.std.proofs.Common.{append-nil, append_assoc, get_or}
 use Rattle.std.proofs.Math.ListN.{get_or-append}
 use Rattle.std.proofs.Math.Seq.{get_or-append_seam}
-use Rattle.std.proofs.lemmas.List.{drop_more, get_or-map, length-map}
-use Rattle.std.proofs.lemmas.List.Elements.{All-head, All-pop, All-push, All-same, All-tail, All-weaker}
-use Rattle.mag_text.specs.CellBodies.declared.bodies.CellBody.{CellBody}
-use Rattle.mag_text.specs.CellBodies.declared.bodies.CellUse.{CellUse}
-use Rattle.mag_text.specs.CellLibrary.Views.{LibraryView}
-use Rattle.cell_loading.specs.declared.walks.Frame.{Frame}
+use Rattle.std.proofs.lemmas.List.{drop_more, get_or-map}
+use Rattle.std.proofs.lemmas.List.Elements.{All-head, All-pop, All-tail, All-weaker}
 use Rattle.cell_loading.specs.declared.walks.Next.{Next}
 use Rattle.cell_loading.specs.declared.walks.Next.TheVariants as next
-use Rattle.cell_loading.specs.steps.ReadCells.{children_of, is_among, no_read, uses_at}
-use Rattle.cell_loading.specs.steps.Walks.{names_left, rest_of, AreFrames, Takes, TakesFrom}
+use Rattle.cell_loading.specs.steps.ReadCells.{no_read, uses_at}
+use Rattle.cell_loading.specs.steps.Walks.{AreFrames, Takes, TakesFrom}
 
 -- the names of a frame on top come first
 pub names_left-push : (cells : List (List ℕ × CellBody)) (frames : List Frame) (frame : Frame)

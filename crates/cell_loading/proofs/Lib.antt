@@ -1,4 +1,5 @@
 mod ArrivalLaws
+mod Common
 mod KnownLaws
 mod NameSetLaws
 mod LeftLaws

@@ -1,17 +1,13 @@
 -- The set of names grows as the list of cells does.
-use Rattle.std.proofs.Common.{◌≡◌, ℕ, Bool, true, false, List, [], ◌∷◌, ◌++◌, refl, sym, ap, ◌∙◌}
-use Rattle.std.specs.Prelude.{◌||◌, not, Vec, MatchBool}
-use Rattle.std.specs.List.{list_any}
+use Rattle.cell_loading.proofs.Common.{◌≡◌, ℕ, Bool, true, false, List, [], ◌∷◌, ◌++◌, refl, sym, ap, ◌∙◌, ◌||◌, list_any, bytes_eq, same_text}
+use Rattle.cell_loading.proofs.Common.{map-append, CellBody, names_in}
+use Rattle.std.specs.Prelude.{not, Vec, MatchBool}
 use Rattle.std.specs.List.Sorted.{IsPermutation}
-use Rattle.std.specs.Str.{bytes_eq}
 use Rattle.std.specs.declared.alloc.Global.{Global}
-use Rattle.std.specs.Cmp.Lexicographic.{same_text}
-use Rattle.std.proofs.lemmas.List.{map-append}
 use Rattle.std.proofs.lemmas.List.Folds.{list_any-append}
 use Rattle.std.proofs.lemmas.List.Sorted.{list_any-IsPermutation}
-use Rattle.mag_text.specs.CellBodies.declared.bodies.CellBody.{CellBody}
 use Rattle.mag_text.proofs.UseIdLaws.{or_same, or_swapped}
-use Rattle.cell_loading.specs.steps.ReadCells.{AreNamesOf, names_in}
+use Rattle.cell_loading.specs.steps.ReadCells.{AreNamesOf}
 
 abbrev is_word : List ℕ → Vec ℕ Global → Bool
 is_word name word = bytes_eq name word.items

@@ -1,28 +1,17 @@
 -- How reading goes on, where the files are told.
-use Rattle.std.proofs.Common.{◌≡◌, ℕ, suc, true, false, List, [], ◌∷◌, ◌++◌, length, refl, sym, ap, subst, ◌∙◌}
-use Rattle.std.specs.Prelude.{map, Option, Some, Result, Ok, Err, IfOk, OnOk}
-use Rattle.std.specs.List.{list_any}
-use Rattle.std.specs.Str.{bytes_eq}
-use Rattle.outside_io.specs.CallPlans.{CallPlan, told_after_call}
-use Rattle.outside_io.specs.Files.{Files}
+use Rattle.cell_loading.proofs.Common.{◌≡◌, ℕ, suc, true, false, List, [], ◌∷◌, ◌++◌, length, refl, sym, ap, subst, ◌∙◌, Option, Some, Result, Ok}
+use Rattle.cell_loading.proofs.Common.{Err, list_any, bytes_eq, CallPlan, told_after_call, Files, StopsAsking, RawTech, CellBody, CellUse}
+use Rattle.cell_loading.proofs.Common.{first_scale, LibraryView, names_of, Draft, LoadFault, AreBodiesOf, AreRead, children_of, is_among, names_in}
+use Rattle.cell_loading.proofs.Common.{cell_files, with_name, GoesOnToBodies, files_read}
+use Rattle.std.specs.Prelude.{map, IfOk, OnOk}
 use Rattle.session_model.specs.declared.stops.Stop.{Stop}
 use Rattle.session_model.specs.declared.stops.Stop.TheVariants.{Refused, Halted}
-use Rattle.session_model.specs.FileTrees.{Reads, StopsAsking, files_of}
+use Rattle.session_model.specs.FileTrees.{Reads, files_of}
 use Rattle.session_model.specs.steps.Stops.{IfRefused}
 use Rattle.session_model.proofs.FileTreeLaws.{goes_by, goes_past, goes_to_end, stops_asking_here}
-use Rattle.mag_text.specs.TechModel.declared.raw.RawTech.{RawTech}
-use Rattle.mag_text.specs.CellBodies.declared.bodies.CellBody.{CellBody}
-use Rattle.mag_text.specs.CellBodies.declared.bodies.CellUse.{CellUse}
-use Rattle.mag_text.specs.CellLibrary.Additions.{first_scale}
-use Rattle.mag_text.specs.CellLibrary.Views.{LibraryView, names_of}
-use Rattle.mag_text.specs.Drafts.{Draft}
 use Rattle.mag_text.specs.MagTexts.{HasAllOf, mag_in}
-use Rattle.cell_loading.specs.declared.faults.LoadFault.{LoadFault}
 use Rattle.cell_loading.specs.CellFiles.{ReadCell, cell_file, draft_gives, file_gives, read_gives, is_known, names_read, scale_of_first}
-use Rattle.cell_loading.specs.Loads.{AreBodiesOf, AreRead}
-use Rattle.cell_loading.specs.steps.ReadCells.{children_of, is_among, names_in}
-use Rattle.cell_loading.specs.Readings.{cell_files, children_said, with_name}
-use Rattle.cell_loading.specs.steps.Walks.{GoesOnToBodies, files_read}
+use Rattle.cell_loading.specs.Readings.{children_said}
 
 abbrev Cells : Type 0
 Cells = List (List ℕ × CellBody)

@@ -1,33 +1,23 @@
 -- What holds of the cells that were read, from the first to the last.
-use Rattle.std.proofs.Common.{◌≡◌, inl, inr, ◌<◌, ◌≤◌, ◌+◌, ℕ, Bool, true, false, List}
-use Rattle.std.proofs.Common.{[], ◌∷◌, ◌++◌, length, length-append, refl, sym, ap, subst, ◌∙◌, arith}
+use Rattle.cell_loading.proofs.Common.{◌≡◌, inl, inr, ◌<◌, ◌≤◌, ◌+◌, ℕ, Bool, true, false, List, [], ◌∷◌, ◌++◌, length, length-append, refl, sym, ap}
+use Rattle.cell_loading.proofs.Common.{subst, ◌∙◌, arith, ◌||◌, Option, Some, None, list_any, bytes_eq, same_text, map-append, length-map, All-push}
+use Rattle.cell_loading.proofs.Common.{is_plain_name, MOST_USES, CellBody, CellUse, CanBeAdded, first_scale, names_with, IsLawfulLibrary}
+use Rattle.cell_loading.proofs.Common.{LibraryParts, seen, uses_in, LibraryView, names_of, children_of, is_among, names_in, AreSoFar, MayFollow}
 use Rattle.std.proofs.Common.{append-nil, append_assoc, true≢false, map, get_or}
-use Rattle.std.specs.Prelude.{◌==◌, ◌||◌, All, IsTrue, Option, Some, None}
-use Rattle.std.specs.List.{list_any}
+use Rattle.std.specs.Prelude.{◌==◌, All, IsTrue}
 use Rattle.std.specs.Option.{option_or}
-use Rattle.std.specs.Str.{bytes_eq}
-use Rattle.std.specs.Cmp.Lexicographic.{same_text}
 use Rattle.std.proofs.lemmas.Bool.{cases_Bool, eqb-true, and_parts}
-use Rattle.std.proofs.lemmas.List.{map-append, length-map}
-use Rattle.std.proofs.lemmas.List.Elements.{All-append, All-head, All-map, All-nil, All-push, All-tail, All-weaker, All-cons}
+use Rattle.std.proofs.lemmas.List.Elements.{All-append, All-head, All-map, All-nil, All-tail, All-weaker, All-cons}
 use Rattle.std.proofs.lemmas.Slice.Eq.{bytes_eq-Decides}
 use Rattle.finite_sets.specs.Lists.{In, Distinct}
 use Rattle.finite_sets.proofs.Distincts.{Distinct-push}
 use Rattle.finite_sets.proofs.Members.{In-append_left, In-append_right, In-append_cases, In-get_or, In-map}
 use Rattle.finite_sets.proofs.Searches.{list_any-In}
-use Rattle.text_scan.specs.PlainNames.{is_plain_name}
-use Rattle.cell_tree.specs.declared.limits.TheConstants.{MOST_USES}
-use Rattle.mag_text.specs.CellBodies.declared.bodies.CellBody.{CellBody}
-use Rattle.mag_text.specs.CellBodies.declared.bodies.CellUse.{CellUse}
 use Rattle.mag_text.specs.CellBodies.Bodies.{IsBody, IsUse}
-use Rattle.mag_text.specs.CellLibrary.Additions.{CanBeAdded, first_scale, names_with}
 use Rattle.mag_text.specs.CellLibrary.Contents.{Held}
-use Rattle.mag_text.specs.CellLibrary.Libraries.{IsLawfulLibrary, LibraryParts, seen, uses_in}
-use Rattle.mag_text.specs.CellLibrary.Views.{LibraryView, CellView, names_of}
+use Rattle.mag_text.specs.CellLibrary.Views.{CellView}
 use Rattle.mag_text.proofs.CellLibrary.ViewLaws.{names_seen}
 use Rattle.cell_loading.specs.CellFiles.{has_scale}
-use Rattle.cell_loading.specs.steps.ReadCells.{children_of, is_among, names_in}
-use Rattle.cell_loading.specs.steps.Walks.{AreSoFar, MayFollow}
 
 abbrev Cells : Type 0
 Cells = List (List ℕ × CellBody)

@@ -1,28 +1,16 @@
 -- A cell that was read comes to the walk, and a step over a name that some cell has.
-use Rattle.std.proofs.Common.{◌≡◌, ◌⊎◌, inl, inr, ◌<◌, ◌≤◌, ◌+◌, ℕ, Bool, true, false}
-use Rattle.std.proofs.Common.{List, [], ◌∷◌, ◌++◌, length, length-append, sym, ap, subst, ◌∙◌, arith}
-use Rattle.std.specs.Prelude.{◌==◌, map, IsTrue, Ok, Option}
+use Rattle.cell_loading.proofs.Common.{◌≡◌, ◌⊎◌, inl, inr, ◌<◌, ◌≤◌, ◌+◌, ℕ, Bool, true, false, List, [], ◌∷◌, ◌++◌, length, length-append, sym, ap}
+use Rattle.cell_loading.proofs.Common.{subst, ◌∙◌, arith, Ok, Option, length-map, map-append, All-push, All-same, is_plain_name, CallPlan}
+use Rattle.cell_loading.proofs.Common.{told_after_call, Files, after_fetches, MOST_USES, CellBody, CellUse, CanBeAdded, IsLawfulLibrary}
+use Rattle.cell_loading.proofs.Common.{LibraryParts, seen, LibraryView, Draft, Frame, AreBodiesOf, AreRead, children_of, is_among, names_in}
+use Rattle.cell_loading.proofs.Common.{files_read, names_left, AreSoFar, GoesOnToBodies, MayFollow}
+use Rattle.std.specs.Prelude.{◌==◌, map, IsTrue}
 use Rattle.std.proofs.lemmas.Bool.{eqb-true}
-use Rattle.std.proofs.lemmas.List.{length-map, map-append, nil_from_length}
-use Rattle.std.proofs.lemmas.List.Elements.{All-push, All-same}
-use Rattle.text_scan.specs.PlainNames.{is_plain_name}
-use Rattle.outside_io.specs.CallPlans.{CallPlan, told_after_call}
-use Rattle.outside_io.specs.Files.{Files}
-use Rattle.session_model.specs.Effects.{after_fetches}
+use Rattle.std.proofs.lemmas.List.{nil_from_length}
 use Rattle.session_model.proofs.EffectLaws.{fetches-append}
-use Rattle.cell_tree.specs.declared.limits.TheConstants.{MOST_USES}
-use Rattle.mag_text.specs.CellBodies.declared.bodies.CellBody.{CellBody}
-use Rattle.mag_text.specs.CellBodies.declared.bodies.CellUse.{CellUse}
-use Rattle.mag_text.specs.CellLibrary.Additions.{CanBeAdded}
-use Rattle.mag_text.specs.CellLibrary.Libraries.{IsLawfulLibrary, LibraryParts, seen}
-use Rattle.mag_text.specs.CellLibrary.Views.{LibraryView}
-use Rattle.mag_text.specs.Drafts.{Draft}
 use Rattle.mag_text.specs.MagTexts.{HasAllOf}
-use Rattle.cell_loading.specs.declared.walks.Frame.{Frame}
 use Rattle.cell_loading.specs.CellFiles.{ReadCell, cell_file, file_gives}
-use Rattle.cell_loading.specs.Loads.{AreBodiesOf, AreRead}
-use Rattle.cell_loading.specs.steps.ReadCells.{children_of, is_among, names_in}
-use Rattle.cell_loading.specs.steps.Walks.{files_read, names_left, AreFrames, AreSoFar, GoesOnToBodies, MayFollow}
+use Rattle.cell_loading.specs.steps.Walks.{AreFrames}
 use Rattle.cell_loading.proofs.LeftLaws.{names_left-read, AreFrames-more}
 use Rattle.cell_loading.proofs.ReadingLaws.{all_read, goes_on_by, goes_on_here, goes_on_past}
 use Rattle.cell_loading.proofs.SoFarLaws.{so_far_end, so_far_passed, so_far_read, so_far_start}

@@ -1,10 +1,9 @@
 -- Capacitances are sums over classes, and small.
-use Rattle.std.proofs.Common.{◌≡◌, ℕ, ◌+◌, ◌^◌, ◌<◌, ◌≤◌, ℤ, pos, negsuc, ◌+ℤ◌, ◌*ℤ◌, ◌≤ℤ◌, List, [], ◌∷◌, ◌++◌, length, get_or, map, take, ◌∙◌, ap, arith}
+use Rattle.cell_nodes.proofs.Common.{◌≡◌, ℕ, ◌+◌, ◌<◌, ◌≤◌, ℤ, pos, ◌+ℤ◌, List, [], ◌∷◌, ◌++◌, length, get_or, map, take, ◌∙◌, ap, arith, ints}
+use Rattle.cell_nodes.proofs.Common.{ClassRec, capacitance, class_of}
+use Rattle.std.proofs.Common.{◌^◌, negsuc, ◌*ℤ◌, ◌≤ℤ◌}
 use Rattle.std.proofs.Math.Nat.{mul-le-mul_left}
-use Rattle.std.proofs.lemmas.Int.{ints}
 use Rattle.std.proofs.lemmas.List.{take_more, length-take-le}
-use Rattle.tech_model.specs.declared.raw.ClassRec.{ClassRec}
-use Rattle.layout_model.specs.Technologies.{capacitance, class_of}
 
 -- a product of at most 2^63 and at most a million
 pub product_small : (z : ℤ) (n : ℕ) → pos 0 ≤ℤ z → z ≤ℤ pos (2 ^ 63) → n ≤ 1000000 → (pos 0 ≤ℤ (z *ℤ pos n)) × ((z *ℤ pos n) ≤ℤ pos (2 ^ 83))

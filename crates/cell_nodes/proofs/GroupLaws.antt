@@ -1,26 +1,14 @@
 -- Tiles that have the numbers of their nodes are grouped by nodes.
-use Rattle.std.proofs.Common.{◌≡◌, ℕ, ◌+◌, ◌<◌, List, length, get_or, Some, inl, inr, sym, ◌∙◌, ap, subst, arith}
-use Rattle.std.specs.Prelude.{slice_index, All}
-use Rattle.std.proofs.lemmas.Bool.{cases_lt}
-use Rattle.std.proofs.lemmas.List.{get_or-map, get_or_default}
-use Rattle.std.proofs.lemmas.Option.{slice_get_within, slice_get-get_or, get_or_from_slice_get}
+use Rattle.cell_nodes.proofs.Common.{◌≡◌, ℕ, ◌+◌, ◌<◌, List, length, get_or, Some, inl, inr, sym, ◌∙◌, ap, subst, arith, slice_index, All, cases_lt}
+use Rattle.cell_nodes.proofs.Common.{get_or-map, slice_get_within, slice_get-get_or, get_or_from_slice_get, In, Label, RawTech, RegionTile, Place}
+use Rattle.cell_nodes.proofs.Common.{IsBefore, Layout, IsMaterial, LiesIn, IsInRegion, AreLayoutTiles, with_region, IsSoundTile, no_tile, tile_at}
+use Rattle.cell_nodes.proofs.Common.{NamedNode, AreOneNamedNode, least_of, AreNamedNodes, AreNodeNumbers, numbers_at}
+use Rattle.std.proofs.lemmas.List.{get_or_default}
 use Rattle.ext_model.specs.GeoCore.Covering.{Covers}
-use Rattle.tech_model.specs.FiniteSets.Lists.{In}
 use Rattle.tech_model.proofs.FiniteSets.Chains.{Chain-append}
 use Rattle.tech_model.proofs.FiniteSets.Members.{In-get_or}
-use Rattle.tech_model.specs.declared.raw.Label.{Label}
-use Rattle.tech_model.specs.declared.raw.RawTech.{RawTech}
-use Rattle.layout_model.specs.declared.region_tiles.RegionTile.{RegionTile}
-use Rattle.layout_model.specs.Places.{Place, IsBefore}
-use Rattle.layout_model.specs.Layouts.{Layout, IsMaterial}
-use Rattle.layout_model.specs.RegionTiles.{LiesIn, IsInRegion, AreLayoutTiles}
 use Rattle.layout_model.proofs.PlaceLaws.{IsBefore-irreflexive, IsNoLater-antisym}
-use Rattle.measures.specs.FloodNodes.Renumbered.{with_region, AreRenumbered}
-use Rattle.measures.specs.FloodNodes.SoundTiles.{IsSoundTile}
-use Rattle.measures.specs.FloodNodes.TileShares.{no_tile, tile_at}
-use Rattle.names.specs.declared.nodes.NamedNode.{NamedNode}
-use Rattle.names.specs.NamedNodes.{AreOneNamedNode, least_of, AreNamedNodes}
-use Rattle.cell_nodes.specs.steps.NodeNumbers.{AreNodeNumbers, numbers_at}
+use Rattle.measures.specs.FloodNodes.Renumbered.{AreRenumbered}
 use Rattle.cell_nodes.proofs.NodePlaces.{AreOneNamedNode-sym}
 
 -- the region of a tile in which a place lies

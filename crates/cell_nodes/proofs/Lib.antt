@@ -5,6 +5,7 @@ pub use Rattle.measures.proofs.FloodNodes as FloodNodes
 pub use Rattle.layout_model.proofs as LayoutModel
 pub use Rattle.measures.proofs as Measures
 pub use Rattle.names.proofs as Names
+mod Common
 mod NumberLaws
 pub mod CapacitanceLaws
 mod GroupLaws

@@ -1,20 +1,15 @@
 -- The places of a node have material, and a node has a name.
-use Rattle.std.proofs.Common.{◌≢◌, ◌⊎◌, ℕ, List, [], inl, inr, refl, subst}
-use Rattle.tech_model.specs.FiniteSets.Lists.{In, Lists}
+use Rattle.cell_nodes.proofs.Common.{ℕ, List, [], inl, inr, refl, subst, In, Lists, Label, RawTech, connects, IsWellFormed, Place, Layout}
+use Rattle.cell_nodes.proofs.Common.{IsMaterial, AreOneNamedNode}
+use Rattle.std.proofs.Common.{◌≢◌, ◌⊎◌}
 use Rattle.tech_model.proofs.FiniteSets.Chains.{Chain-back, Chain-carries}
-use Rattle.tech_model.specs.declared.raw.Label.{Label}
-use Rattle.tech_model.specs.declared.raw.RawTech.{RawTech}
-use Rattle.tech_model.specs.Types.{connects}
-use Rattle.tech_model.specs.WellFormed.{IsWellFormed}
 use Rattle.tech_model.proofs.TypeLaws.{connects_back}
-use Rattle.layout_model.specs.Places.{Place}
-use Rattle.layout_model.specs.Layouts.{Layout, IsMaterial}
 use Rattle.layout_model.specs.Links.{AreLinked}
 use Rattle.layout_model.proofs.NodeLaws.{AreLinked-sym}
 use Rattle.names.specs.Attachments.{HasText}
 use Rattle.names.proofs.AttachLaws.{suits_material}
 use Rattle.names.specs.GeneratedNames.{generated_name}
-use Rattle.names.specs.NamedNodes.{ShareGlobal, AreOneNamedNode, IsNameOf}
+use Rattle.names.specs.NamedNodes.{ShareGlobal, IsNameOf}
 
 -- the places of a node are joined both ways
 pub AreOneNamedNode-sym : (raw : RawTech) (layout : Layout) (labels : List Label) {a b : Place} → AreOneNamedNode raw layout labels a b

@@ -1,11 +1,9 @@
 -- Regions of a list get a number, one at a time.
-use Rattle.std.proofs.Common.{◌≡◌, ℕ, ◌+◌, ◌<◌, List, [], ◌∷◌, length, get_or, take, inl, inr, sym, ◌∙◌, ap, subst, arith}
+use Rattle.cell_nodes.proofs.Common.{◌≡◌, ℕ, ◌+◌, ◌<◌, List, [], ◌∷◌, length, get_or, take, inl, inr, sym, ◌∙◌, ap, subst, arith, cases_eq, In}
+use Rattle.cell_nodes.proofs.Common.{AreNumbered}
 use Rattle.std.proofs.Math.ListN.{set}
-use Rattle.std.proofs.lemmas.Bool.{cases_eq}
 use Rattle.std.proofs.lemmas.List.{get_or-set_same, get_or-set_other, take_more}
-use Rattle.tech_model.specs.FiniteSets.Lists.{In}
 use Rattle.tech_model.proofs.FiniteSets.Members.{In-append_left, In-push, In-push_cases}
-use Rattle.cell_nodes.specs.steps.NodeNumbers.{AreNumbered}
 
 -- one region more
 pub region_more : (regions : List ℕ) (number i : ℕ) (old now : List ℕ) → i < length regions → length now ≡ length old → get_or regions i 0 < length old

@@ -1,16 +1,11 @@
 -- What is seen of a cell's paint within the range of paint is all of it.
-use Rattle.std.proofs.Common.{◌≡◌, ◌<◌, ◌≤◌, ℕ, length, inl, inr, refl, sym, ◌∙◌, arith, IsTrue}
-use Rattle.std.proofs.lemmas.Bool.{cases_Bool, cases_eq, false≢true}
-use Rattle.std.proofs.lemmas.Int.{ints}
+use Rattle.cell_nodes.proofs.Common.{◌≡◌, ◌<◌, ◌≤◌, ℕ, length, inl, inr, refl, sym, ◌∙◌, arith, IsTrue, cases_eq, ints, MOST_PLANES, RawTech}
+use Rattle.cell_nodes.proofs.Common.{is_type, Place, IsMaterial, IsNearPlace}
+use Rattle.std.proofs.lemmas.Bool.{cases_Bool, false≢true}
 use Rattle.ext_model.proofs.GeoCore.CoveringLaws.{is_covered-Covers}
 use Rattle.ext_model.specs.GeoCore.Covering.{is_covered}
-use Rattle.tech_model.specs.declared.limits.TheConstants.{MOST_PLANES}
-use Rattle.tech_model.specs.declared.raw.RawTech.{RawTech}
-use Rattle.tech_model.specs.Types.{is_type, plane_of}
-use Rattle.layout_model.specs.Places.{Place}
-use Rattle.layout_model.specs.Layouts.{IsMaterial}
+use Rattle.tech_model.specs.Types.{plane_of}
 use Rattle.layout_model.specs.LayerTypes.{seen_in}
-use Rattle.measures.specs.Bounds.{IsNearPlace}
 use Rattle.cell_paint.specs.Painting.{paint_range}
 use Rattle.cell_paint.specs.Paints.{Paint, layout_of, seen_kind, IsSoundPaint}
 use Rattle.cell_paint.proofs.PaintTypes.{paint_has_types}

@@ -1,39 +1,25 @@
 -- The records of nodes that have their names and measures.
-use Rattle.std.proofs.Common.{◌≡◌, ◌+◌, ◌<◌, ℕ, ℤ, List, [], ◌∷◌, ◌++◌, length, get_or, map, Some, inl, inr, refl, sym, ◌∙◌, ap, subst, arith, IsTrue, pos}
-use Rattle.std.specs.Prelude.{All, AllPairs, slice_get, slice_index}
+use Rattle.cell_nodes.proofs.Common.{◌≡◌, ◌+◌, ◌<◌, ℕ, ℤ, List, [], ◌∷◌, ◌++◌, length, get_or, map, Some, inl, inr, refl, sym, ◌∙◌, ap, subst, arith}
+use Rattle.cell_nodes.proofs.Common.{IsTrue, pos, All, slice_index, cases_lt, get_or-map, length-map, slice_get-get_or, corner_of, corner_covers}
+use Rattle.cell_nodes.proofs.Common.{Lists, Label, RawTech, is_type, connects, IsWellFormed, NodeRec, RegionTile, Place, IsBefore, Layout}
+use Rattle.cell_nodes.proofs.Common.{IsMaterial, IsInRegion, AreLayoutTiles, AreRegions, class_of, capacitance, IsSoundTile, IsNearPlace, MeasureRow}
+use Rattle.cell_nodes.proofs.Common.{NamedNode, AreOneNamedNode, least_of, AreNamedNodes, AreNodeNumbers, numbers_at, IsRecordOf, AreMade}
+use Rattle.cell_nodes.proofs.Common.{AreRecordsOf, row_at}
+use Rattle.std.specs.Prelude.{AllPairs, slice_get}
 use Rattle.std.specs.declared.cmp.Ordering.TheVariants.{Less}
-use Rattle.std.proofs.lemmas.Bool.{cases_lt}
-use Rattle.std.proofs.lemmas.List.{get_or-map, get_or_default, get_or_append_left, get_or_push, length-map}
-use Rattle.std.proofs.lemmas.Option.{slice_get-get_or}
-use Rattle.ext_model.specs.GeoCore.Areas.{corner_of}
-use Rattle.ext_model.proofs.GeoCore.CornerLaws.{corner_covers}
-use Rattle.tech_model.specs.FiniteSets.Lists.{Lists}
+use Rattle.std.proofs.lemmas.List.{get_or_default, get_or_append_left, get_or_push}
 use Rattle.tech_model.proofs.FiniteSets.Members.{In-get_or, In-map}
 use Rattle.tech_model.proofs.FiniteSets.Totals.{Total-iff}
-use Rattle.tech_model.specs.declared.raw.Label.{Label}
-use Rattle.tech_model.specs.declared.raw.RawTech.{RawTech}
-use Rattle.tech_model.specs.Types.{is_type, connects}
-use Rattle.tech_model.specs.WellFormed.{IsWellFormed}
-use Rattle.ext_model.specs.declared.records.NodeRec.{NodeRec}
 use Rattle.ext_model.specs.NameOrder.{name_cmp}
-use Rattle.layout_model.specs.declared.region_tiles.RegionTile.{RegionTile}
-use Rattle.layout_model.specs.Places.{Place, IsBefore}
 use Rattle.layout_model.specs.LayerTypes.{HasTypesOf}
-use Rattle.layout_model.specs.Layouts.{Layout, IsMaterial}
 use Rattle.layout_model.specs.Measures.{area_at, perimeter_at}
 use Rattle.layout_model.specs.Nodes.{AreMeasures}
-use Rattle.layout_model.specs.RegionTiles.{IsInRegion, AreLayoutTiles, AreRegions}
-use Rattle.layout_model.specs.Technologies.{Class, class_of, capacitance, rules_of}
-use Rattle.measures.specs.FloodNodes.SoundTiles.{IsSoundTile}
+use Rattle.layout_model.specs.Technologies.{Class, rules_of}
 use Rattle.measures.proofs.FloodNodes.Renumbering.{numbered_tiles}
-use Rattle.measures.specs.Bounds.{IsNearPlace}
-use Rattle.measures.specs.declared.tables.MeasureRow.{MeasureRow}
 use Rattle.measures.proofs.BoundLaws.{measures_are_small}
-use Rattle.names.specs.declared.nodes.NamedNode.{NamedNode}
-use Rattle.names.specs.NamedNodes.{AreOneNamedNode, least_of, IsNameOf, IsNamedNode, AreNamedNodes}
-use Rattle.cell_nodes.specs.steps.NodeNumbers.{AreNodeNumbers, AreNodeMeasures, numbers_at}
+use Rattle.names.specs.NamedNodes.{IsNameOf, IsNamedNode}
+use Rattle.cell_nodes.specs.steps.NodeNumbers.{AreNodeMeasures}
 use Rattle.cell_nodes.specs.NodeRecords.{IsNodeRecord, AreNodeRecords}
-use Rattle.cell_nodes.specs.steps.Records.{IsRecordOf, AreMade, AreRecordsOf, row_at}
 use Rattle.cell_nodes.specs.RegionNodes.{AreNodesOfRegions}
 use Rattle.cell_nodes.proofs.NodePlaces.{material_along, node_is_named}
 use Rattle.cell_nodes.proofs.GroupLaws.{group_in_node, node_in_group}

@@ -1,24 +1,9 @@
 -- Each region is of the node that its number says.
-use Rattle.std.proofs.Common.{◌<◌, ℕ, List, length, get_or, inl, inr, refl, sym, ◌∙◌, subst, arith}
-use Rattle.std.specs.Prelude.{slice_index, All}
-use Rattle.std.proofs.lemmas.List.{get_or-map, length-map}
-use Rattle.std.proofs.lemmas.Option.{slice_get_within, slice_get-get_or, get_or_from_slice_get}
-use Rattle.ext_model.specs.GeoCore.Areas.{corner_of}
-use Rattle.ext_model.proofs.GeoCore.CornerLaws.{corner_covers}
-use Rattle.tech_model.specs.FiniteSets.Lists.{In}
+use Rattle.cell_nodes.proofs.Common.{◌<◌, ℕ, List, length, get_or, inl, inr, refl, sym, ◌∙◌, subst, arith, slice_index, All, get_or-map, length-map}
+use Rattle.cell_nodes.proofs.Common.{slice_get_within, slice_get-get_or, get_or_from_slice_get, corner_of, corner_covers, In, Label, RawTech}
+use Rattle.cell_nodes.proofs.Common.{connects, RegionTile, Layout, IsMaterial, Place, LiesIn, IsInRegion, AreRegions, IsSoundTile, no_tile, tile_at}
+use Rattle.cell_nodes.proofs.Common.{NamedNode, AreOneNamedNode, least_of, AreNamedNodes, AreNodeNumbers}
 use Rattle.tech_model.proofs.FiniteSets.Members.{In-get_or, In-index}
-use Rattle.tech_model.specs.declared.raw.Label.{Label}
-use Rattle.tech_model.specs.declared.raw.RawTech.{RawTech}
-use Rattle.tech_model.specs.Types.{connects}
-use Rattle.layout_model.specs.declared.region_tiles.RegionTile.{RegionTile}
-use Rattle.layout_model.specs.Layouts.{Layout, IsMaterial}
-use Rattle.layout_model.specs.Places.{Place}
-use Rattle.layout_model.specs.RegionTiles.{LiesIn, IsInRegion, AreRegions}
-use Rattle.measures.specs.FloodNodes.SoundTiles.{IsSoundTile}
-use Rattle.measures.specs.FloodNodes.TileShares.{no_tile, tile_at}
-use Rattle.names.specs.declared.nodes.NamedNode.{NamedNode}
-use Rattle.names.specs.NamedNodes.{AreOneNamedNode, least_of, AreNamedNodes}
-use Rattle.cell_nodes.specs.steps.NodeNumbers.{AreNodeNumbers}
 
 module _ (raw : RawTech) (layout : Layout) (labels : List Label) (tiles : List RegionTile) (count : ℕ) (nodes : List NamedNode) (numbers : List ℕ)
     (regions : AreRegions (connects raw) layout tiles count) (named : AreNamedNodes raw layout labels tiles nodes)

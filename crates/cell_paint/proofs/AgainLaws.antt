@@ -1,24 +1,20 @@
 -- Painting a layer twice: the second time changes nothing.
-use Rattle.std.proofs.Common.{◌≡◌, ◌≢◌, ◌+◌, ◌^◌, ◌%◌, ◌<◌, ◌≤◌, ℕ, zero, suc, true, Option, List, [], ◌∷◌, length, take, fold, bit_and, bit_or, max, min, refl, sym, ap}
-use Rattle.std.proofs.Common.{subst, ◌∙◌, arith, inl, inr}
-use Rattle.std.specs.Prelude.{Some, None, IsTrue, nat_lt, unwrap_or}
+use Rattle.cell_paint.proofs.Common.{◌≡◌, ◌≢◌, ◌+◌, ◌<◌, ◌≤◌, ℕ, zero, suc, true, Option, List, [], ◌∷◌, length, take, bit_or, max, refl, sym, ap}
+use Rattle.cell_paint.proofs.Common.{subst, ◌∙◌, arith, inl, inr, Some, None, IsTrue, bit_at, cases_Bool, cases_eq, true≢false, eqb-true, eq-eqb}
+use Rattle.cell_paint.proofs.Common.{bit_at-zero, bit_at_or, same_from_bits, In, find-In, find-passes, TypeId, RawTech, is_type, type_number}
+use Rattle.cell_paint.proofs.Common.{plane_of, IsWellFormed, HaveOwnSets, PaintBrush, type_on, IsOnPlane, IsColumn, HasWholeContacts}
+use Rattle.std.proofs.Common.{◌^◌, ◌%◌, fold, bit_and, min}
+use Rattle.std.specs.Prelude.{nat_lt, unwrap_or}
 use Rattle.std.specs.List.{list_all}
-use Rattle.std.specs.Int.{bit_at}
 use Rattle.std.proofs.Math.Seq.{take-length}
-use Rattle.std.proofs.lemmas.Bool.{cases_Bool, cases_eq, ltb-true, true≢false, eqb-true, eq-eqb}
-use Rattle.std.proofs.lemmas.Nat.Bits.{bit_at-zero, bit_at_and, bit_at_or, bit_at_xor, bit_at-lt, bit_at-pow_other, same_from_bits}
-use Rattle.geo_core.specs.FiniteSets.Lists.{In}
-use Rattle.geo_core.proofs.FiniteSets.Searches.{find-In, find-passes, find-none, All-In, list_all-from_In}
-use Rattle.tech_model.specs.declared.raw.TypeId.{TypeId}
+use Rattle.std.proofs.lemmas.Bool.{ltb-true}
+use Rattle.std.proofs.lemmas.Nat.Bits.{bit_at_and, bit_at_xor, bit_at-lt, bit_at-pow_other}
+use Rattle.geo_core.proofs.FiniteSets.Searches.{find-none, All-In, list_all-from_In}
 use Rattle.tech_model.specs.declared.raw.LayerRec.{LayerRec}
-use Rattle.tech_model.specs.declared.raw.RawTech.{RawTech}
-use Rattle.tech_model.specs.Types.{is_type, type_number, plane_of, parts_of, images_of, is_on, image_on, joined, is_subset, without}
-use Rattle.tech_model.specs.WellFormed.{IsWellFormed, IsContact, IsMarked}
-use Rattle.tech_model.specs.Rules.{HaveOwnSets}
-use Rattle.tech_model.specs.declared.columns.Brush.TheVariants.{Paint as PaintBrush}
-use Rattle.tech_model.specs.Columns.{painted_by, where_image, on_planes_from, mark_of, type_on, has_mark_everywhere, without_parts, layer_mark_kept, marks_kept}
+use Rattle.tech_model.specs.Types.{parts_of, images_of, is_on, image_on, joined, is_subset, without}
+use Rattle.tech_model.specs.WellFormed.{IsContact, IsMarked}
+use Rattle.tech_model.specs.Columns.{painted_by, where_image, on_planes_from, mark_of, has_mark_everywhere, without_parts, layer_mark_kept, marks_kept}
 use Rattle.tech_model.specs.Columns.{brushed_column, painted_column}
-use Rattle.tech_model.specs.ColumnForms.{IsOnPlane, IsColumn, HasWholeContacts}
 use Rattle.tech_model.proofs.JoinedLaws.{joined-found, joined-type}
 use Rattle.tech_model.proofs.WellFormedLaws.{layer_well_formed}
 use Rattle.tech_model.proofs.SetLaws.{bit_cases, or_bit_right, mark_part, mark_part_bit, image_mark, mark_layer, set_not_empty}

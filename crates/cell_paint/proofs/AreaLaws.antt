@@ -1,23 +1,20 @@
 -- Areas that paint may go over: what their strips are, and which squares they cover.
-use Rattle.std.proofs.Common.{◌≡◌, inl, inr, ℕ, ◌+◌, ◌<◌, pos, neg_ℤ, ◌-ℤ◌, ◌≤ℤ◌, ◌<ℤ◌, ℤ, true, false, ◌||◌, List, [], ◌∷◌, length, take, zero, suc, get_or, refl, sym, ◌∙◌, ap, subst, arith}
-use Rattle.std.specs.Prelude.{All, Option, Some, None}
-use Rattle.std.specs.List.{list_any}
+use Rattle.cell_paint.proofs.Common.{◌≡◌, inl, inr, ℕ, ◌+◌, ◌<◌, true, false, ◌||◌, List, [], ◌∷◌, length, take, zero, suc, get_or, refl, sym, ◌∙◌}
+use Rattle.cell_paint.proofs.Common.{ap, subst, arith, All, Some, None, list_any, cases_Bool, true≢false, In, list_any-In, list_any-source, Square}
+use Rattle.cell_paint.proofs.Common.{Rect, IsNear, LiesWithin, Covers, is_covered, IsProper, Covers-is_covered, is_covered-Covers, is_in_some}
+use Rattle.cell_paint.proofs.Common.{paint_range, first_area_fault}
+use Rattle.std.proofs.Common.{pos, neg_ℤ, ◌-ℤ◌, ◌≤ℤ◌, ◌<ℤ◌, ℤ}
+use Rattle.std.specs.Prelude.{Option}
 use Rattle.std.specs.Option.{option_or}
-use Rattle.std.proofs.lemmas.Bool.{cases_Bool, true≢false}
 use Rattle.std.proofs.lemmas.Int.{ints}
-use Rattle.geo_core.specs.FiniteSets.Lists.{In}
 use Rattle.geo_core.proofs.FiniteSets.Members.{In-get_or}
-use Rattle.geo_core.proofs.FiniteSets.Searches.{list_any-In, option_or-none, list_any-source}
-use Rattle.geo_core.specs.declared.squares.Square.{Square}
-use Rattle.geo_core.specs.declared.squares.Rect.{Rect}
-use Rattle.geo_core.specs.Areas.{IsNear, LiesWithin, has_square}
-use Rattle.geo_core.specs.Covering.{Covers, is_covered, IsProper}
+use Rattle.geo_core.proofs.FiniteSets.Searches.{option_or-none}
+use Rattle.geo_core.specs.Areas.{has_square}
 use Rattle.geo_core.specs.Strips.{IsStrips, IsInUnion}
-use Rattle.geo_core.proofs.CoveringLaws.{Covers-is_covered, is_covered-Covers}
 use Rattle.geo_core.proofs.StripSets.{strip_is_proper, strip_within}
 use Rattle.cell_paint.specs.declared.faults.PaintFault.{PaintFault}
 use Rattle.cell_paint.specs.declared.faults.PaintFault.TheVariants.{EmptyRect, OutOfRange}
-use Rattle.cell_paint.specs.Painting.{is_in_range, is_in_some, paint_range, area_fault, first_area_fault}
+use Rattle.cell_paint.specs.Painting.{is_in_range, area_fault}
 
 -- ---- squares of a list of areas
 

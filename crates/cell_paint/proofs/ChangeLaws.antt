@@ -1,25 +1,15 @@
 -- The pieces of a plane that change, with what they come to have, are its changes.
-use Rattle.std.proofs.Common.{◌≡◌, ◌≢◌, inl, inr, ℕ, ◌<◌, true, false, Bool, List, length, filter, get_or, refl, sym, ◌∙◌, ap, subst, arith, set, replicate, zero, suc, get_or-set_same, get_or-set_other}
-use Rattle.std.specs.Prelude.{All, Option, Some, None, not, if◌then◌else◌, slice_index_or}
-use Rattle.std.proofs.lemmas.Bool.{cases_Bool, cases_eq, ne_eqb}
-use Rattle.std.proofs.lemmas.List.{length-map, get_or-map, get_or_default}
+use Rattle.cell_paint.proofs.Common.{◌≡◌, ◌≢◌, inl, inr, ℕ, ◌<◌, true, false, Bool, List, length, get_or, refl, sym, ◌∙◌, ap, subst, arith, zero}
+use Rattle.cell_paint.proofs.Common.{suc, All, Some, None, if◌then◌else◌, cases_Bool, cases_eq, ne_eqb, length-map, get_or-map, get_or_default, In}
+use Rattle.cell_paint.proofs.Common.{In-map, In-map_source, Square, Rect, Piece, AreDisjoint, IsNear, corner_of, Covers, IsProper, corner_covered}
+use Rattle.cell_paint.proofs.Common.{within_covers, TypeId, ArePiecesIn, Layout, kind_after, AreKnown, changed_pieces, kinds_on, with_columns_where}
+use Rattle.cell_paint.proofs.Common.{is_in_some, PlaneValue, number_on, no_plane, layout_on, IsSettable, AreChanges}
+use Rattle.std.proofs.Common.{filter, set, replicate, get_or-set_same, get_or-set_other}
+use Rattle.std.specs.Prelude.{Option, not, slice_index_or}
 use Rattle.std.proofs.lemmas.List.Elements.{All-map, All-filter}
 use Rattle.std.proofs.lemmas.List.Kept.{AllPairs-filter}
-use Rattle.geo_core.specs.FiniteSets.Lists.{In}
-use Rattle.geo_core.proofs.FiniteSets.Members.{In-map, In-map_source, In-filter, In-filter_source, In-get_or, In-index}
-use Rattle.geo_core.specs.declared.squares.Square.{Square}
-use Rattle.geo_core.specs.declared.squares.Rect.{Rect}
-use Rattle.geo_core.specs.declared.squares.Piece.{Piece}
-use Rattle.geo_core.specs.Areas.{AreDisjoint, IsNear, corner_of}
-use Rattle.geo_core.specs.Covering.{Covers, IsProper}
-use Rattle.geo_core.proofs.CoveringLaws.{corner_covered, within_covers}
-use Rattle.tech_model.specs.declared.raw.TypeId.{TypeId}
-use Rattle.tile_plane.specs.Listings.{ArePiecesIn}
-use Rattle.layout_model.specs.Layouts.{Layout}
-use Rattle.cell_paint.specs.steps.Changes.{kind_after, AreKnown, changed_piece, is_changed, changed_pieces}
-use Rattle.cell_paint.specs.Painting.{kinds_on, with_columns_where, is_in_some}
-use Rattle.cell_paint.specs.Paints.{PlaneValue, number_on, no_plane, layout_on}
-use Rattle.cell_paint.specs.steps.Settings.{IsSettable, AreChanges}
+use Rattle.geo_core.proofs.FiniteSets.Members.{In-filter, In-filter_source, In-get_or, In-index}
+use Rattle.cell_paint.specs.steps.Changes.{changed_piece, is_changed}
 use Rattle.cell_paint.proofs.AreaLaws.{some_area, in_some}
 
 -- each piece has the value of its lower left square

@@ -1,22 +1,13 @@
 -- What a brush leaves of a column: types of their planes, and on a plane what depends on that plane alone.
-use Rattle.std.proofs.Common.{◌≡◌, ◌<◌, ◌≤◌, ℕ, List, length, refl, sym, ap, ◌∙◌, arith, inl, inr}
+use Rattle.cell_paint.proofs.Common.{◌≡◌, ◌<◌, ◌≤◌, ℕ, List, length, refl, sym, ap, ◌∙◌, arith, inl, inr, cases_lt, get_or_past, Square, MOST_PLANES}
+use Rattle.cell_paint.proofs.Common.{MOST_TYPES, TypeId, RawTech, type_number, plane_of, IsWellFormed, Brush, type_on, IsOnPlane, IsColumn}
+use Rattle.cell_paint.proofs.Common.{HasWholeContacts, Layout, kinds_on, KeepsTypes}
 use Rattle.std.specs.Prelude.{nat_le, map}
-use Rattle.std.proofs.lemmas.Bool.{and_parts, cases_lt, leb-true}
-use Rattle.std.proofs.lemmas.List.{get_or_past}
+use Rattle.std.proofs.lemmas.Bool.{and_parts, leb-true}
 use Rattle.std.proofs.lemmas.List.FromFn.{get_or-map-range_with_len}
-use Rattle.geo_core.specs.declared.squares.Square.{Square}
-use Rattle.tech_model.specs.declared.limits.TheConstants.{MOST_PLANES, MOST_TYPES}
-use Rattle.tech_model.specs.declared.raw.TypeId.{TypeId}
-use Rattle.tech_model.specs.declared.raw.RawTech.{RawTech}
-use Rattle.tech_model.specs.Types.{type_number, plane_of}
-use Rattle.tech_model.specs.WellFormed.{IsWellFormed}
-use Rattle.tech_model.specs.declared.columns.Brush.{Brush}
-use Rattle.tech_model.specs.Columns.{type_on, brushed_column}
-use Rattle.tech_model.specs.ColumnForms.{IsOnPlane, IsColumn, HasWholeContacts}
+use Rattle.tech_model.specs.Columns.{brushed_column}
 use Rattle.tech_model.proofs.LocalLaws.{brushed_column-local}
-use Rattle.layout_model.specs.Layouts.{Layout}
-use Rattle.cell_paint.specs.Painting.{all_planes, column_at, kinds_on}
-use Rattle.cell_paint.specs.Paints.{KeepsTypes}
+use Rattle.cell_paint.specs.Painting.{all_planes, column_at}
 
 -- a type of a plane is one of those that there may be
 small_on_plane : (raw : RawTech) (plane t : ℕ) → length raw.types ≤ MOST_TYPES → IsOnPlane raw plane t → t ≤ MOST_TYPES

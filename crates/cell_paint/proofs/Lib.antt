@@ -4,6 +4,7 @@ pub mod AgainLaws
 pub mod AreaLaws
 mod ChangeLaws
 pub mod ColumnsLaws
+mod Common
 pub mod PaintLaws
 mod PaintTiles
 pub mod PaintTypes

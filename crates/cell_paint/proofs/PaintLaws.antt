@@ -1,37 +1,14 @@
 -- Paint: what becomes of it where the planes of a cell change.
-use Rattle.std.proofs.Common.{◌≡◌, inl, inr, ℕ, zero, suc, ◌+◌, ◌<◌, ◌≤◌, true, Bool, ◌||◌}
-use Rattle.std.proofs.Common.{List, [], ◌∷◌, ◌++◌, length, length-append, get_or, refl, sym, ◌∙◌, ap, subst, arith, false}
-use Rattle.std.specs.Prelude.{IsTrue, Vec, if◌then◌else◌}
-use Rattle.std.specs.List.{list_any}
-use Rattle.std.specs.declared.alloc.Global.{Global}
-use Rattle.std.proofs.lemmas.Bool.{cases_Bool, cases_eq, cases_lt, true≢false}
-use Rattle.std.proofs.lemmas.List.{get_or_past, get_or_push, get_or_append_left}
-use Rattle.geo_core.proofs.FiniteSets.Searches.{list_any-In, list_any-source}
-use Rattle.geo_core.specs.declared.squares.Square.{Square}
-use Rattle.geo_core.specs.declared.squares.Rect.{Rect}
-use Rattle.geo_core.specs.declared.squares.Piece.{Piece}
-use Rattle.geo_core.specs.Covering.{Covers, is_covered}
-use Rattle.geo_core.specs.Planes.{AreSet}
-use Rattle.geo_core.proofs.CoveringLaws.{Covers-is_covered, is_covered-Covers}
-use Rattle.tech_model.specs.declared.limits.TheConstants.{MOST_PLANES}
-use Rattle.tech_model.specs.declared.raw.TypeId.{TypeId}
-use Rattle.tech_model.specs.declared.raw.TypeRec.{TypeRec}
-use Rattle.tech_model.specs.declared.raw.RawTech.{RawTech}
-use Rattle.tech_model.specs.Types.{is_type, plane_of, type_number}
-use Rattle.tech_model.specs.declared.columns.Brush.{Brush}
-use Rattle.tech_model.specs.declared.columns.Brush.TheVariants.{Paint as PaintBrush}
-use Rattle.tech_model.specs.Columns.{type_on, brushed_column, painted_column}
-use Rattle.tech_model.specs.ColumnForms.{IsOnPlane, IsColumn, HasWholeContacts}
-use Rattle.tech_model.specs.WellFormed.{IsWellFormed}
-use Rattle.tech_model.specs.Rules.{HaveOwnSets}
-use Rattle.tech_model.proofs.LocalLaws.{brushed-length}
-use Rattle.tech_model.proofs.WholeLaws.{brushed_column-whole}
-use Rattle.tech_model.proofs.WellFormedLaws.{type_bounds}
-use Rattle.layout_model.specs.Places.{Place}
-use Rattle.layout_model.specs.Layouts.{Layout}
-use Rattle.cell_paint.specs.Painting.{place_at, kinds_on, column_at, with_columns_where, with_paint, with_all_painted, is_in_some, paint_range}
-use Rattle.cell_paint.specs.Paints.{PlaneValue, layout_on, IsSoundPaint, AreCellPlanes}
-use Rattle.cell_paint.specs.steps.Settings.{pieces_for, AreSettable, AreAllSet, AreChanges, AreAllChanges}
+use Rattle.cell_paint.proofs.Common.{◌≡◌, inl, inr, ℕ, zero, suc, ◌+◌, ◌<◌, ◌≤◌, true, Bool, ◌||◌, List, [], ◌∷◌, ◌++◌, length, length-append}
+use Rattle.cell_paint.proofs.Common.{get_or, refl, sym, ◌∙◌, ap, subst, arith, false, IsTrue, Vec, if◌then◌else◌, list_any, Global, cases_Bool}
+use Rattle.cell_paint.proofs.Common.{cases_eq, cases_lt, true≢false, get_or_past, get_or_push, get_or_append_left, list_any-In, list_any-source}
+use Rattle.cell_paint.proofs.Common.{Square, Rect, Piece, Covers, is_covered, AreSet, Covers-is_covered, is_covered-Covers, MOST_PLANES, TypeId}
+use Rattle.cell_paint.proofs.Common.{TypeRec, RawTech, is_type, plane_of, type_number, Brush, PaintBrush, type_on, IsOnPlane, IsColumn}
+use Rattle.cell_paint.proofs.Common.{HasWholeContacts, IsWellFormed, HaveOwnSets, brushed-length, brushed_column-whole, type_bounds, Place, Layout}
+use Rattle.cell_paint.proofs.Common.{place_at, kinds_on, with_columns_where, is_in_some, paint_range, PlaneValue, layout_on, IsSoundPaint}
+use Rattle.cell_paint.proofs.Common.{AreCellPlanes, pieces_for, AreSettable, AreAllSet, AreChanges, AreAllChanges}
+use Rattle.tech_model.specs.Columns.{brushed_column, painted_column}
+use Rattle.cell_paint.specs.Painting.{column_at, with_paint, with_all_painted}
 use Rattle.cell_paint.proofs.AgainLaws.{painted_column-again}
 use Rattle.cell_paint.proofs.ColumnsLaws.{column_type}
 use Rattle.cell_paint.proofs.PlaneLaws.{space_past}

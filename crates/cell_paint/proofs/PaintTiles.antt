@@ -1,17 +1,9 @@
 -- Planes of a cell's paint: what is read of one, and its tiles with their types.
-use Rattle.std.proofs.Common.{◌≡◌, ℕ, ◌<◌, ◌≤◌, List, [], length, get_or, map, sym, ◌∙◌, ap, subst, arith, Some}
-use Rattle.std.proofs.lemmas.List.{get_or_default, get_or-map, length-map}
-use Rattle.geo_core.proofs.FiniteSets.Members.{In-map, In-map_source}
-use Rattle.geo_core.specs.declared.squares.Square.{Square}
-use Rattle.geo_core.specs.declared.squares.Rect.{Rect}
-use Rattle.geo_core.specs.declared.squares.Piece.{Piece}
-use Rattle.geo_core.specs.Covering.{Covers}
-use Rattle.geo_core.specs.Planes.{AreTilesIn}
-use Rattle.geo_core.proofs.TileSets.{tile_value, tile_inside, tiles_apart}
-use Rattle.tech_model.specs.declared.raw.TypeId.{TypeId}
+use Rattle.cell_paint.proofs.Common.{◌≡◌, ℕ, ◌<◌, ◌≤◌, List, [], length, get_or, map, sym, ◌∙◌, ap, subst, arith, get_or_default, get_or-map}
+use Rattle.cell_paint.proofs.Common.{length-map, In-map, In-map_source, Square, Rect, Piece, Covers, AreTilesIn, tile_value, tile_inside}
+use Rattle.cell_paint.proofs.Common.{tiles_apart, TypeId, kinds_on, PlaneValue, Paint, number_on, no_plane, layout_of, seen_kind}
+use Rattle.std.proofs.Common.{Some}
 use Rattle.tech_model.specs.LayerTiles.{IsTileOf, AreTilesOf}
-use Rattle.cell_paint.specs.Painting.{kinds_on}
-use Rattle.cell_paint.specs.Paints.{PlaneValue, Paint, number_on, no_plane, layout_of, seen_kind}
 use Rattle.cell_paint.proofs.PlaneLaws.{space_past}
 
 -- a plane that was read shows what the paint has on it

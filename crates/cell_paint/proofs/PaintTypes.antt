@@ -1,14 +1,7 @@
 -- The types of a cell's paint are those of its technology, each on its plane.
-use Rattle.std.proofs.Common.{◌≡◌, ◌≢◌, inl, inr, ◌≤◌, ℕ, length, sym, ◌∙◌, subst, arith, refl}
-use Rattle.std.specs.Prelude.{IsTrue}
-use Rattle.std.proofs.lemmas.Bool.{cases_lt}
-use Rattle.tech_model.specs.declared.limits.TheConstants.{MOST_PLANES}
-use Rattle.tech_model.specs.declared.raw.RawTech.{RawTech}
-use Rattle.tech_model.specs.ColumnForms.{IsOnPlane}
-use Rattle.tech_model.specs.Types.{is_type, plane_of}
+use Rattle.cell_paint.proofs.Common.{◌≡◌, ◌≢◌, inl, inr, ◌≤◌, ℕ, length, sym, ◌∙◌, subst, arith, refl, IsTrue, cases_lt, MOST_PLANES, RawTech}
+use Rattle.cell_paint.proofs.Common.{IsOnPlane, is_type, plane_of, kinds_on, Paint, layout_of, seen_kind, IsSoundPaint}
 use Rattle.layout_model.specs.LayerTypes.{AreTypesOf, HasTypesOf}
-use Rattle.cell_paint.specs.Painting.{kinds_on}
-use Rattle.cell_paint.specs.Paints.{Paint, layout_of, seen_kind, IsSoundPaint}
 use Rattle.cell_paint.proofs.ColumnsLaws.{column_type}
 use Rattle.cell_paint.proofs.PlaneLaws.{space_past}
 

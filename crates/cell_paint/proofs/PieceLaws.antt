@@ -1,32 +1,20 @@
 -- Pieces of several planes: what they show, what becomes of planes that they are put on, and that tiles which were taken out show what
 -- stood there.
-use Rattle.std.proofs.Common.{◌≡◌, ◌≢◌, ◌⊎◌, inl, inr, ℕ, ◌+◌, ◌<◌, ◌≤◌, true, false, Bool, cond, ◌==◌, ◌&&◌, List, [], ◌∷◌, ◌++◌, length, map, filter}
-use Rattle.std.proofs.Common.{refl, sym, ◌∙◌, ap, subst, arith}
-use Rattle.std.specs.Prelude.{Vec, if◌then◌else◌}
-use Rattle.std.specs.declared.alloc.Global.{Global}
-use Rattle.std.proofs.lemmas.Bool.{cases_Bool, cases_eq, cases_lt, and_parts, and_from, eqb-true, eq-eqb, ne_eqb, true≢false}
+use Rattle.cell_paint.proofs.Common.{◌≡◌, ◌≢◌, ◌⊎◌, inl, inr, ℕ, ◌+◌, ◌<◌, ◌≤◌, true, false, Bool, ◌&&◌, List, [], ◌∷◌, ◌++◌, length, map, refl, sym}
+use Rattle.cell_paint.proofs.Common.{◌∙◌, ap, subst, arith, Vec, if◌then◌else◌, Global, cases_Bool, cases_eq, cases_lt, eqb-true, eq-eqb, ne_eqb}
+use Rattle.cell_paint.proofs.Common.{true≢false, In, In-map, In-map_source, Square, Rect, Piece, IsNear, LiesWithin, corner_of, Covers, is_covered}
+use Rattle.cell_paint.proofs.Common.{IsProper, AreSet, AreTilesIn, Covers-is_covered, is_covered-Covers, corner_covered, within_covers, tile_value}
+use Rattle.cell_paint.proofs.Common.{tile_inside, tiles_apart, TypeRec, ArePiecesIn, Place, Layout, place_at, kinds_on, PlaneValue, layout_on}
+use Rattle.cell_paint.proofs.Common.{IsSoundPaint, AreCellPlanes, pieces_on, with_pieces, CanStandIn, IsSettable, AreAllSet, AreChanges}
+use Rattle.cell_paint.proofs.Common.{AreAllChanges}
+use Rattle.std.proofs.Common.{cond, ◌==◌, filter}
+use Rattle.std.proofs.lemmas.Bool.{and_parts, and_from}
 use Rattle.std.proofs.lemmas.List.{append-nil, map-append}
 use Rattle.std.proofs.lemmas.List.Elements.{filter-append}
-use Rattle.geo_core.specs.FiniteSets.Lists.{In}
-use Rattle.geo_core.proofs.FiniteSets.Members.{In-append_cases, In-map, In-map_source, In-filter, In-filter_source, In-filter_passes}
+use Rattle.geo_core.proofs.FiniteSets.Members.{In-append_cases, In-filter, In-filter_source, In-filter_passes}
 use Rattle.geo_core.proofs.FiniteSets.Pairs.{Pairwise, Pairwise-append, AllPairs-from_Pairwise}
 use Rattle.geo_core.proofs.FiniteSets.Searches.{All-In, All-from_In}
-use Rattle.geo_core.specs.declared.squares.Square.{Square}
-use Rattle.geo_core.specs.declared.squares.Rect.{Rect}
-use Rattle.geo_core.specs.declared.squares.Piece.{Piece}
-use Rattle.geo_core.specs.Areas.{IsNear, LiesWithin, corner_of}
-use Rattle.geo_core.specs.Covering.{Covers, is_covered, IsProper}
-use Rattle.geo_core.specs.Planes.{AreSet, AreTilesIn}
-use Rattle.geo_core.proofs.CoveringLaws.{Covers-is_covered, is_covered-Covers, corner_covered, within_covers}
-use Rattle.geo_core.proofs.TileSets.{tile_value, tile_inside, tiles_apart}
-use Rattle.tech_model.specs.declared.raw.TypeRec.{TypeRec}
-use Rattle.tile_plane.specs.Listings.{ArePiecesIn}
-use Rattle.layout_model.specs.Places.{Place}
-use Rattle.layout_model.specs.Layouts.{Layout}
-use Rattle.cell_paint.specs.Painting.{place_at, kinds_on}
-use Rattle.cell_paint.specs.Paints.{PlaneValue, layout_on, IsSoundPaint, AreCellPlanes}
-use Rattle.cell_paint.specs.Pieces.{kind_by, pieces_on, with_pieces, AreTakenOut, CanStandIn}
-use Rattle.cell_paint.specs.steps.Settings.{IsSettable, AreAllSet, AreChanges, AreAllChanges}
+use Rattle.cell_paint.specs.Pieces.{kind_by, AreTakenOut}
 use Rattle.cell_paint.proofs.AreaLaws.{near_within}
 use Rattle.cell_paint.proofs.PaintLaws.{whole_sound, changed_to, all_set_from}
 use Rattle.cell_paint.proofs.PlaneLaws.{space_past}

@@ -1,24 +1,17 @@
 -- Lists of planes: setting one plane, setting pieces plane after plane, and the box of all planes.
-use Rattle.std.proofs.Common.{◌≡◌, ◌≢◌, inl, inr, ℕ, ◌+◌, ◌<◌, ◌≤◌, List, [], ◌∷◌, ◌++◌, length, length-append, get_or, take, drop, set, sym, ◌∙◌}
-use Rattle.std.proofs.Common.{ap, subst, arith, Option, Some, None, get_or-set_same, get_or-set_other}
+use Rattle.cell_paint.proofs.Common.{◌≡◌, ◌≢◌, inl, inr, ℕ, ◌+◌, ◌<◌, ◌≤◌, List, [], ◌∷◌, ◌++◌, length, length-append, get_or, take, sym, ◌∙◌, ap}
+use Rattle.cell_paint.proofs.Common.{subst, arith, Option, Vec, Global, cases_eq, cases_lt, get_or_default, get_or_past, get_or_push}
+use Rattle.cell_paint.proofs.Common.{get_or_append_left, Square, Rect, Piece, LiesWithin, joined_rect, Covers, AreSame, AreSet, IsBox, Place}
+use Rattle.cell_paint.proofs.Common.{place_at, PlaneValue, number_on, no_plane, IsReadyFor, layout_on, pieces_for, IsSettable, AreSettable}
+use Rattle.std.proofs.Common.{drop, set}
+use Rattle.std.proofs.Common.{Some, None, get_or-set_same, get_or-set_other}
 use Rattle.std.proofs.Math.ListN.{length-set}
-use Rattle.std.specs.Prelude.{MatchOption, slice_index_or, Vec}
-use Rattle.std.specs.declared.alloc.Global.{Global}
-use Rattle.std.proofs.lemmas.Bool.{cases_eq, cases_lt}
-use Rattle.std.proofs.lemmas.List.{get_or_default, get_or_past, get_or_push, get_or_append_left, take_at}
-use Rattle.geo_core.specs.declared.squares.Square.{Square}
-use Rattle.geo_core.specs.declared.squares.Rect.{Rect}
-use Rattle.geo_core.specs.declared.squares.Piece.{Piece}
-use Rattle.geo_core.specs.Areas.{LiesWithin, joined_rect}
-use Rattle.geo_core.specs.Covering.{Covers}
-use Rattle.geo_core.specs.Planes.{AreSame, AreSet, IsBox}
+use Rattle.std.specs.Prelude.{MatchOption, slice_index_or}
+use Rattle.std.proofs.lemmas.List.{take_at}
 use Rattle.geo_core.proofs.CoveringLaws.{covers_joined_left, covers_joined_right, joined_within}
 use Rattle.tile_plane.proofs.ContentsLaws.{no_contents_is_space}
-use Rattle.layout_model.specs.Places.{Place}
 use Rattle.layout_model.specs.Layouts.{IsMaterial}
-use Rattle.cell_paint.specs.Painting.{place_at}
-use Rattle.cell_paint.specs.Paints.{PlaneValue, number_on, no_plane, IsReadyFor, layout_on, IsPaintBox}
-use Rattle.cell_paint.specs.steps.Settings.{pieces_for, IsSettable, AreSettable}
+use Rattle.cell_paint.specs.Paints.{IsPaintBox}
 
 -- the plane of this number, and one without paint past the last
 abbrev pub plane_at : List PlaneValue → ℕ → PlaneValue

@@ -1,25 +1,15 @@
 -- The types of a square, shown layer by layer: paint of a layer whose images are to stand there shows them too.
-use Rattle.std.proofs.Common.{◌≡◌, ◌⊎◌, ◌<◌, ◌≤◌, ℕ, true, false, Bool, Option, List, length, bit_or, max, refl, sym, ap, subst, ◌∙◌, arith, inl, inr}
-use Rattle.std.specs.Prelude.{◌==◌, ◌||◌, Some, None, IsTrue, if◌then◌else◌, unwrap_or}
-use Rattle.std.specs.Int.{bit_at}
-use Rattle.std.proofs.lemmas.Bool.{cases_Bool, cases_lt, eqb-true, eq-eqb}
-use Rattle.std.proofs.lemmas.List.{get_or_past}
-use Rattle.std.proofs.lemmas.Nat.Bits.{bit_at-zero, bit_at_or, same_from_bits}
-use Rattle.geo_core.specs.FiniteSets.Lists.{In}
-use Rattle.geo_core.proofs.FiniteSets.Searches.{find-In, find-passes}
-use Rattle.tech_model.specs.declared.raw.TypeId.{TypeId}
-use Rattle.tech_model.specs.declared.raw.RawTech.{RawTech}
-use Rattle.tech_model.specs.Types.{is_type, type_number, plane_of, layer_of, parts_of, images_of, is_on, image_on, joined}
-use Rattle.tech_model.specs.WellFormed.{IsWellFormed}
-use Rattle.tech_model.specs.Rules.{HaveOwnSets}
-use Rattle.tech_model.specs.declared.columns.Brush.TheVariants.{Paint as PaintBrush}
-use Rattle.tech_model.specs.Columns.{painted_by, where_image, on_planes_from, type_on, brushed_column, painted_column}
-use Rattle.tech_model.specs.ColumnForms.{IsOnPlane, IsColumn, HasWholeContacts}
+use Rattle.cell_paint.proofs.Common.{◌≡◌, ◌⊎◌, ◌<◌, ◌≤◌, ℕ, true, false, Bool, Option, List, length, bit_or, max, refl, sym, ap, subst, ◌∙◌, arith}
+use Rattle.cell_paint.proofs.Common.{inl, inr, Some, None, IsTrue, if◌then◌else◌, bit_at, cases_Bool, cases_lt, eqb-true, eq-eqb, get_or_past}
+use Rattle.cell_paint.proofs.Common.{bit_at-zero, bit_at_or, same_from_bits, In, find-In, find-passes, TypeId, RawTech, is_type, type_number}
+use Rattle.cell_paint.proofs.Common.{plane_of, IsWellFormed, HaveOwnSets, PaintBrush, type_on, IsOnPlane, IsColumn, HasWholeContacts, type_bounds}
+use Rattle.cell_paint.proofs.Common.{brushed-length}
+use Rattle.std.specs.Prelude.{◌==◌, ◌||◌, unwrap_or}
+use Rattle.tech_model.specs.Types.{layer_of, parts_of, images_of, is_on, image_on, joined}
+use Rattle.tech_model.specs.Columns.{painted_by, where_image, on_planes_from, brushed_column, painted_column}
 use Rattle.tech_model.proofs.JoinedLaws.{joined-type}
-use Rattle.tech_model.proofs.WellFormedLaws.{type_bounds}
 use Rattle.tech_model.proofs.SetLaws.{set_not_empty}
 use Rattle.tech_model.proofs.ColumnLaws.{brushed_is_column}
-use Rattle.tech_model.proofs.LocalLaws.{brushed-length}
 use Rattle.cell_paint.proofs.AgainLaws.{paint, changed_at, image_type, marks_kept-still, found_image, union_with_part}
 
 -- where one image of a contact stands, all its images stand

@@ -1,32 +1,27 @@
 -- Lengths summed by nodes: one terminal more, and what a sum says.
-use Rattle.std.proofs.Common.{◌≡◌, ℕ, zero, suc, ◌+◌, ◌^◌, ◌<◌, ℤ, pos, ◌+ℤ◌, ◌<ℤ◌, ◌≤ℤ◌, Bool, true, false, cond, eqb, ◌||◌}
-use Rattle.std.proofs.Common.{List, [], ◌∷◌, ◌++◌, map, filter, length, get_or, take}
-use Rattle.std.proofs.Common.{inl, inr, refl, sym, ◌∙◌, ap, subst, arith, eq-eqb}
-use Rattle.std.specs.Prelude.{Option, Some, None, unwrap_or, slice_index, All}
-use Rattle.std.specs.BTreeMap.{BTreeMap, get, is_at, IsOrdered}
+use Rattle.cell_records.proofs.Common.{◌≡◌, ℕ, zero, suc, ◌+◌, ◌<◌, ℤ, pos, ◌+ℤ◌, ◌<ℤ◌, Bool, true, cond, List, [], ◌∷◌, ◌++◌, map, filter, length}
+use Rattle.cell_records.proofs.Common.{get_or, take, inl, inr, refl, sym, ◌∙◌, ap, subst, arith, eq-eqb, Some, slice_index, All, get, w128, nat_cmp}
+use Rattle.cell_records.proofs.Common.{cases_lt, false≢true, ints, get_or-map, length-map, In, Distinct, sum_on, In-map, In-map_source, Pairwise}
+use Rattle.cell_records.proofs.Common.{All-In, same_from_test, is_to, length_in, length_told, AreJoined}
+use Rattle.std.proofs.Common.{◌^◌, ◌≤ℤ◌, false, eqb, ◌||◌}
+use Rattle.std.specs.Prelude.{Option, None, unwrap_or}
+use Rattle.std.specs.BTreeMap.{BTreeMap, is_at, IsOrdered}
 use Rattle.std.specs.Cmp.{nat_cmp_is}
-use Rattle.std.specs.Int.{w128}
 use Rattle.std.specs.Int.RustNames.{FitsSigned}
 use Rattle.std.specs.List.{list_any}
-use Rattle.std.specs.Ordering.{nat_cmp, is_eq}
+use Rattle.std.specs.Ordering.{is_eq}
 use Rattle.std.specs.declared.cmp.Ordering.TheVariants.{Less, Equal, Greater}
-use Rattle.std.proofs.lemmas.Bool.{cases_Bool, cases_eq, cases_lt, false≢true, ne_eqb}
-use Rattle.std.proofs.lemmas.Int.{ints}
+use Rattle.std.proofs.lemmas.Bool.{cases_Bool, cases_eq, ne_eqb}
 use Rattle.std.proofs.lemmas.Cmp.{nat_cmp_total}
-use Rattle.std.proofs.lemmas.List.{take_more, get_or-map, length-map}
+use Rattle.std.proofs.lemmas.List.{take_more}
 use Rattle.std.proofs.lemmas.List.Folds.{list_any-append}
 use Rattle.std.proofs.lemmas.Map.Keys.{below_from_sorted}
 use Rattle.std.proofs.lemmas.Map.Lookups.{exact_unsigned}
 use Rattle.std.proofs.lemmas.Map.Views.{btree_map_get_iff}
 use Rattle.std.proofs.lemmas.Option.{same_Some}
-use Rattle.finite_sets.specs.Lists.{In, Distinct}
-use Rattle.finite_sets.specs.Total.{sum_on}
-use Rattle.finite_sets.proofs.Members.{In-map, In-map_source, In-filter_source, Contains-from_In, In-from_Contains}
-use Rattle.finite_sets.proofs.Pairs.{Pairwise}
-use Rattle.finite_sets.proofs.Searches.{list_any-In, All-In, list_any-source}
+use Rattle.finite_sets.proofs.Members.{In-filter_source, Contains-from_In, In-from_Contains}
+use Rattle.finite_sets.proofs.Searches.{list_any-In, list_any-source}
 use Rattle.finite_sets.proofs.Sums.{sum_on-push, sum_on-nothing}
-use Rattle.fet_regions.proofs.FloodNodes.StackLaws.{same_from_test}
-use Rattle.cell_records.specs.steps.Joined.{is_to, length_in, length_told, AreJoined}
 
 -- what each terminal is named by
 abbrev pub key : {N : Type 0} → N × ℤ → N

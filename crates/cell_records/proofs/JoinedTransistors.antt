@@ -1,21 +1,13 @@
 -- The transistors of regions are the transistors of numbers of nodes, where the terminals of one number are joined.
-use Rattle.std.proofs.Common.{◌≡◌, ℕ, ◌<◌, ℤ, pos, ◌-ℤ◌, ◌<ℤ◌, true, List, map, filter, refl, sym, ◌∙◌, ap, subst, IsTrue, eq-eqb}
-use Rattle.std.specs.Prelude.{slice_index}
-use Rattle.finite_sets.specs.Lists.{In}
-use Rattle.finite_sets.specs.Total.{sum_on}
-use Rattle.finite_sets.proofs.Members.{In-map, In-map_source, In-filter, In-filter_source, In-filter_passes}
-use Rattle.finite_sets.proofs.Pairs.{Pairwise-from_AllPairs}
+use Rattle.cell_records.proofs.Common.{◌≡◌, ℕ, ◌<◌, ℤ, pos, ◌-ℤ◌, ◌<ℤ◌, true, List, map, filter, refl, sym, ◌∙◌, ap, subst, IsTrue, eq-eqb}
+use Rattle.cell_records.proofs.Common.{slice_index, In, sum_on, In-map, In-map_source, Pairwise-from_AllPairs, RawTech, LeadsAcross, IsEdgeCount}
+use Rattle.cell_records.proofs.Common.{Layout, Place, AreNeighbours, AreOneChannel, IsTerminalOf, Transistor, IsTransistor, gate_length}
+use Rattle.cell_records.proofs.Common.{same_from_test, is_to, length_in, AreJoined}
+use Rattle.finite_sets.proofs.Members.{In-filter, In-filter_source, In-filter_passes}
 use Rattle.finite_sets.proofs.Sums.{sum_on-filter}
 use Rattle.finite_sets.proofs.Totals.{Total-iff, Total-at, Total-unique}
-use Rattle.tech_model.specs.declared.raw.RawTech.{RawTech}
 use Rattle.tech_model.specs.ChannelRoles.{is_terminal}
-use Rattle.cell_paint.specs.LayoutModel.EdgeCounts.{LeadsAcross, IsEdgeCount}
-use Rattle.cell_paint.specs.LayoutModel.Layouts.{Layout}
-use Rattle.cell_paint.specs.LayoutModel.Places.{Place, AreNeighbours}
-use Rattle.cell_paint.specs.LayoutModel.Transistors.{AreOneChannel, IsTerminalOf, Transistor, IsTransistor, gate_length}
-use Rattle.fet_regions.proofs.FloodNodes.StackLaws.{same_from_test}
 use Rattle.own_record_laws.proofs.FetSizes.{edges_to_some, terminals_total}
-use Rattle.cell_records.specs.steps.Joined.{is_to, length_in, AreJoined}
 use Rattle.cell_records.proofs.JoinedLaws.{key, told_some, told_here, sum_some, keys_once, keys_of_part}
 
 -- The place is of a region that has the number.

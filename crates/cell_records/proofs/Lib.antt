@@ -1,3 +1,4 @@
+mod Common
 mod JoinedLaws
 mod JoinedTransistors
 mod RenamedTransistors

@@ -1,25 +1,19 @@
 -- The nodes of a list of records, by their numbers: the places of each are those that go by its name.
-use Rattle.std.proofs.Common.{◌≡◌, ◌<◌, ℕ, pos, List, length, get_or, inl, inr, refl, sym, subst, arith}
-use Rattle.std.proofs.lemmas.Bool.{cases_lt}
+use Rattle.cell_records.proofs.Common.{◌≡◌, ◌<◌, ℕ, pos, List, length, get_or, inl, inr, refl, sym, subst, arith, cases_lt, RawTech, IsWellFormed}
+use Rattle.cell_records.proofs.Common.{NodeRec, HasTypesOf, Layout, IsMaterial, Place, IsOfNode, IsNodeBefore, name_at}
 use Rattle.finite_sets.specs.Chain.Chain.{stay}
 use Rattle.finite_sets.specs.Least.{IsLeast}
 use Rattle.finite_sets.proofs.Chains.{Chain-append}
 use Rattle.finite_sets.proofs.Leasts.{IsLeast-iff}
 use Rattle.tech_model.specs.declared.raw.Label.{Label}
-use Rattle.tech_model.specs.declared.raw.RawTech.{RawTech}
-use Rattle.tech_model.specs.WellFormed.{IsWellFormed}
-use Rattle.ext_model.specs.declared.records.NodeRec.{NodeRec}
-use Rattle.cell_paint.specs.LayoutModel.LayerTypes.{HasTypesOf}
-use Rattle.cell_paint.specs.LayoutModel.Layouts.{Layout, IsMaterial}
-use Rattle.cell_paint.specs.LayoutModel.Places.{Place, IsBefore, IsNoLater}
+use Rattle.cell_paint.specs.LayoutModel.Places.{IsBefore, IsNoLater}
 use Rattle.cell_paint.proofs.LayoutModel.PlaceLaws.{IsBefore-irreflexive}
 use Rattle.own_record_laws.specs.Names.NamedNodes.{AreOneNamedNode, IsNameOf}
 use Rattle.own_record_laws.specs.CellNodes.NodeRecords.{IsNodeRecord, AreNodeRecords}
 use Rattle.own_record_laws.proofs.CellNodes.NodePlaces.{AreOneNamedNode-sym, material_along}
-use Rattle.own_record_laws.specs.TreeRecords.FetRecords.{IsOfNode, IsNodeBefore}
 use Rattle.own_record_laws.proofs.NodesByName.{one_name_one_node}
 use Rattle.own_record_laws.proofs.PreferredNames.{one_least, preferred_is_first}
-use Rattle.cell_records.specs.steps.FetsOfRegions.{no_node, name_at}
+use Rattle.cell_records.specs.steps.FetsOfRegions.{no_node}
 
 abbrev pub origin : Place
 origin = record { plane = 0; square = record { x = pos 0; y = pos 0 } }

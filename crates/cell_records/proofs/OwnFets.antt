@@ -1,42 +1,32 @@
 -- The records that are made of the transistors of regions are those of the layout with its labels.
-use Rattle.std.proofs.Common.{◌≡◌, ◌<◌, ◌<ℤ◌, ◌-ℤ◌, ℕ, zero, suc, ℤ, pos, List, [], ◌∷◌, length, get_or, map, inr, refl, sym, ◌∙◌, ap, subst, arith, IsTrue}
-use Rattle.std.specs.Prelude.{slice_index, All, AllPairs}
-use Rattle.std.proofs.lemmas.List.{get_or-map, length-map}
+use Rattle.cell_records.proofs.Common.{◌≡◌, ◌<◌, ◌<ℤ◌, ◌-ℤ◌, ℕ, zero, suc, ℤ, pos, List, [], ◌∷◌, length, get_or, map, inr, refl, sym, ◌∙◌, ap}
+use Rattle.cell_records.proofs.Common.{subst, arith, IsTrue, slice_index, All, get_or-map, length-map, In, sum_on, In-map, In-map_source, Pairwise}
+use Rattle.cell_records.proofs.Common.{Pairwise-from_AllPairs, All-from_In, RawTech, IsWellFormed, FetRec, NodeRec, HasTypesOf, Layout, IsMaterial}
+use Rattle.cell_records.proofs.Common.{Place, AreOneChannel, IsTerminalOf, Transistor, IsTransistor, AreTransistors, gate_length, IsNearPlace, Fet}
+use Rattle.cell_records.proofs.Common.{transistor_of, IsOfNode, IsNodeBefore, AreFetRecords, name_at, term_of, IsSmallFet, IsRecordOfFet}
+use Rattle.cell_records.proofs.Common.{AreRecordsOfFets}
+use Rattle.std.specs.Prelude.{AllPairs}
 use Rattle.std.proofs.lemmas.Option.{slice_get_within, get_or_from_slice_get}
-use Rattle.finite_sets.specs.Lists.{In}
-use Rattle.finite_sets.specs.Total.{sum_on}
 use Rattle.finite_sets.proofs.Chains.{Chain-append, Chain-keeps}
-use Rattle.finite_sets.proofs.Members.{In-get_or, In-index, In-map, In-map_source}
-use Rattle.finite_sets.proofs.Pairs.{Pairwise, Pairwise-from_AllPairs, Pairwise-map, AllPairs-from_Pairwise}
-use Rattle.finite_sets.proofs.Searches.{All-from_In}
+use Rattle.finite_sets.proofs.Members.{In-get_or, In-index}
+use Rattle.finite_sets.proofs.Pairs.{Pairwise-map, AllPairs-from_Pairwise}
 use Rattle.finite_sets.proofs.Sums.{sum_on-map}
 use Rattle.tech_model.specs.declared.raw.Label.{Label}
-use Rattle.tech_model.specs.declared.raw.RawTech.{RawTech}
 use Rattle.tech_model.specs.Types.{connects}
-use Rattle.tech_model.specs.WellFormed.{IsWellFormed}
-use Rattle.ext_model.specs.declared.records.FetRec.{FetRec}
-use Rattle.ext_model.specs.declared.records.NodeRec.{NodeRec}
 use Rattle.ext_model.specs.declared.records.TermRec.{TermRec}
 use Rattle.tech_model.specs.ChannelRoles.{is_channel}
-use Rattle.cell_paint.specs.LayoutModel.LayerTypes.{HasTypesOf}
-use Rattle.cell_paint.specs.LayoutModel.Layouts.{Layout, IsMaterial}
-use Rattle.cell_paint.specs.LayoutModel.Places.{Place}
 use Rattle.cell_paint.specs.LayoutModel.RegionTiles.{IsInRegion, AreRegions, regions_of}
-use Rattle.cell_paint.specs.LayoutModel.Transistors.{AreOneChannel, IsTerminalOf, Transistor, IsTransistor, AreFetsInOrder, AreTransistors, gate_length}
+use Rattle.cell_paint.specs.LayoutModel.Transistors.{AreFetsInOrder}
 use Rattle.cell_paint.specs.LayoutModel.declared.region_tiles.RegionTile.{RegionTile}
-use Rattle.fet_regions.specs.Measures.Bounds.{IsNearPlace}
 use Rattle.own_record_laws.specs.Names.NamedNodes.{AreOneNamedNode}
 use Rattle.fet_regions.specs.FloodNodes.TileShares.{no_tile, tile_at}
 use Rattle.fet_regions.proofs.FloodNodes.TileEdges.{lies_in_one}
-use Rattle.fet_regions.specs.declared.transistors.Fet.{Fet}
-use Rattle.fet_regions.specs.Transistors.{transistor_of}
 use Rattle.fet_regions.proofs.RoleLaws.{channel_type, type_not_space}
 use Rattle.own_record_laws.proofs.CellNodes.NodePlaces.{AreOneNamedNode-sym}
 use Rattle.own_record_laws.specs.CellNodes.RegionNodes.{AreNodesOfRegions}
-use Rattle.own_record_laws.specs.TreeRecords.FetRecords.{IsOfNode, IsNodeBefore, IsFetRecord, AreFetRecords, terminal_names}
+use Rattle.own_record_laws.specs.TreeRecords.FetRecords.{IsFetRecord, terminal_names}
 use Rattle.own_record_laws.proofs.FetSizes.{few_edges, terminals_total}
 use Rattle.own_record_laws.proofs.SomeEdges.{some_edge}
-use Rattle.cell_records.specs.steps.FetsOfRegions.{name_at, term_of, IsSmallFet, IsRecordOfFet, AreRecordsOfFets}
 use Rattle.cell_records.proofs.JoinedLaws.{key, joined_below}
 use Rattle.cell_records.proofs.JoinedTransistors.{IsOfNumber, joined_transistor, joined_is, joined_gate_length}
 use Rattle.cell_records.proofs.NodesByNumber.{origin, least_at, of_number, to_number, one_number, one_name_at, number_before}

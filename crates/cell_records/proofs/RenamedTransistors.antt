@@ -1,15 +1,9 @@
 -- A transistor whose nodes get other names.
-use Rattle.std.proofs.Common.{◌≡◌, ℤ, pos, ◌<ℤ◌, List, [], ◌∷◌, map, refl, ap, subst, IsTrue}
-use Rattle.finite_sets.specs.Lists.{In, Distinct}
+use Rattle.cell_records.proofs.Common.{◌≡◌, ℤ, pos, ◌<ℤ◌, List, [], ◌∷◌, map, refl, ap, subst, IsTrue, In, Distinct, In-map, In-map_source, RawTech}
+use Rattle.cell_records.proofs.Common.{LeadsAcross, IsEdgeCount, Layout, Place, AreNeighbours, AreOneChannel, IsTerminalOf, Transistor, IsTransistor}
 use Rattle.finite_sets.proofs.Distincts.{Distinct-map}
-use Rattle.finite_sets.proofs.Members.{In-map, In-map_source}
 use Rattle.finite_sets.proofs.Totals.{Total-iff}
-use Rattle.tech_model.specs.declared.raw.RawTech.{RawTech}
 use Rattle.tech_model.specs.ChannelRoles.{is_terminal}
-use Rattle.cell_paint.specs.LayoutModel.EdgeCounts.{LeadsAcross, IsEdgeCount}
-use Rattle.cell_paint.specs.LayoutModel.Layouts.{Layout}
-use Rattle.cell_paint.specs.LayoutModel.Places.{Place, AreNeighbours}
-use Rattle.cell_paint.specs.LayoutModel.Transistors.{AreOneChannel, IsTerminalOf, Transistor, IsTransistor}
 use Rattle.cell_records.proofs.JoinedLaws.{key}
 
 -- the terminal of the other name

@@ -1,13 +1,9 @@
 -- Laws on orders that come after users.
-use Rattle.std.proofs.Common.{◌≡◌, ◌↔◌, ◌⊎◌, inl, inr, ℕ, zero, suc, ◌+◌, ◌<◌, ◌≤◌, Bool, true, false, List, [], ◌∷◌, ◌++◌, length, get_or, slice_index_or, slice_set, refl, sym, ap, ◌∙◌, arith, subst, Some, slice_get}
-use Rattle.std.proofs.lemmas.Bool.{cases_eq, cases_lt}
-use Rattle.std.proofs.lemmas.List.{get_or-set_same, get_or-set_other, length-append, get_or_append_left}
-use Rattle.geo_core.specs.FiniteSets.Chain.{stay, go}
-use Rattle.cell_tree.specs.declared.cells.TreeCell.{TreeCell}
-use Rattle.cell_tree.specs.declared.sizes.Size.{Size}
-use Rattle.cell_tree.specs.Sizes.{size_at}
-use Rattle.cell_tree.specs.Cells.{users_of}
-use Rattle.cell_tree.specs.Above.{IsUserOf, IsReached, at, StandsBefore, StandsIn, EndsWith, IsSeen, unseen, ComesAfterUsers, AllStandBut, Adds}
+use Rattle.cell_tree.proofs.Common.{◌≡◌, ◌↔◌, ◌⊎◌, inl, inr, ℕ, zero, suc, ◌+◌, ◌<◌, ◌≤◌, Bool, true, false, List, [], ◌∷◌, ◌++◌, length, get_or}
+use Rattle.cell_tree.proofs.Common.{slice_index_or, slice_set, refl, sym, ap, ◌∙◌, arith, subst, Some, slice_get, cases_eq, cases_lt}
+use Rattle.cell_tree.proofs.Common.{get_or-set_same, get_or-set_other, length-append, get_or_append_left, stay, go, TreeCell, Size, size_at}
+use Rattle.cell_tree.proofs.Common.{users_of, IsUserOf, IsReached, at, StandsBefore, StandsIn, EndsWith, IsSeen, unseen, ComesAfterUsers, Adds}
+use Rattle.cell_tree.specs.Above.{AllStandBut}
 
 pub unseen-set : (seen : List Bool) (key : ℕ) → key < length seen → slice_index_or seen key false ≡ false → unseen seen ≡ suc (unseen (slice_set seen key true))
 unseen-set [] key within was = omega (arith, within)

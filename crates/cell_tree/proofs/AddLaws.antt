@@ -1,21 +1,12 @@
 -- A whole tree stays whole where an empty cell comes at the end.
-use Rattle.std.proofs.Common.{◌≡◌, inl, inr, ℕ, suc, ◌<◌, ◌≤◌, List, [], ◌∷◌, ◌++◌, length, slice_get, Some, None, refl, sym, ap, subst, ◌∙◌, arith, Contains}
-use Rattle.std.specs.Option.{option_map_or}
-use Rattle.std.proofs.lemmas.Bool.{cases_eq, cases_lt}
-use Rattle.std.proofs.lemmas.List.{length-append, get_or_append_left, get_or_at, get_or_past, map_push}
-use Rattle.std.proofs.lemmas.Option.{slice_get_within, slice_get_past}
-use Rattle.geo_core.proofs.FiniteSets.Places.{slice_get-push_cases, slice_get-append_left, slice_get-append_front, slice_get-push_new}
-use Rattle.cell_tree.specs.declared.cells.TreeCell.{TreeCell}
-use Rattle.cell_tree.specs.declared.limits.TheConstants.{MOST_USES}
-use Rattle.cell_tree.specs.declared.size_books.SizeBook.{SizeBook}
-use Rattle.cell_tree.specs.declared.sizes.Dimension.{Dimension}
-use Rattle.cell_tree.specs.declared.sizes.Dimension.TheVariants.{Depth, Elements, Hull}
-use Rattle.cell_tree.specs.declared.sizes.Size.{Size}
-use Rattle.cell_tree.specs.Sizes.{CellState, size_at, size_of, own_size, no_size, IsWithin, AreUsesBelow}
-use Rattle.cell_tree.specs.Cells.{state_of, states, users_of, Uses, KnowUsers}
-use Rattle.cell_tree.specs.Trees.{empty_cell, stamp_at, IsLawfulCell}
-use Rattle.cell_tree.specs.Books.{IsReady}
-use Rattle.cell_tree.specs.Whole.{IsWhole}
+use Rattle.cell_tree.proofs.Common.{◌≡◌, inl, inr, ℕ, suc, ◌<◌, ◌≤◌, List, [], ◌∷◌, ◌++◌, length, slice_get, Some, None, refl, sym, ap, subst, ◌∙◌}
+use Rattle.cell_tree.proofs.Common.{arith, Contains, option_map_or, cases_eq, cases_lt, length-append, get_or_append_left, get_or_at, get_or_past}
+use Rattle.cell_tree.proofs.Common.{slice_get_within, slice_get_past, slice_get-push_cases, slice_get-append_left, slice_get-append_front}
+use Rattle.cell_tree.proofs.Common.{slice_get-push_new, TreeCell, MOST_USES, SizeBook, Dimension, Depth, Elements, Hull, Size, CellState, size_at}
+use Rattle.cell_tree.proofs.Common.{no_size, IsWithin, AreUsesBelow, state_of, states, users_of, Uses, KnowUsers, empty_cell, stamp_at, IsLawfulCell}
+use Rattle.cell_tree.proofs.Common.{IsReady, IsWhole}
+use Rattle.std.proofs.lemmas.List.{map_push}
+use Rattle.cell_tree.specs.Sizes.{size_of, own_size}
 use Rattle.cell_tree.proofs.SizeLaws.{size_of-same}
 use Rattle.cell_tree.proofs.FindLaws.{length-states}
 

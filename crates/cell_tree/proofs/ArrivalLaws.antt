@@ -1,19 +1,12 @@
 -- Sizes of cells that come at the end, which are worked out in an order in which each comes behind its children.
-use Rattle.std.proofs.Common.{◌≡◌, ◌≢◌, inl, inr, ℕ, zero, suc, ◌<◌, ◌≤◌, List, length, get_or, slice_set, slice_get, Some, refl, sym, ap, subst, ◌∙◌, arith}
-use Rattle.std.proofs.lemmas.Bool.{cases_eq, cases_lt}
-use Rattle.std.proofs.lemmas.List.{get_or-set_same, get_or-set_other, get_or_past, length-set}
-use Rattle.std.proofs.lemmas.Option.{slice_get_within}
+use Rattle.cell_tree.proofs.Common.{◌≡◌, ◌≢◌, inl, inr, ℕ, zero, suc, ◌<◌, ◌≤◌, List, length, get_or, slice_set, slice_get, Some, refl, sym, ap}
+use Rattle.cell_tree.proofs.Common.{subst, ◌∙◌, arith, cases_eq, cases_lt, get_or-set_same, get_or-set_other, get_or_past, length-set}
+use Rattle.cell_tree.proofs.Common.{slice_get_within, Dimension, Depth, Elements, Hull, Size, CellState, size_at, no_size, IsWithin, AreAlike}
+use Rattle.cell_tree.proofs.Common.{AreSizes, Uses, IsAbove, at, cell_at, SetsDimension, ComesBefore, IsNewOrder, AreSettled, AreKept}
 use Rattle.geo_core.specs.FiniteSets.Chain.Chain.{stay, go}
-use Rattle.cell_tree.specs.declared.sizes.Dimension.{Dimension}
-use Rattle.cell_tree.specs.declared.sizes.Dimension.TheVariants.{Depth, Elements, Hull}
-use Rattle.cell_tree.specs.declared.sizes.Size.{Size}
-use Rattle.cell_tree.specs.Sizes.{CellState, size_at, size_of, no_size, IsWithin, AreAlike, AreSizes, AreChildrenWithin}
-use Rattle.cell_tree.specs.Cells.{Uses, IsAbove}
-use Rattle.cell_tree.specs.Above.{at}
-use Rattle.cell_tree.specs.Trees.{cell_at}
-use Rattle.cell_tree.specs.Trials.{SetsDimension, ComesBefore}
+use Rattle.cell_tree.specs.Sizes.{size_of, AreChildrenWithin}
 use Rattle.cell_tree.specs.Additions.{IsBelowItself, PassesWithAll}
-use Rattle.cell_tree.specs.Arrivals.{IsSettled, IsNewOrder, AreRightTo, AreSettled, AreKept, StopsAt}
+use Rattle.cell_tree.specs.Arrivals.{IsSettled, AreRightTo, StopsAt}
 use Rattle.cell_tree.proofs.SizeLaws.{alike_all, alike_refl, alike_sym, alike_trans, alike_within, size_of-alike, child_is_lower}
 use Rattle.cell_tree.proofs.TrialLaws.{set_other, set_apart, set_value}
 use Rattle.cell_tree.proofs.WholeLaws.{cell_is}

@@ -1,8 +1,7 @@
 -- The book, as it is extended.
-use Rattle.cell_tree.specs.declared.sizes.Size.{Size}
-use Rattle.cell_tree.specs.Sizes.{size_at, no_size}
-use Rattle.std.proofs.Common.{◌≡◌, ℕ, ◌+◌, ◌-◌, ◌<◌, ◌≤◌, List, [], ◌∷◌, ◌++◌, length, take, replicate, sym, ap, ◌∙◌, arith}
-use Rattle.std.proofs.lemmas.List.{append_assoc, replicate_more, length-append, length-take-le, get_or-take, get_or_append_left, ext_get_or}
+use Rattle.cell_tree.proofs.Common.{Size, size_at, no_size, ◌≡◌, ℕ, ◌+◌, ◌-◌, ◌<◌, ◌≤◌, List, [], ◌∷◌, ◌++◌, length, take, replicate, sym, ap, ◌∙◌}
+use Rattle.cell_tree.proofs.Common.{arith, length-append, get_or_append_left, ext_get_or}
+use Rattle.std.proofs.lemmas.List.{append_assoc, replicate_more, length-take-le, get_or-take}
 
 -- one more of the same
 pub filled_more : {X : Type 0} (first now new : List X) (value : X) → now ≡ first ++ replicate (length now - length first) value → new ≡ now ++ value ∷ []

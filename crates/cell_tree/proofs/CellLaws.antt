@@ -1,14 +1,8 @@
 -- Writing one cell in the list of cells.
-use Rattle.std.proofs.Common.{◌≡◌, ◌≢◌, inl, inr, ℕ, ◌<◌, List, length, get_or, slice_set, slice_get, sym, ap, ◌∙◌}
-use Rattle.std.specs.Option.{option_map_or}
-use Rattle.std.proofs.lemmas.Bool.{cases_eq}
+use Rattle.cell_tree.proofs.Common.{◌≡◌, ◌≢◌, inl, inr, ℕ, ◌<◌, List, length, get_or, slice_set, slice_get, sym, ap, ◌∙◌, option_map_or, cases_eq}
+use Rattle.cell_tree.proofs.Common.{slice_get-get_or, slice_get-set_same, slice_get-set_other, TreeCell, CellState, state_of, states, cell_at}
+use Rattle.cell_tree.proofs.Common.{empty_cell}
 use Rattle.std.proofs.lemmas.List.{map-set, set-get_or, get_or-map}
-use Rattle.std.proofs.lemmas.Option.{slice_get-get_or}
-use Rattle.geo_core.proofs.FiniteSets.Places.{slice_get-set_same, slice_get-set_other}
-use Rattle.cell_tree.specs.declared.cells.TreeCell.{TreeCell}
-use Rattle.cell_tree.specs.Sizes.{CellState}
-use Rattle.cell_tree.specs.Cells.{state_of, states}
-use Rattle.cell_tree.specs.Trees.{cell_at, empty_cell}
 
 module _ (cells : List TreeCell) (key : ℕ) (d : TreeCell) (within : key < length cells) where
   -- the cell as contracts see it

@@ -1,25 +1,16 @@
 -- A whole tree to which cells come at the end: it stays whole, and where they are refused and go again, it is as before.
-use Rattle.std.proofs.Common.{◌≡◌, inl, inr, ℕ, zero, suc, ◌+◌, ◌-◌, ◌<◌, ◌≤◌, List, [], ◌∷◌, ◌++◌, length, map, take, replicate, slice_get, Some, refl, sym, ap, subst, ◌∙◌, arith, Contains}
-use Rattle.std.specs.Option.{option_map_or}
-use Rattle.std.proofs.lemmas.Bool.{cases_lt}
-use Rattle.std.proofs.lemmas.List.{length-append, length-replicate, length-take-le, get_or_append_left, get_or-append_right, get_or-replicate, get_or_past, take-map, take_at}
-use Rattle.std.proofs.lemmas.Option.{slice_get_within, slice_get_past}
+use Rattle.cell_tree.proofs.Common.{◌≡◌, inl, inr, ℕ, zero, suc, ◌+◌, ◌-◌, ◌<◌, ◌≤◌, List, [], ◌∷◌, ◌++◌, length, map, take, replicate, slice_get}
+use Rattle.cell_tree.proofs.Common.{Some, refl, sym, ap, subst, ◌∙◌, arith, Contains, option_map_or, cases_lt, length-append, get_or_append_left}
+use Rattle.cell_tree.proofs.Common.{get_or_past, slice_get_within, slice_get_past, slice_get-append_front, TreeCell, MOST_USES, SizeBook, Dimension}
+use Rattle.cell_tree.proofs.Common.{Size, CellState, size_at, AreAlike, AreSizes, AreUsesBelow, states, users_of, Uses, IsAbove, KnowUsers, IsUserOf}
+use Rattle.cell_tree.proofs.Common.{stamp_at, IsLawfulCell, IsLawfulTree, AreLawfulCells, IsReady, SaysTheSame, IsWhole, tree_of, AreAdded}
+use Rattle.cell_tree.proofs.Common.{AreBehind, AreSettled, IsNewOrder}
+use Rattle.std.proofs.lemmas.List.{length-replicate, length-take-le, get_or-append_right, get_or-replicate, take-map, take_at}
 use Rattle.geo_core.specs.FiniteSets.Chain.Chain.{stay, go}
-use Rattle.geo_core.proofs.FiniteSets.Places.{slice_get-append_front, All-slice_get, slice_get-append_cases}
-use Rattle.cell_tree.specs.declared.cells.TreeCell.{TreeCell}
-use Rattle.cell_tree.specs.declared.limits.TheConstants.{MOST_USES}
-use Rattle.cell_tree.specs.declared.size_books.SizeBook.{SizeBook}
-use Rattle.cell_tree.specs.declared.sizes.Dimension.{Dimension}
-use Rattle.cell_tree.specs.declared.sizes.Size.{Size}
-use Rattle.cell_tree.specs.Sizes.{CellState, size_at, size_of, AreAlike, AreSizes, AreUsesBelow}
-use Rattle.cell_tree.specs.Cells.{states, users_of, Uses, IsAbove, KnowUsers}
-use Rattle.cell_tree.specs.Above.{IsUserOf}
-use Rattle.cell_tree.specs.Trees.{stamp_at, IsLawfulCell, IsLawfulTree}
-use Rattle.cell_tree.specs.Trials.{AreLawfulCells}
-use Rattle.cell_tree.specs.Books.{IsReady, SaysTheSame}
-use Rattle.cell_tree.specs.Whole.{IsWhole, tree_of}
-use Rattle.cell_tree.specs.Additions.{AreAdded, IsBelowItself, MayCome, MayAllCome}
-use Rattle.cell_tree.specs.Arrivals.{AreBehind, AreSettled, IsExtended, IsNewOrder, IsSettled, MayBeSized}
+use Rattle.geo_core.proofs.FiniteSets.Places.{All-slice_get, slice_get-append_cases}
+use Rattle.cell_tree.specs.Sizes.{size_of}
+use Rattle.cell_tree.specs.Additions.{IsBelowItself, MayCome, MayAllCome}
+use Rattle.cell_tree.specs.Arrivals.{IsExtended, IsSettled, MayBeSized}
 use Rattle.cell_tree.proofs.EditLaws.{user_is_deeper}
 use Rattle.cell_tree.proofs.FindLaws.{length-states}
 use Rattle.cell_tree.proofs.SizeLaws.{alike_refl}

@@ -1,13 +1,7 @@
 -- Whether a cell stands above another can be told.
-use Rattle.std.proofs.Common.{◌≡◌, ◌⊎◌, inl, inr, ℕ, zero, suc, ◌<◌, List, [], ◌∷◌, length, get_or, slice_get, Some, None, refl, sym, ap, subst, ◌∙◌, arith}
-use Rattle.std.proofs.lemmas.Bool.{cases_eq, cases_lt}
-use Rattle.std.proofs.lemmas.Option.{same_Some, slice_get_within, slice_get-get_or}
-use Rattle.geo_core.specs.FiniteSets.Chain.{stay, go}
-use Rattle.cell_tree.specs.declared.sizes.Size.{Size}
-use Rattle.cell_tree.specs.declared.use_tables.UseBody.{UseBody}
-use Rattle.cell_tree.specs.Sizes.{CellState, size_at}
-use Rattle.cell_tree.specs.Cells.{Uses, IsAbove}
-use Rattle.cell_tree.specs.Trials.{IsTried, AreLawfulCells, AreLawfulSizes}
+use Rattle.cell_tree.proofs.Common.{◌≡◌, ◌⊎◌, inl, inr, ℕ, zero, suc, ◌<◌, List, [], ◌∷◌, length, get_or, slice_get, Some, None, refl, sym, ap}
+use Rattle.cell_tree.proofs.Common.{subst, ◌∙◌, arith, cases_eq, cases_lt, same_Some, slice_get_within, slice_get-get_or, stay, go, Size, UseBody}
+use Rattle.cell_tree.proofs.Common.{CellState, size_at, Uses, IsAbove, IsTried, AreLawfulCells, AreLawfulSizes}
 use Rattle.cell_tree.proofs.EditLaws.{user_is_deeper, user_above, tried_exists}
 
 -- a use with a child of some kind

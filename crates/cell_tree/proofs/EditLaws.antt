@@ -1,18 +1,10 @@
 -- The sizes that cells have after an edit of one of them: there are such sizes, they are right, and they shrink where the cell does.
-use Rattle.std.proofs.Common.{◌≡◌, ◌≢◌, ◌⊎◌, inl, inr, ℕ, zero, suc, ◌+◌, ◌<◌, ◌≤◌, List, [], ◌∷◌, length, get_or, slice_set, slice_get, Option, Some, None, refl, sym, ap, subst, ◌∙◌, arith}
-use Rattle.std.proofs.lemmas.Bool.{cases_eq, cases_lt}
-use Rattle.std.proofs.lemmas.List.{get_or_past}
-use Rattle.std.proofs.lemmas.Option.{same_Some, slice_get_within, slice_get-get_or}
-use Rattle.geo_core.specs.FiniteSets.Chain.{stay, go}
-use Rattle.geo_core.proofs.FiniteSets.Places.{slice_get-set_same, slice_get-set_other}
-use Rattle.cell_tree.specs.declared.sizes.Dimension.{Dimension}
-use Rattle.cell_tree.specs.declared.sizes.Dimension.TheVariants.{Depth, Elements, Hull}
-use Rattle.cell_tree.specs.declared.sizes.Size.{Size}
-use Rattle.cell_tree.specs.declared.use_tables.UseBody.{UseBody}
-use Rattle.cell_tree.specs.Hulls.{IsInside}
-use Rattle.cell_tree.specs.Sizes.{CellState, size_at, size_of, no_size, IsWithin, AreSizes}
-use Rattle.cell_tree.specs.Cells.{Uses, IsAbove}
-use Rattle.cell_tree.specs.Trials.{IsTried, AreLawfulCells, AreLawfulSizes}
+use Rattle.cell_tree.proofs.Common.{◌≡◌, ◌≢◌, ◌⊎◌, inl, inr, ℕ, zero, suc, ◌+◌, ◌<◌, ◌≤◌, List, [], ◌∷◌, length, get_or, slice_set, slice_get}
+use Rattle.cell_tree.proofs.Common.{Option, Some, None, refl, sym, ap, subst, ◌∙◌, arith, cases_eq, cases_lt, get_or_past, same_Some}
+use Rattle.cell_tree.proofs.Common.{slice_get_within, slice_get-get_or, stay, go, slice_get-set_same, slice_get-set_other, Dimension, Depth}
+use Rattle.cell_tree.proofs.Common.{Elements, Hull, Size, UseBody, IsInside, CellState, size_at, no_size, IsWithin, AreSizes, Uses, IsAbove, IsTried}
+use Rattle.cell_tree.proofs.Common.{AreLawfulCells, AreLawfulSizes}
+use Rattle.cell_tree.specs.Sizes.{size_of}
 use Rattle.cell_tree.proofs.HullLaws.{inside_refl}
 use Rattle.cell_tree.proofs.SizeLaws.{size_of-same, child_is_lower}
 use Rattle.cell_tree.proofs.ShrinkLaws.{IsSmaller, IsUpright, AreAmong, among_all, size_of-smaller, smaller_within}

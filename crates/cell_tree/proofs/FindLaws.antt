@@ -1,15 +1,8 @@
 -- What a search for the cells above a cell begins with, and what it leaves.
-use Rattle.std.proofs.Common.{◌≡◌, inl, inr, ℕ, ◌-◌, ◌<◌, ◌≤◌, Bool, true, false, List, [], ◌∷◌, length, get_or, slice_index_or, slice_get, Some, ap, subst, ◌∙◌, arith}
-use Rattle.std.specs.Option.{option_map}
-use Rattle.std.proofs.lemmas.List.{length-map}
-use Rattle.std.proofs.lemmas.Option.{slice_get_within, slice_get-map, slice_get-get_or}
-use Rattle.geo_core.specs.FiniteSets.Chain.{stay, go}
-use Rattle.cell_tree.specs.declared.cells.TreeCell.{TreeCell}
-use Rattle.cell_tree.specs.declared.sizes.Dimension.TheVariants.{Depth}
-use Rattle.cell_tree.specs.declared.sizes.Size.{Size}
-use Rattle.cell_tree.specs.Cells.{state_of, states, Uses, IsAbove, KnowUsers}
-use Rattle.cell_tree.specs.Above.{IsReached, at, StandsIn, IsSeen, unseen, ComesAfterUsers, IsRanked, Adds, EndsWith}
-use Rattle.cell_tree.specs.Books.{ListsAbove, AreLawful}
+use Rattle.cell_tree.proofs.Common.{◌≡◌, inl, inr, ℕ, ◌-◌, ◌<◌, ◌≤◌, Bool, true, false, List, [], ◌∷◌, length, get_or, slice_index_or, slice_get}
+use Rattle.cell_tree.proofs.Common.{Some, ap, subst, ◌∙◌, arith, option_map, length-map, slice_get_within, slice_get-map, slice_get-get_or, stay, go}
+use Rattle.cell_tree.proofs.Common.{TreeCell, Depth, Size, state_of, states, Uses, IsAbove, KnowUsers, IsReached, at, StandsIn, IsSeen, unseen}
+use Rattle.cell_tree.proofs.Common.{ComesAfterUsers, IsRanked, Adds, EndsWith, ListsAbove, AreLawful}
 use Rattle.cell_tree.proofs.AboveLaws.{above_iff}
 use Rattle.cell_tree.proofs.EditLaws.{user_is_deeper}
 use Rattle.cell_tree.proofs.TryLaws.{IsOrder}

@@ -1,18 +1,9 @@
 -- The uses of cells as a graph.
-use Rattle.std.proofs.Common.{◌≡◌, inl, inr, ℕ, zero, suc, ◌<◌, List, [], ◌∷◌, map, length, get_or, slice_index, slice_get, Some, refl, sym, ap, subst, ◌∙◌, arith}
-use Rattle.std.specs.Option.{option_map}
-use Rattle.std.proofs.lemmas.List.{length-map}
-use Rattle.std.proofs.lemmas.Option.{same_Some}
-use Rattle.geo_core.specs.FiniteSets.Lists.{In}
-use Rattle.use_orders.specs.Uses.{used_by, UsesCell, AreCells, IsAcyclicBelow}
+use Rattle.cell_tree.proofs.Common.{◌≡◌, inl, inr, ℕ, zero, suc, ◌<◌, List, [], ◌∷◌, map, length, get_or, slice_index, slice_get, Some, refl, sym}
+use Rattle.cell_tree.proofs.Common.{ap, subst, ◌∙◌, arith, option_map, length-map, same_Some, In, AreCells, IsAcyclicBelow, TreeCell, Size, UseBody}
+use Rattle.cell_tree.proofs.Common.{CellState, size_at, state_of, states, Uses, AreLawfulCells, AreLawfulSizes, children_of}
+use Rattle.use_orders.specs.Uses.{used_by, UsesCell}
 use Rattle.use_orders.proofs.Acyclic.{acyclic_by_rank}
-use Rattle.cell_tree.specs.declared.cells.TreeCell.{TreeCell}
-use Rattle.cell_tree.specs.declared.sizes.Size.{Size}
-use Rattle.cell_tree.specs.declared.use_tables.UseBody.{UseBody}
-use Rattle.cell_tree.specs.Sizes.{CellState, size_at}
-use Rattle.cell_tree.specs.Cells.{state_of, states, Uses}
-use Rattle.cell_tree.specs.Trials.{AreLawfulCells, AreLawfulSizes}
-use Rattle.cell_tree.specs.Additions.{children_of}
 use Rattle.cell_tree.proofs.EditLaws.{user_is_deeper}
 use Rattle.cell_tree.proofs.FindLaws.{state_read}
 

@@ -1,31 +1,20 @@
 -- The smallest rectangles round lists of rectangles, and round the elements of a grid.
-use Rattle.std.proofs.Common.{◌≡◌, inl, inr, ℕ, suc, ◌+◌, ◌*◌, ◌<◌, ◌≤◌, Bool, true, false, cond, ℤ, pos, negsuc, ◌+ℤ◌, ◌-ℤ◌, ◌*ℤ◌, ◌≤ℤ◌}
-use Rattle.std.proofs.Common.{List, [], ◌∷◌, ◌++◌, map, Option, Some, None, refl, sym, ap, subst, ◌∙◌, arith}
-use Rattle.std.proofs.lemmas.Int.{ints, clamps}
-use Rattle.std.proofs.Math.Nat.{mul-le-mul_right}
+use Rattle.cell_tree.proofs.Common.{◌≡◌, inl, inr, ℕ, suc, ◌+◌, ◌*◌, ◌<◌, ◌≤◌, Bool, true, false, ℤ, ◌≤ℤ◌, List, [], ◌∷◌, ◌++◌, map, Option, Some}
+use Rattle.cell_tree.proofs.Common.{None, refl, sym, ap, subst, ◌∙◌, arith, ints, clamps, mul-le-mul_right, int_min, int_max, In, Grid, Orient, R0}
+use Rattle.cell_tree.proofs.Common.{Rect, Transform, rect_is, transform_of, UseBody, displacements, displaced, element_hulls, round_both, round_all}
+use Rattle.cell_tree.proofs.Common.{way_of, spread_area, IsInside}
+use Rattle.std.proofs.Common.{cond, pos, negsuc, ◌+ℤ◌, ◌-ℤ◌, ◌*ℤ◌}
 use Rattle.std.specs.Prelude.{int_lt}
-use Rattle.std.specs.Int.{int_min, int_max}
 use Rattle.std.specs.Int.RustNames.{unsigned_abs}
-use Rattle.geo_core.specs.FiniteSets.Lists.{In}
 use Rattle.geo_core.specs.FiniteSets.Range.{integer_range, pairs_of, IsBetween}
 use Rattle.geo_core.proofs.FiniteSets.Members.{In-map, In-map_source}
 use Rattle.geo_core.proofs.FiniteSets.Ranges.{Lists-rectangle}
 use Rattle.geo_core.proofs.FiniteSets.Places.{In-slice_get}
-use Rattle.geo_core.specs.declared.grids.Grid.{Grid}
-use Rattle.geo_core.specs.declared.orients.Orient.{Orient}
-use Rattle.geo_core.specs.declared.orients.Orient.TheVariants.{R0}
-use Rattle.geo_core.specs.declared.squares.Rect.{Rect}
-use Rattle.geo_core.specs.declared.transforms.Transform.{Transform}
 use Rattle.geo_core.specs.Areas.{joined_rect, LiesWithin}
 use Rattle.geo_core.specs.Elements.{element_of, elements_of}
 use Rattle.geo_core.specs.Images.{rect_image}
-use Rattle.geo_core.proofs.SquareLaws.{rect_is}
 use Rattle.geo_core.proofs.CoveringLaws.{joined_within, within_trans, within_antisym, within_joined_first, within_joined_second}
-use Rattle.geo_core.proofs.ImageLaws.{transform_of}
 use Rattle.geo_core.proofs.ElementLaws.{columns, rows, elements_of-at}
-use Rattle.cell_tree.specs.declared.use_tables.UseBody.{UseBody}
-use Rattle.cell_tree.specs.Uses.{displacements}
-use Rattle.cell_tree.specs.Hulls.{displaced, element_hulls, round_both, round_all, way_of, spread_area, IsInside}
 
 within_refl : (a : Rect) → LiesWithin a a
 within_refl a = record {

@@ -1,3 +1,4 @@
+mod Common
 pub mod HullLaws
 pub mod SizeLaws
 pub mod ShrinkLaws

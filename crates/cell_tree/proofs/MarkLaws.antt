@@ -1,9 +1,5 @@
 -- Going over an order from its start on: which cells are still ahead.
-use Rattle.std.proofs.Common.{◌≡◌, ℕ, ◌<◌, ◌≤◌, List, length, arith}
-use Rattle.std.proofs.lemmas.List.{ext_get_or}
-use Rattle.cell_tree.specs.declared.sizes.Size.{Size}
-use Rattle.cell_tree.specs.Sizes.{size_at, no_size}
-use Rattle.cell_tree.specs.Above.{at, StandsIn}
+use Rattle.cell_tree.proofs.Common.{◌≡◌, ℕ, ◌<◌, ◌≤◌, List, length, arith, ext_get_or, Size, size_at, no_size, at, StandsIn}
 
 -- The cell stands in the order from this place on.
 pub record StandsFrom (order : List ℕ) (start key : ℕ) : Type 0 where

@@ -1,22 +1,17 @@
 -- The order of cells that come, and the first cell that stands below itself.
-use Rattle.std.proofs.Common.{inl, inr, ℕ, ◌<◌, ◌≤◌, List, take, sym, ◌∙◌, arith}
-use Rattle.std.proofs.lemmas.Bool.{cases_lt}
+use Rattle.cell_tree.proofs.Common.{inl, inr, ℕ, ◌<◌, ◌≤◌, List, take, sym, ◌∙◌, arith, cases_lt, In, CellState, Uses, IsAbove, at, StandsBefore}
+use Rattle.cell_tree.proofs.Common.{children_of, IsNewOrder}
 use Rattle.std.proofs.lemmas.List.{length-take, get_or-take}
 use Rattle.geo_core.specs.FiniteSets.Chain.{Chain}
 use Rattle.geo_core.specs.FiniteSets.Chain.Chain.{stay, go}
 use Rattle.geo_core.specs.FiniteSets.Least.{IsLeast}
-use Rattle.geo_core.specs.FiniteSets.Lists.{In}
 use Rattle.geo_core.proofs.FiniteSets.Chains.{Chain-push}
 use Rattle.geo_core.proofs.FiniteSets.Distincts.{Distinct-places}
 use Rattle.geo_core.proofs.FiniteSets.Members.{In-get_or, In-index}
 use Rattle.use_orders.specs.NewCells.{IsOwnDescendant, IsChildrenFirst}
 use Rattle.use_orders.specs.Uses.{UsesCell, UsesNewCell}
 use Rattle.use_orders.proofs.Acyclic.{own_by_new}
-use Rattle.cell_tree.specs.Sizes.{CellState}
-use Rattle.cell_tree.specs.Cells.{Uses, IsAbove}
-use Rattle.cell_tree.specs.Above.{at, StandsBefore}
-use Rattle.cell_tree.specs.Additions.{children_of, IsBelowItself, IsFirstBelowItself}
-use Rattle.cell_tree.specs.Arrivals.{IsNewOrder}
+use Rattle.cell_tree.specs.Additions.{IsBelowItself, IsFirstBelowItself}
 use Rattle.cell_tree.proofs.GraphLaws.{graph_uses, uses_graph, length-children_of}
 
 -- what stands in the front of an order stands before a place of it

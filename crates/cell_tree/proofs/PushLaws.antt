@@ -1,18 +1,10 @@
 -- Cells that are put behind those that were there.
-use Rattle.std.proofs.Common.{◌≡◌, inl, inr, ℕ, zero, suc, ◌<◌, ◌≤◌, List, [], ◌∷◌, ◌++◌, length, map, slice_get, Some, None, refl, sym, ap, subst, ◌∙◌, arith, Contains}
-use Rattle.std.specs.Option.{option_map_or}
-use Rattle.std.proofs.lemmas.Bool.{cases_eq, cases_lt}
-use Rattle.std.proofs.lemmas.List.{append-nil, append_assoc, length-append, map_push}
-use Rattle.std.proofs.lemmas.Option.{slice_get_within, slice_get_past}
-use Rattle.geo_core.specs.FiniteSets.Lists.{In}
-use Rattle.geo_core.proofs.FiniteSets.Places.{slice_get-push_cases, slice_get-append_left, slice_get-append_front, slice_get-push_new}
-use Rattle.cell_tree.specs.declared.cells.TreeCell.{TreeCell}
-use Rattle.cell_tree.specs.declared.use_tables.UseBody.{UseBody}
-use Rattle.cell_tree.specs.Uses.{HasIdAt}
-use Rattle.cell_tree.specs.Sizes.{CellState}
-use Rattle.cell_tree.specs.Cells.{state_of, states, users_of, Uses, KnowUsers}
-use Rattle.cell_tree.specs.Above.{IsUserOf}
-use Rattle.cell_tree.specs.Arrivals.{AreBehind, HaveOwnIds, IsKeptAs}
+use Rattle.cell_tree.proofs.Common.{◌≡◌, inl, inr, ℕ, zero, suc, ◌<◌, ◌≤◌, List, [], ◌∷◌, ◌++◌, length, map, slice_get, Some, None, refl, sym, ap}
+use Rattle.cell_tree.proofs.Common.{subst, ◌∙◌, arith, Contains, option_map_or, cases_eq, cases_lt, length-append, slice_get_within, slice_get_past}
+use Rattle.cell_tree.proofs.Common.{In, slice_get-push_cases, slice_get-append_left, slice_get-append_front, slice_get-push_new, TreeCell, UseBody}
+use Rattle.cell_tree.proofs.Common.{HasIdAt, CellState, state_of, states, users_of, Uses, KnowUsers, IsUserOf, AreBehind, HaveOwnIds}
+use Rattle.std.proofs.lemmas.List.{append-nil, append_assoc, map_push}
+use Rattle.cell_tree.specs.Arrivals.{IsKeptAs}
 use Rattle.cell_tree.proofs.FindLaws.{length-states}
 
 stands_later : (xs ys : List (List ℕ × UseBody)) (x : List ℕ × UseBody) → In x.0 (map (λ entry. entry.0) (xs ++ x ∷ ys))

@@ -1,22 +1,13 @@
 -- Sizes shrink where own boxes, children and uses do.
-use Rattle.std.proofs.Common.{◌≡◌, ℕ, zero, suc, ◌≤◌, ℤ, ◌≤ℤ◌, List, [], ◌∷◌, ◌++◌, take, drop, length, map, Option, Some, None, refl, sym, subst, arith}
+use Rattle.cell_tree.proofs.Common.{◌≡◌, ℕ, zero, suc, ◌≤◌, ℤ, ◌≤ℤ◌, List, [], ◌∷◌, ◌++◌, take, drop, length, map, Option, Some, None, refl, sym}
+use Rattle.cell_tree.proofs.Common.{subst, arith, option_to_list, ints, clamps, Orient, R0, Rect, transform_of, Dimension, Depth, Elements, Hull}
+use Rattle.cell_tree.proofs.Common.{Size, UseBody, displacements, displaced, element_hulls, round_both, round_all, IsInside, IsPaintable, CellState}
+use Rattle.cell_tree.proofs.Common.{IsWithin, IsHullInRange}
 use Rattle.std.specs.Prelude.{slice_get}
-use Rattle.std.specs.Option.{option_to_list}
 use Rattle.std.proofs.Math.Nat.{mul-le-mul_left}
-use Rattle.std.proofs.lemmas.Int.{ints, clamps}
-use Rattle.geo_core.specs.declared.orients.Orient.{Orient}
-use Rattle.geo_core.specs.declared.orients.Orient.TheVariants.{R0}
-use Rattle.geo_core.specs.declared.squares.Rect.{Rect}
-use Rattle.geo_core.proofs.ImageLaws.{transform_of}
 use Rattle.geo_core.specs.Areas.{LiesWithin}
 use Rattle.geo_core.specs.Images.{rect_image}
-use Rattle.cell_tree.specs.declared.sizes.Dimension.{Dimension}
-use Rattle.cell_tree.specs.declared.sizes.Dimension.TheVariants.{Depth, Elements, Hull}
-use Rattle.cell_tree.specs.declared.sizes.Size.{Size}
-use Rattle.cell_tree.specs.declared.use_tables.UseBody.{UseBody}
-use Rattle.cell_tree.specs.Uses.{displacements}
-use Rattle.cell_tree.specs.Hulls.{displaced, element_hulls, round_both, round_all, IsInside, IsPaintable}
-use Rattle.cell_tree.specs.Sizes.{CellState, size_of, hulls_below, elements_below, depth_below, IsWithin, IsHullInRange}
+use Rattle.cell_tree.specs.Sizes.{size_of, hulls_below, elements_below, depth_below}
 use Rattle.cell_tree.proofs.HullLaws.{image_within, inside_trans, inside_right, inside_each, inside_maps, round_all-append}
 
 -- The box, if there is one, is not turned inside out.

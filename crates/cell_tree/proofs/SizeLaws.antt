@@ -1,20 +1,12 @@
 -- What a size rests on, and how it grows use by use.
-use Rattle.std.proofs.Common.{◌≡◌, ℕ, zero, suc, ◌+◌, ◌*◌, ◌-◌, ◌<◌, ◌≤◌, max, List, [], ◌∷◌, ◌++◌, take, drop, length, Option, Some, None, refl, sym, ap, subst, ◌∙◌, arith}
-use Rattle.std.specs.Prelude.{slice_get, insert}
-use Rattle.std.specs.Option.{option_map, option_to_list}
+use Rattle.cell_tree.proofs.Common.{◌≡◌, ℕ, zero, suc, ◌+◌, ◌*◌, ◌-◌, ◌<◌, ◌≤◌, max, List, [], ◌∷◌, ◌++◌, take, drop, length, Option, Some, None}
+use Rattle.cell_tree.proofs.Common.{refl, sym, ap, subst, ◌∙◌, arith, insert, option_map, option_to_list, mul-le-mul_right, same_Some, Rect}
+use Rattle.cell_tree.proofs.Common.{Dimension, Depth, Elements, Hull, Size, UseBody, displacements, with_use_at, element_hulls, round_both}
+use Rattle.cell_tree.proofs.Common.{round_all, CellState, grown, AreAlike, IsWithin, IsHullInRange}
+use Rattle.std.specs.Prelude.{slice_get}
 use Rattle.std.proofs.lemmas.List.{take_all, length-drop, take-append-drop}
-use Rattle.std.proofs.Math.Nat.{mul-le-mul_right}
-use Rattle.std.proofs.lemmas.Option.{same_Some}
-use Rattle.geo_core.specs.declared.squares.Rect.{Rect}
 use Rattle.cell_tree.specs.declared.limits.TheConstants.{MOST_DEPTH, MOST_ELEMENTS_BELOW}
-use Rattle.cell_tree.specs.declared.sizes.Dimension.{Dimension}
-use Rattle.cell_tree.specs.declared.sizes.Dimension.TheVariants.{Depth, Elements, Hull}
-use Rattle.cell_tree.specs.declared.sizes.Size.{Size}
-use Rattle.cell_tree.specs.declared.use_tables.UseBody.{UseBody}
-use Rattle.cell_tree.specs.Uses.{displacements, with_use_at}
-use Rattle.cell_tree.specs.Hulls.{element_hulls, round_both, round_all}
-use Rattle.cell_tree.specs.Sizes.{CellState, size_of, added, with_use, grown, own_size, hulls_below, elements_below, depth_below}
-use Rattle.cell_tree.specs.Sizes.{AreAlike, IsWithin, IsHullInRange}
+use Rattle.cell_tree.specs.Sizes.{size_of, added, with_use, own_size, hulls_below, elements_below, depth_below}
 use Rattle.cell_tree.proofs.HullLaws.{round_both_assoc, round_both_none, round_both_swap, round_all-append}
 
 -- sizes of equal parts are equal

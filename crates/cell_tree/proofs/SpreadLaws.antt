@@ -1,18 +1,15 @@
 -- How far the elements of a grid go: the numbers that are computed fit.
-use Rattle.std.proofs.Common.{◌≡◌, ◌↔◌, Bool, IsTrue, ℕ, suc, ◌*◌, ◌≤◌, ℤ, pos, negsuc, neg_ℤ, ◌+ℤ◌, ◌-ℤ◌, ◌*ℤ◌, ◌≤ℤ◌, ◌<ℤ◌, to_z, of_z, w64, FitsSigned, sym, ap, subst, ◌∙◌, arith}
-use Rattle.std.proofs.lemmas.Int.{ints, clamps, to_z-of_z, to_z_pos}
-use Rattle.std.proofs.Math.Nat.{mul-le-mul_right}
-use Rattle.std.specs.Int.{int_min, int_max, w32}
+use Rattle.cell_tree.proofs.Common.{◌≡◌, ◌↔◌, Bool, ℕ, suc, ◌*◌, ◌≤◌, ℤ, ◌≤ℤ◌, sym, ap, subst, ◌∙◌, arith, ints, clamps, mul-le-mul_right, int_min}
+use Rattle.cell_tree.proofs.Common.{int_max, Grid, Rect, rect_is, IsShift, IsLawfulGrid, IsPaintable, way_of, spread_area}
+use Rattle.std.proofs.Common.{IsTrue, pos, negsuc, neg_ℤ, ◌+ℤ◌, ◌-ℤ◌, ◌*ℤ◌, ◌<ℤ◌, to_z, of_z, w64, FitsSigned}
+use Rattle.std.proofs.lemmas.Int.{to_z-of_z, to_z_pos}
+use Rattle.std.specs.Int.{w32}
 use Rattle.std.specs.Int.RustNames.{unsigned_abs}
 use Rattle.geo_core.specs.declared.limits.TheConstants.{MOST_ELEMENTS, REACH}
-use Rattle.geo_core.specs.declared.grids.Grid.{Grid}
-use Rattle.geo_core.specs.declared.squares.Rect.{Rect}
 use Rattle.geo_core.specs.Elements.{indices}
 use Rattle.geo_core.specs.Reach.{SpansInReach}
-use Rattle.geo_core.proofs.SquareLaws.{rect_is}
 use Rattle.cell_tree.specs.declared.limits.TheConstants.{SPREAD_EDGE}
-use Rattle.cell_tree.specs.Uses.{IsShift, IsLawfulGrid}
-use Rattle.cell_tree.specs.Hulls.{IsPaintable, SpansInRange, way_of, spread_area}
+use Rattle.cell_tree.specs.Hulls.{SpansInRange}
 
 -- a number on its way through 64 bits
 abbrev pub kept : ℤ → ℤ

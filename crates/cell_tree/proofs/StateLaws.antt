@@ -1,34 +1,23 @@
 -- Which states a cell may take: with one more use, with a use placed otherwise, and with one use less.
-use Rattle.std.proofs.Common.{◌≡◌, ◌≢◌, ◌⊎◌, ◌↔◌, inl, inr, ℕ, zero, suc, ◌<◌, ◌≤◌, List, [], ◌∷◌, ◌++◌, length, map, take, drop, max, get_or, slice_get, insert, Option, Some, refl, Contains, sym, ap, subst, ◌∙◌, arith}
+use Rattle.cell_tree.proofs.Common.{◌≡◌, ◌≢◌, ◌⊎◌, ◌↔◌, inl, inr, ℕ, zero, suc, ◌<◌, ◌≤◌, List, [], ◌∷◌, ◌++◌, length, map, take, drop, max, get_or}
+use Rattle.cell_tree.proofs.Common.{slice_get, Option, Some, refl, Contains, sym, ap, subst, ◌∙◌, arith, same_Some, In, Grid, Transform, TreeCell}
+use Rattle.cell_tree.proofs.Common.{MOST_USES, SizeBook, UseBody, HasChild, HasIdAt, IsShift, IsLawfulGrid, IsLawfulUse, with_use_at, Passed}
+use Rattle.cell_tree.proofs.Common.{Dimension, Depth, Elements, Hull, Size, CellState, size_at, AreUsesBelow, IsReady, SaysTheSame, AreLawful}
+use Rattle.cell_tree.proofs.Common.{IsUserOf, AreUsersKept, WouldPassFirst, state_of, states, users_of, Uses, IsAbove, Tree, cell_at, with_inserted}
+use Rattle.cell_tree.proofs.Common.{with_moved, with_use_set, with_uses, without_use, IsLawfulTree, RefusesMove, WouldPass, tree_of, IsWhole}
+use Rattle.cell_tree.proofs.Common.{option_map}
+use Rattle.std.proofs.Common.{insert}
 use Rattle.std.proofs.lemmas.List.Edits.{length-insert}
-use Rattle.std.proofs.lemmas.Option.{same_Some}
-use Rattle.geo_core.specs.FiniteSets.Lists.{In, Distinct}
-use Rattle.geo_core.specs.declared.grids.Grid.{Grid}
-use Rattle.geo_core.specs.declared.transforms.Transform.{Transform}
-use Rattle.cell_tree.specs.declared.cells.TreeCell.{TreeCell}
-use Rattle.cell_tree.specs.declared.limits.TheConstants.{MOST_USES}
-use Rattle.cell_tree.specs.declared.size_books.SizeBook.{SizeBook}
-use Rattle.cell_tree.specs.declared.use_tables.UseBody.{UseBody}
-use Rattle.cell_tree.specs.Uses.{HasChild, HasIdAt, IsShift, IsLawfulGrid, IsLawfulUse, with_use_at, moved_at}
+use Rattle.geo_core.specs.FiniteSets.Lists.{Distinct}
+use Rattle.cell_tree.specs.Uses.{moved_at}
 use Rattle.ext_model.specs.declared.tables.CellKey.{CellKey}
-use Rattle.cell_tree.specs.declared.faults.TreeFault.TheVariants.{Passed}
-use Rattle.cell_tree.specs.declared.sizes.Dimension.{Dimension}
-use Rattle.cell_tree.specs.declared.sizes.Dimension.TheVariants.{Depth, Elements, Hull}
-use Rattle.cell_tree.specs.declared.sizes.Size.{Size}
-use Rattle.cell_tree.specs.Sizes.{CellState, size_at, size_of, with_use, depth_below, AreUsesBelow}
-use Rattle.cell_tree.specs.Books.{IsReady, SaysTheSame, AreLawful}
-use Rattle.cell_tree.specs.Above.{IsUserOf}
-use Rattle.cell_tree.specs.steps.Edits.{AreUsersKept}
-use Rattle.cell_tree.specs.steps.Passes.{WouldPassFirst}
-use Rattle.cell_tree.specs.Cells.{state_of, states, users_of, Uses, IsAbove}
-use Rattle.cell_tree.specs.Trees.{Tree, cell_at, with_inserted, with_moved, with_use_set, with_uses, without_use, IsFree, IsLawfulTree, RefusesMove, WouldPass}
-use Rattle.cell_tree.specs.Whole.{tree_of, IsWhole}
+use Rattle.cell_tree.specs.Sizes.{size_of, with_use, depth_below}
+use Rattle.cell_tree.specs.Trees.{IsFree}
 use Rattle.cell_tree.proofs.EditLaws.{child_is_not_above}
 use Rattle.cell_tree.proofs.FindLaws.{length-states}
 use Rattle.cell_tree.proofs.ShrinkLaws.{AreAmong, none, both, skip, among_all, among_removed}
 use Rattle.cell_tree.proofs.SizeLaws.{size_of-inserted, body_at}
 use Rattle.cell_tree.proofs.CellLaws.{cell_at-states}
-use Rattle.std.specs.Option.{option_map}
 use Rattle.cell_tree.proofs.WholeLaws.{IsLawfulState, cell_is, would_pass}
 use Rattle.cell_tree.proofs.TreeLaws.{never_passes}
 

@@ -1,14 +1,8 @@
 -- One step of a trial in one dimension.
-use Rattle.std.proofs.Common.{◌≡◌, ◌≢◌, inl, inr, ℕ, ◌+◌, ◌-◌, ◌<◌, ◌≤◌, List, [], length, get_or, slice_get, Some, None, refl, sym, ap, subst, ◌∙◌, arith}
-use Rattle.std.proofs.lemmas.Bool.{cases_eq}
-use Rattle.std.proofs.lemmas.Option.{slice_get-get_or}
-use Rattle.cell_tree.specs.declared.sizes.Dimension.{Dimension}
-use Rattle.cell_tree.specs.declared.sizes.Size.{Size}
-use Rattle.cell_tree.specs.Sizes.{CellState, size_at, size_of, IsWithin, AreChildrenWithin}
-use Rattle.cell_tree.specs.Cells.{Uses}
-use Rattle.cell_tree.specs.Above.{at, StandsBefore}
-use Rattle.cell_tree.specs.Trials.{AreSettledBut, SetsDimension, IsDone, StopsIn}
-use Rattle.cell_tree.specs.steps.Passes.{IsPass}
+use Rattle.cell_tree.proofs.Common.{◌≡◌, ◌≢◌, inl, inr, ℕ, ◌+◌, ◌-◌, ◌<◌, ◌≤◌, List, [], length, get_or, slice_get, Some, None, refl, sym, ap, subst}
+use Rattle.cell_tree.proofs.Common.{◌∙◌, arith, cases_eq, slice_get-get_or, Dimension, Size, CellState, size_at, IsWithin, Uses, at, StandsBefore}
+use Rattle.cell_tree.proofs.Common.{AreSettledBut, SetsDimension, IsDone, StopsIn, IsPass}
+use Rattle.cell_tree.specs.Sizes.{size_of, AreChildrenWithin}
 use Rattle.cell_tree.proofs.SizeLaws.{alike_refl, alike_trans}
 use Rattle.cell_tree.proofs.TrialLaws.{settled-set, set_other, set_apart}
 use Rattle.cell_tree.proofs.TryLaws.{IsOrder}

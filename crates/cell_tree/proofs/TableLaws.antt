@@ -1,7 +1,9 @@
 -- Tables of uses: what a look-up by an id finds, and what an edit of the map makes of the uses.
-use Rattle.std.proofs.Common.{◌≡◌, inl, inr, ℕ, zero, suc, ◌≤◌, Bool, true, eqb, true≢false, length, arith, List, [], ◌∷◌, ◌++◌, take, drop, map, Some, None, refl, sym, ap, subst, ◌∙◌, Vec, Global}
-use Rattle.std.specs.Prelude.{slice_get, insert, remove, Option, Result, Ok, Err, IsOk, IsSome, IfOk, OnOk, OnErr, IfErr}
-use Rattle.std.specs.Option.{option_map}
+use Rattle.cell_tree.proofs.Common.{◌≡◌, inl, inr, ℕ, zero, suc, ◌≤◌, Bool, true, length, arith, List, [], ◌∷◌, ◌++◌, take, drop, map, Some, None}
+use Rattle.cell_tree.proofs.Common.{refl, sym, ap, subst, ◌∙◌, Vec, Global, insert, remove, option_map, cases_Bool, same_Some, slice_get-map}
+use Rattle.cell_tree.proofs.Common.{length-map, UseBody, HasIdAt, with_use_at}
+use Rattle.std.proofs.Common.{eqb, true≢false}
+use Rattle.std.specs.Prelude.{slice_get, Option, Result, Ok, Err, IsOk, IsSome, IfOk, OnOk, OnErr, IfErr}
 use Rattle.std.specs.Cmp.Lexicographic.{pointwise, bytes_decides}
 use Rattle.std.specs.List.{position_or_len}
 use Rattle.std.specs.Map.{lookup, lookup_key, keys_of}
@@ -9,11 +11,8 @@ use Rattle.indexmap.specs.IndexMap.{insert_entry, move_index, set_value_at}
 use Rattle.indexmap.proofs.MapLemmas.{absent_from_lookup, insert_entry-absent, or_len-absent}
 use Rattle.indexmap.proofs.MoveLemmas.{push_moved}
 use Rattle.indexmap.proofs.SetLemmas.{map-insert}
-use Rattle.std.proofs.lemmas.Bool.{cases_Bool}
-use Rattle.std.proofs.lemmas.Option.{same_Some, slice_get-map, none-some}
-use Rattle.std.proofs.lemmas.List.{length-map, map-append, take-map, drop-map}
-use Rattle.cell_tree.specs.declared.use_tables.UseBody.{UseBody}
-use Rattle.cell_tree.specs.Uses.{HasIdAt, with_use_at}
+use Rattle.std.proofs.lemmas.Option.{none-some}
+use Rattle.std.proofs.lemmas.List.{map-append, take-map, drop-map}
 
 -- where the clause of a value holds and there is one, what it says
 pub on_ok : {A E : Type 0} (r : Result A E) (P : Type 0) → IsOk r → OnOk r P → P

@@ -1,19 +1,10 @@
 -- The users that cells know, while those that come are told to their children or forgotten.
-use Rattle.std.proofs.Common.{◌≡◌, ◌≢◌, ◌⊎◌, ◌↔◌, inl, inr, ℕ, suc, ◌+◌, ◌<◌, ◌≤◌, false, List, length, slice_get, Some, refl, sym, ap, subst, ◌∙◌, arith, Contains}
-use Rattle.std.specs.Prelude.{nat_eq, if◌then◌else◌}
-use Rattle.std.proofs.lemmas.Bool.{cases_eq, cases_lt, eqb-true, eq-eqb, ne_eqb, both_ways}
-use Rattle.std.proofs.lemmas.Option.{same_Some, slice_get_within}
-use Rattle.indexmap.specs.IndexSet.{insert_key}
+use Rattle.cell_tree.proofs.Common.{◌≡◌, ◌≢◌, ◌⊎◌, ◌↔◌, inl, inr, ℕ, suc, ◌+◌, ◌<◌, ◌≤◌, false, List, length, slice_get, Some, refl, sym, ap, subst}
+use Rattle.cell_tree.proofs.Common.{◌∙◌, arith, Contains, nat_eq, if◌then◌else◌, cases_eq, cases_lt, eqb-true, eq-eqb, ne_eqb, both_ways, same_Some}
+use Rattle.cell_tree.proofs.Common.{slice_get_within, insert_key, TreeCell, UseBody, CellState, states, users_of, Uses, IsUserOf, cell_at}
+use Rattle.cell_tree.proofs.Common.{AreLawfulCells, AreUsersKept, knows, KnowUsersTo}
 use Rattle.indexmap.proofs.CallerLemmas.{Contains-insert_key}
-use Rattle.cell_tree.specs.declared.cells.TreeCell.{TreeCell}
-use Rattle.cell_tree.specs.declared.use_tables.UseBody.{UseBody}
-use Rattle.cell_tree.specs.Sizes.{CellState}
-use Rattle.cell_tree.specs.Cells.{states, users_of, Uses}
-use Rattle.cell_tree.specs.Above.{IsUserOf}
-use Rattle.cell_tree.specs.Trees.{cell_at}
-use Rattle.cell_tree.specs.Trials.{AreLawfulCells}
-use Rattle.cell_tree.specs.steps.Edits.{AreUsersKept, knows}
-use Rattle.cell_tree.specs.Arrivals.{AreForgotten, ChildIs, KnowUsersFrom, KnowUsersTo}
+use Rattle.cell_tree.specs.Arrivals.{AreForgotten, ChildIs, KnowUsersFrom}
 use Rattle.cell_tree.proofs.FindLaws.{length-states}
 use Rattle.cell_tree.proofs.UserLaws.{knows_contains, contains_knows, insert_rest, insert_more}
 use Rattle.cell_tree.proofs.WholeLaws.{cell_is}

@@ -1,29 +1,14 @@
 -- What the calls of a tree show of it.
-use Rattle.std.proofs.Common.{◌≡◌, ◌≢◌, ◌↔◌, ◌<◌, ℕ, List, length, slice_set, slice_get, Option, Some, None, refl, ap, sym, subst, ◌∙◌, arith}
-use Rattle.geo_core.specs.declared.squares.Rect.{Rect}
-use Rattle.cell_tree.specs.declared.cells.TreeCell.{TreeCell}
-use Rattle.cell_tree.specs.declared.faults.TreeFault.TheVariants.{Passed}
-use Rattle.cell_tree.specs.declared.size_books.SizeBook.{SizeBook}
-use Rattle.cell_tree.specs.declared.sizes.Dimension.{Dimension}
-use Rattle.cell_tree.specs.declared.sizes.Dimension.TheVariants.{Depth, Elements, Hull}
-use Rattle.cell_tree.specs.declared.sizes.Size.{Size}
-use Rattle.cell_tree.specs.Uses.{HasChild}
-use Rattle.cell_tree.specs.Hulls.{IsInside}
-use Rattle.cell_tree.specs.Sizes.{CellState, size_at, size_of, IsWithin}
-use Rattle.cell_tree.specs.Cells.{states, users_of}
-use Rattle.cell_tree.specs.Trials.{FitsIn}
-use Rattle.cell_tree.specs.Trees.{cell_at, with_own, IsLawfulOwn, IsEdited, RefusesBox}
-use Rattle.cell_tree.specs.Books.{IsReady, IsBooked}
-use Rattle.cell_tree.specs.Whole.{tree_of, IsWhole}
-use Rattle.cell_tree.specs.steps.Edits.{AreUsersKept, AreUsersBut}
-use Rattle.cell_tree.specs.steps.Passes.{WouldPassFirst}
+use Rattle.cell_tree.proofs.Common.{◌≡◌, ◌≢◌, ◌↔◌, ◌<◌, ℕ, List, length, slice_set, slice_get, Option, Some, None, refl, ap, sym, subst, ◌∙◌, arith}
+use Rattle.cell_tree.proofs.Common.{Rect, TreeCell, Passed, SizeBook, Dimension, Depth, Elements, Hull, Size, HasChild, IsInside, CellState, size_at}
+use Rattle.cell_tree.proofs.Common.{IsWithin, states, users_of, FitsIn, cell_at, with_own, IsEdited, RefusesBox, IsReady, IsBooked, tree_of, IsWhole}
+use Rattle.cell_tree.proofs.Common.{AreUsersKept, AreUsersBut, WouldPassFirst, length-set, same_Some, slice_get-set_same}
+use Rattle.cell_tree.specs.Sizes.{size_of}
+use Rattle.cell_tree.specs.Trees.{IsLawfulOwn}
 use Rattle.cell_tree.proofs.SizeLaws.{size_is}
 use Rattle.cell_tree.proofs.ShrinkLaws.{IsUpright, IsSmaller, AreAmong}
 use Rattle.cell_tree.proofs.EditLaws.{child_is_not_above, shrunk_within, smaller_keeps}
 use Rattle.cell_tree.proofs.DecideLaws.{would_have}
-use Rattle.std.proofs.lemmas.List.{length-set}
-use Rattle.std.proofs.lemmas.Option.{same_Some}
-use Rattle.geo_core.proofs.FiniteSets.Places.{slice_get-set_same}
 use Rattle.cell_tree.proofs.FindLaws.{length-states}
 use Rattle.cell_tree.proofs.WholeLaws.{IsLawfulState, IsChange, cell_is, kept_users, changed_users, whole_again, would_pass}
 

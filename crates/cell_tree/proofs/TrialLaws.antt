@@ -1,16 +1,10 @@
 -- Sizes that are worked out in an order in which each cell comes after its users, from its end on; and the sizes that the cells have after
 -- an edit of one of them.
-use Rattle.std.proofs.Common.{◌≡◌, ◌≢◌, ◌⊎◌, ◌↔◌, inl, inr, ℕ, zero, suc, ◌+◌, ◌<◌, ◌≤◌, List, [], length, get_or, slice_set, slice_get, Some, None, refl, sym, ap, subst, ◌∙◌, arith}
-use Rattle.std.proofs.lemmas.Bool.{cases_eq}
-use Rattle.std.proofs.lemmas.List.{get_or-set_same, get_or-set_other}
-use Rattle.std.proofs.lemmas.Option.{slice_get-get_or}
-use Rattle.cell_tree.specs.declared.sizes.Dimension.{Dimension}
-use Rattle.cell_tree.specs.declared.sizes.Dimension.TheVariants.{Depth, Elements, Hull}
-use Rattle.cell_tree.specs.declared.sizes.Size.{Size}
-use Rattle.cell_tree.specs.Sizes.{CellState, size_at, size_of, no_size, with_dimension, AreAlike}
-use Rattle.cell_tree.specs.Cells.{Uses, IsAbove}
-use Rattle.cell_tree.specs.Above.{at, StandsBefore, StandsIn}
-use Rattle.cell_tree.specs.Trials.{AreSettledBut, IsTried, SetsDimension}
+use Rattle.cell_tree.proofs.Common.{◌≡◌, ◌≢◌, ◌⊎◌, ◌↔◌, inl, inr, ℕ, zero, suc, ◌+◌, ◌<◌, ◌≤◌, List, [], length, get_or, slice_set, slice_get, Some}
+use Rattle.cell_tree.proofs.Common.{None, refl, sym, ap, subst, ◌∙◌, arith, cases_eq, get_or-set_same, get_or-set_other, slice_get-get_or, Dimension}
+use Rattle.cell_tree.proofs.Common.{Depth, Elements, Hull, Size, CellState, size_at, no_size, AreAlike, Uses, IsAbove, at, StandsBefore, StandsIn}
+use Rattle.cell_tree.proofs.Common.{AreSettledBut, IsTried, SetsDimension}
+use Rattle.cell_tree.specs.Sizes.{size_of, with_dimension}
 use Rattle.cell_tree.proofs.SizeLaws.{alike_refl, alike_trans, size_of-alike, child_is_lower}
 
 -- a cell stands before a place of an order or doesn't

@@ -1,12 +1,8 @@
 -- A trial of a size, dimension by dimension: what it leaves where it ends well, and what it says where it stops.
-use Rattle.std.proofs.Common.{◌≡◌, ◌≢◌, ◌↔◌, ℕ, ◌-◌, ◌<◌, ◌≤◌, List, length, slice_set, refl, sym, ◌∙◌, arith}
-use Rattle.std.proofs.lemmas.List.{get_or-set_other}
-use Rattle.cell_tree.specs.declared.sizes.Dimension.{Dimension}
-use Rattle.cell_tree.specs.declared.sizes.Size.{Size}
-use Rattle.cell_tree.specs.Sizes.{CellState, size_at, size_of, no_size, IsWithin, AreAlike, AreSizes}
-use Rattle.cell_tree.specs.Cells.{Uses, IsAbove}
-use Rattle.cell_tree.specs.Above.{at, StandsBefore, StandsIn}
-use Rattle.cell_tree.specs.Trials.{AreSettledBut, IsTried, ComesBefore, PassesFirst, IsDone, StopsIn}
+use Rattle.cell_tree.proofs.Common.{◌≡◌, ◌≢◌, ◌↔◌, ℕ, ◌-◌, ◌<◌, ◌≤◌, List, length, slice_set, refl, sym, ◌∙◌, arith, get_or-set_other, Dimension}
+use Rattle.cell_tree.proofs.Common.{Size, CellState, size_at, no_size, IsWithin, AreAlike, AreSizes, Uses, IsAbove, at, StandsBefore, StandsIn}
+use Rattle.cell_tree.proofs.Common.{AreSettledBut, IsTried, ComesBefore, PassesFirst, IsDone, StopsIn}
+use Rattle.cell_tree.specs.Sizes.{size_of}
 use Rattle.cell_tree.proofs.SizeLaws.{alike_all, alike_refl, alike_sym, alike_trans, alike_within, size_of-alike}
 use Rattle.cell_tree.proofs.TrialLaws.{alike_tried}
 

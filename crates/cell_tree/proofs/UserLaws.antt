@@ -1,16 +1,11 @@
 -- The users that a cell knows, after one comes or goes.
-use Rattle.std.proofs.Common.{◌≡◌, ◌≢◌, ◌↔◌, inl, inr, ℕ, zero, suc, true, false, List, [], ◌∷◌, ◌++◌, length, get_or, refl, sym, ap, subst, ◌∙◌, arith, Contains}
-use Rattle.std.specs.Prelude.{nat_eq, if◌then◌else◌}
+use Rattle.cell_tree.proofs.Common.{◌≡◌, ◌≢◌, ◌↔◌, inl, inr, ℕ, zero, suc, true, false, List, [], ◌∷◌, ◌++◌, length, get_or, refl, sym, ap, subst}
+use Rattle.cell_tree.proofs.Common.{◌∙◌, arith, Contains, nat_eq, if◌then◌else◌, cases_lt, cases_Bool, eqb-true, eq-eqb, ne_eqb, both_ways}
+use Rattle.cell_tree.proofs.Common.{get_or_append_left, get_or_at, length-append, insert_key, TreeCell, HasChild, states, users_of, cell_at}
+use Rattle.cell_tree.proofs.Common.{AreUsersKept, AreUsersBut, knows}
 use Rattle.std.specs.List.{list_any}
-use Rattle.std.proofs.lemmas.Bool.{cases_lt, cases_Bool, eqb-true, eq-eqb, ne_eqb, or_left, or_right, both_ways}
-use Rattle.std.proofs.lemmas.List.{get_or_append_left, get_or_at, length-append}
-use Rattle.indexmap.specs.IndexSet.{insert_key}
+use Rattle.std.proofs.lemmas.Bool.{or_left, or_right}
 use Rattle.indexmap.proofs.CallerLemmas.{Contains-insert_key, Contains-list_any}
-use Rattle.cell_tree.specs.declared.cells.TreeCell.{TreeCell}
-use Rattle.cell_tree.specs.Uses.{HasChild}
-use Rattle.cell_tree.specs.Cells.{states, users_of}
-use Rattle.cell_tree.specs.Trees.{cell_at}
-use Rattle.cell_tree.specs.steps.Edits.{AreUsersKept, AreUsersBut, knows}
 
 -- the test tells what stands in the list
 pub knows_contains : (ks : List ℕ) (user : ℕ) → knows ks user ≡ true → Contains ks user

@@ -1,24 +1,10 @@
 -- A whole tree stays whole where one cell is edited.
-use Rattle.std.proofs.Common.{◌≡◌, ◌≢◌, ◌↔◌, inl, inr, ℕ, ◌<◌, ◌≤◌, List, length, slice_set, slice_get, Some, sym, ap, subst, ◌∙◌, arith, Contains}
-use Rattle.std.proofs.lemmas.Bool.{cases_eq}
-use Rattle.std.proofs.lemmas.List.{length-set}
-use Rattle.std.proofs.lemmas.Option.{same_Some, slice_get-get_or}
-use Rattle.geo_core.proofs.FiniteSets.Places.{slice_get-set_same, slice_get-set_other}
-use Rattle.cell_tree.specs.declared.cells.TreeCell.{TreeCell}
-use Rattle.cell_tree.specs.declared.limits.TheConstants.{MOST_USES}
-use Rattle.cell_tree.specs.declared.size_books.SizeBook.{SizeBook}
-use Rattle.cell_tree.specs.declared.sizes.Dimension.{Dimension}
-use Rattle.cell_tree.specs.declared.use_tables.UseBody.{UseBody}
-use Rattle.cell_tree.specs.Uses.{HasChild}
-use Rattle.cell_tree.specs.Sizes.{CellState, size_at, size_of, IsWithin, AreSizes, AreUsesBelow}
-use Rattle.cell_tree.specs.Cells.{states, Uses, IsAbove, KnowUsers}
-use Rattle.cell_tree.specs.Above.{IsUserOf}
-use Rattle.cell_tree.specs.Trials.{FitsIn}
-use Rattle.cell_tree.specs.Trees.{Tree, stamp_at, empty_cell, cell_at, IsLawfulCell, WouldPass, WouldKeepWithin}
-use Rattle.cell_tree.specs.Books.{IsReady, AreLawful, IsBooked}
-use Rattle.cell_tree.specs.Whole.{tree_of, IsWhole}
-use Rattle.cell_tree.specs.steps.Edits.{AreUsersKept, AreUsersBut}
-use Rattle.cell_tree.specs.steps.Passes.{WouldPassFirst}
+use Rattle.cell_tree.proofs.Common.{◌≡◌, ◌≢◌, ◌↔◌, inl, inr, ℕ, ◌<◌, ◌≤◌, List, length, slice_set, slice_get, Some, sym, ap, subst, ◌∙◌, arith}
+use Rattle.cell_tree.proofs.Common.{Contains, cases_eq, length-set, same_Some, slice_get-get_or, slice_get-set_same, slice_get-set_other, TreeCell}
+use Rattle.cell_tree.proofs.Common.{MOST_USES, SizeBook, Dimension, UseBody, HasChild, CellState, size_at, IsWithin, AreSizes, AreUsesBelow, states}
+use Rattle.cell_tree.proofs.Common.{Uses, IsAbove, KnowUsers, IsUserOf, FitsIn, Tree, stamp_at, empty_cell, cell_at, IsLawfulCell, WouldPass}
+use Rattle.cell_tree.proofs.Common.{WouldKeepWithin, IsReady, AreLawful, IsBooked, tree_of, IsWhole, AreUsersKept, AreUsersBut, WouldPassFirst}
+use Rattle.cell_tree.specs.Sizes.{size_of}
 use Rattle.cell_tree.proofs.EditLaws.{tried_is_right}
 use Rattle.cell_tree.proofs.DecideLaws.{above_or_not, would_have}
 use Rattle.cell_tree.proofs.FindLaws.{length-states}

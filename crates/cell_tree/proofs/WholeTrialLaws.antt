@@ -1,16 +1,8 @@
 -- A trial in all dimensions, one after another.
-use Rattle.std.proofs.Common.{◌≡◌, ◌≢◌, ℕ, ◌-◌, List, length, slice_set, sym, ◌∙◌, arith}
-use Rattle.std.proofs.lemmas.List.{length-set, get_or-set_same, get_or-set_other}
-use Rattle.cell_tree.specs.declared.cells.TreeCell.{TreeCell}
-use Rattle.cell_tree.specs.declared.sizes.Dimension.{Dimension}
-use Rattle.cell_tree.specs.declared.sizes.Dimension.TheVariants.{Depth, Elements, Hull}
-use Rattle.cell_tree.specs.declared.sizes.Size.{Size}
-use Rattle.cell_tree.specs.Sizes.{size_at, no_size, IsWithin, AreAlike}
-use Rattle.cell_tree.specs.Cells.{states}
-use Rattle.cell_tree.specs.Above.{StandsIn}
-use Rattle.cell_tree.specs.Trials.{AreSettledBut, IsTried, ComesBefore, PassesFirst, IsDone, StopsIn}
-use Rattle.cell_tree.specs.Books.{ListsAbove, AreLawful}
-use Rattle.cell_tree.specs.steps.Passes.{MayPass, IsPass}
+use Rattle.cell_tree.proofs.Common.{◌≡◌, ◌≢◌, ℕ, ◌-◌, List, length, slice_set, sym, ◌∙◌, arith, length-set, get_or-set_same, get_or-set_other}
+use Rattle.cell_tree.proofs.Common.{TreeCell, Dimension, Depth, Elements, Hull, Size, size_at, no_size, IsWithin, AreAlike, states, StandsIn}
+use Rattle.cell_tree.proofs.Common.{AreSettledBut, IsTried, ComesBefore, PassesFirst, IsDone, StopsIn, ListsAbove, AreLawful, IsPass}
+use Rattle.cell_tree.specs.steps.Passes.{MayPass}
 use Rattle.cell_tree.proofs.SizeLaws.{alike_refl, alike_sym, alike_trans, alike_within}
 use Rattle.cell_tree.proofs.TryLaws.{IsOrder, Begins, settled-alike, settled-start, done_within, stops_first, done_tried}
 use Rattle.cell_tree.proofs.FindLaws.{order_of, inside_of, length-states}

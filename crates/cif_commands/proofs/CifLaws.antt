@@ -1,15 +1,9 @@
 -- What `cif` answers in each case.
-use Rattle.std.proofs.Common.{◌≡◌, ◌∙◌, ◌<◌, ◌≤◌, inl, inr, ℕ, List, [], ◌∷◌, length, refl, ap}
+use Rattle.cif_commands.proofs.Common.{◌≡◌, ◌∙◌, ◌<◌, ◌≤◌, inl, inr, ℕ, List, [], ◌∷◌, length, refl, ap, Answer, LONGEST_TEXT, IsCifText}
+use Rattle.cif_commands.proofs.Common.{answers_refusal, answers_with, reply, refusal_line, too_many, CifMeans, cif_store, written_text}
 use Rattle.std.specs.Prelude.{codes}
-use Rattle.session_model.specs.declared.answer.Answer.{Answer}
 use Rattle.session_model.specs.Effects.{AnswersAlone}
 use Rattle.cell_library.specs.Views.{LibraryView}
-use Rattle.cif_writing.specs.declared.limits.TheConstants.{LONGEST_TEXT}
-use Rattle.cif_writing.specs.Symbols.{IsCifText}
-use Rattle.line_answers.proofs.AnswerLaws.{answers_refusal, answers_with}
-use Rattle.line_answers.specs.LineEffects.{reply}
-use Rattle.line_answers.specs.Refusals.{refusal_line, too_many}
-use Rattle.cif_commands.specs.CommandCif.{CifMeans, cif_store, written_text}
 
 module _ (number : ℕ) (library : LibraryView) (cell : ℕ) (name : List ℕ) (answer : Answer) where
   -- the text is stored

@@ -1,21 +1,11 @@
 -- What `cifstat` answers in each case.
-use Rattle.std.proofs.Common.{◌≡◌, inl, inr, ℕ, List, [], ◌∷◌, refl, sym, subst}
-use Rattle.std.specs.Prelude.{Result, Ok, Err}
-use Rattle.text_form.specs.declared.reading.At.{At}
-use Rattle.session_model.specs.declared.answer.Answer.{Answer}
-use Rattle.session_model.specs.declared.fetching.FetchFault.{FetchFault}
-use Rattle.session_model.specs.Effects.{AnswersFetching}
-use Rattle.cif_model.specs.Cifs.{CifParts}
+use Rattle.cif_commands.proofs.Common.{◌≡◌, inl, inr, ℕ, List, [], ◌∷◌, refl, sym, subst, Result, Ok, Err, At, Answer, FetchFault, AnswersFetching}
+use Rattle.cif_commands.proofs.Common.{CifParts, CifFault, cif_in, StaysInRange, IsFirstPast, IsWithinLimits, answers_refusal, answers_with, refused}
+use Rattle.cif_commands.proofs.Common.{refusal_line, too_many, MeasuresCif, MeasuresFetched, MeasuresText, TellsLayers}
 use Rattle.cif_model.specs.Sizes.{size_of}
-use Rattle.cif_reading.specs.declared.faults.CifFault.{CifFault}
-use Rattle.cif_reading.specs.CifTexts.{cif_in}
 use Rattle.cif_expansion.specs.declared.limits.CifLimit.{CifLimit}
-use Rattle.cif_expansion.specs.Expansions.{StandsOutside, StaysInRange}
-use Rattle.cif_expansion.specs.Limits.{IsFirstPast, IsWithinLimits}
-use Rattle.line_answers.proofs.AnswerLaws.{answers_refusal, answers_with}
-use Rattle.line_answers.specs.LineEffects.{refused}
-use Rattle.line_answers.specs.Refusals.{file_refusal, out_of_range, refusal_line, too_many}
-use Rattle.cif_commands.specs.CommandCifstat.{MeasuresCif, MeasuresFetched, MeasuresText, TellsLayers}
+use Rattle.cif_expansion.specs.Expansions.{StandsOutside}
+use Rattle.line_answers.specs.Refusals.{file_refusal, out_of_range}
 use Rattle.cif_commands.specs.Refusals.{cif_limit_word, cif_refusal}
 
 module _ (number : ℕ) (name file : List ℕ) (answer : Answer) where

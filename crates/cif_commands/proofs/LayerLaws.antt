@@ -1,19 +1,11 @@
 -- The lines of an expanded text tell its layers, and no shelf has to answer for them.
-use Rattle.std.proofs.Common.{◌≡◌, ◌∙◌, ℕ, ℤ, List, [], ◌∷◌, length, map, refl, sym, ap, subst}
-use Rattle.std.specs.Prelude.{zip}
+use Rattle.cif_commands.proofs.Common.{◌≡◌, ◌∙◌, ℕ, ℤ, List, [], ◌∷◌, length, map, refl, sym, ap, subst, zip, sum_on, area_of, ReportLine, CifParts}
+use Rattle.cif_commands.proofs.Common.{IsMeant, LayerStrips, IsExpanded, reply, HasSquares, TellsLayers, layer_line, stat_lines, layer_area}
 use Rattle.std.proofs.lemmas.List.{length-map}
-use Rattle.geo_core.specs.FiniteSets.Total.{sum_on}
 use Rattle.geo_core.proofs.FiniteSets.Places.{slice_get-map_source}
-use Rattle.rect_contacts.specs.Squares.{area_of}
-use Rattle.session_model.specs.declared.report.ReportLine.{ReportLine}
-use Rattle.cif_model.specs.Cifs.{CifParts}
-use Rattle.cif_model.specs.Meanings.{IsMeant}
-use Rattle.cif_expansion.specs.declared.expansion.LayerStrips.{LayerStrips}
-use Rattle.cif_expansion.specs.Expansions.{IsExpanded}
 use Rattle.line_answers.proofs.InsideLaws.{both_inside, no_lines_inside, reply_inside}
-use Rattle.line_answers.specs.LineEffects.{IsOfInside, reply}
-use Rattle.cif_commands.specs.CommandCifstat.{HasSquares, TellsLayers, layer_line, stat_lines, sum_text}
-use Rattle.cif_commands.specs.steps.Layers.{layer_area}
+use Rattle.line_answers.specs.LineEffects.{IsOfInside}
+use Rattle.cif_commands.specs.CommandCifstat.{sum_text}
 use Rattle.cif_commands.proofs.StripTotals.{strips_total}
 
 -- the areas of the strips of layers

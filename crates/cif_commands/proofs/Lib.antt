@@ -1,3 +1,4 @@
+mod Common
 mod StripTotals
 mod NearStrips
 mod LayerLaws

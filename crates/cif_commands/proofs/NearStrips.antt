@@ -1,19 +1,14 @@
 -- The strips of the layers of an expanded text are near.
-use Rattle.std.proofs.Common.{ℕ, pos, ◌-ℤ◌, ◌≤ℤ◌, ◌<ℤ◌, List, arith}
-use Rattle.std.specs.Prelude.{All, neg_ℤ}
+use Rattle.cif_commands.proofs.Common.{ℕ, pos, List, arith, All, Rect, Square, CifParts, IsMeant, LayerStrips, IsExpanded, StaysInRange}
+use Rattle.std.proofs.Common.{◌-ℤ◌, ◌≤ℤ◌, ◌<ℤ◌}
+use Rattle.std.specs.Prelude.{neg_ℤ}
 use Rattle.std.proofs.lemmas.Int.{ints}
 use Rattle.geo_core.specs.declared.limits.TheConstants.{PAINT_EDGE}
-use Rattle.geo_core.specs.declared.squares.Rect.{Rect}
-use Rattle.geo_core.specs.declared.squares.Square.{Square}
 use Rattle.geo_core.specs.Strips.{IsStrip}
 use Rattle.geo_core.proofs.CoveringLaws.{corner_covered}
 use Rattle.geo_core.proofs.FiniteSets.Places.{slice_get-In}
 use Rattle.geo_core.proofs.FiniteSets.Searches.{All-from_In}
 use Rattle.geo_core.proofs.StripSets.{strip_is_proper, strip_within}
-use Rattle.cif_model.specs.Cifs.{CifParts}
-use Rattle.cif_model.specs.Meanings.{IsMeant}
-use Rattle.cif_expansion.specs.declared.expansion.LayerStrips.{LayerStrips}
-use Rattle.cif_expansion.specs.Expansions.{IsExpanded, StaysInRange}
 use Rattle.cif_commands.specs.steps.Layers.{HasNearStrips, IsNearStrip}
 
 -- a square that the text gives to some layer lies in the range

@@ -1,16 +1,12 @@
 -- `cif` does one thing, since a cell has one text.
-use Rattle.std.proofs.Common.{◌≡◌, ◌∙◌, ◌<◌, inl, inr, ℕ, List, [], ◌∷◌, length, ap, sym, arith}
-use Rattle.use_orders.specs.LibraryOrder.{IsLibraryOrder}
+use Rattle.cif_commands.proofs.Common.{◌≡◌, ◌∙◌, ◌<◌, inl, inr, ℕ, List, [], ◌∷◌, length, ap, sym, arith, IsLibraryOrder, children_in, IsCifText}
+use Rattle.cif_commands.proofs.Common.{FreeEffect, reply, CifMeans, cif_store, written_text}
 use Rattle.use_orders.specs.Uses.{IsAtOrBelow}
 use Rattle.geo_core.specs.FiniteSets.Lists.{Lists}
 use Rattle.geo_core.proofs.FiniteSets.Places.{In-slice_get}
-use Rattle.cell_library.specs.Additions.{children_in}
 use Rattle.cell_library.specs.Libraries.{IsLawfulLibrary, LibraryParts, seen}
-use Rattle.cif_writing.specs.Symbols.{IsCifText}
 use Rattle.cif_writing.proofs.OrderLaws.{order_there}
 use Rattle.cif_writing.proofs.SymbolLaws.{one_text}
-use Rattle.line_answers.specs.LineEffects.{FreeEffect, reply}
-use Rattle.cif_commands.specs.CommandCif.{CifMeans, cif_store, written_text}
 use Rattle.cif_commands.specs.OneEffects.{CifMeansOneEffect}
 
 -- a text with so many symbols is stored

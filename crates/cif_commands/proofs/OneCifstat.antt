@@ -1,26 +1,15 @@
 -- `cifstat` does one thing: a set has one number of squares, and a text is past one first limit at most.
-use Rattle.std.proofs.Common.{◌≡◌, ◌∙◌, ◌<◌, inl, inr, ℕ, ℤ, pos, List, [], ◌∷◌, length, get_or, refl, ap, sym, arith}
-use Rattle.std.specs.Prelude.{zip, slice_get, Some, Result, Ok, Err}
+use Rattle.cif_commands.proofs.Common.{◌≡◌, ◌∙◌, ◌<◌, inl, inr, ℕ, ℤ, pos, List, [], ◌∷◌, length, get_or, refl, ap, sym, arith, zip, Result, Ok, Err}
+use Rattle.cif_commands.proofs.Common.{At, FetchFault, ReportLine, text_in, Square, CifParts, IsMeant, CifFault, cif_in, IsFirstPast, IsWithinLimits}
+use Rattle.cif_commands.proofs.Common.{FreeEffect, refused, too_many, cif_file, MeasuresCif, MeasuresFetched, MeasuresText, TellsLayers, stat_lines}
+use Rattle.std.specs.Prelude.{slice_get, Some}
 use Rattle.std.proofs.lemmas.Option.{slice_get-get_or}
 use Rattle.std.proofs.lemmas.List.{same_lists}
-use Rattle.text_form.specs.declared.reading.At.{At}
-use Rattle.session_model.specs.declared.fetching.FetchFault.{FetchFault}
-use Rattle.session_model.specs.declared.report.ReportLine.{ReportLine}
-use Rattle.session_model.specs.Fetches.{text_in}
-use Rattle.geo_core.specs.declared.squares.Square.{Square}
 use Rattle.geo_core.proofs.FiniteSets.Totals.{Total-unique}
-use Rattle.cif_model.specs.Cifs.{CifParts}
-use Rattle.cif_model.specs.Meanings.{IsMeant}
 use Rattle.cif_model.specs.Sizes.{CifSize, size_of}
-use Rattle.cif_reading.specs.declared.faults.CifFault.{CifFault}
-use Rattle.cif_reading.specs.CifTexts.{cif_in}
 use Rattle.cif_expansion.specs.declared.limits.CifLimit.{CifLimit}
 use Rattle.cif_expansion.specs.declared.limits.CifLimit.TheVariants.{Depth, Elements, Boxes}
-use Rattle.cif_expansion.specs.Limits.{IsFirstPast, IsWithinLimits}
-use Rattle.line_answers.specs.LineEffects.{FreeEffect, accepted, refused}
-use Rattle.line_answers.specs.Refusals.{too_many}
-use Rattle.cif_commands.specs.CommandCif.{cif_file}
-use Rattle.cif_commands.specs.CommandCifstat.{MeasuresCif, MeasuresFetched, MeasuresText, TellsLayers, stat_lines}
+use Rattle.line_answers.specs.LineEffects.{accepted}
 use Rattle.cif_commands.specs.OneEffects.{CifstatMeansOneEffect}
 use Rattle.cif_commands.specs.Refusals.{cif_limit_word}
 

@@ -1,17 +1,10 @@
 -- What `cifstat` does rests on the file alone that it fetches.
-use Rattle.std.proofs.Common.{◌≡◌, inl, inr, ℕ, List, [], ◌∷◌, refl, sym, ap, subst, arith}
-use Rattle.std.specs.Prelude.{Result, Ok, Err}
-use Rattle.text_form.specs.declared.reading.At.{At}
+use Rattle.cif_commands.proofs.Common.{◌≡◌, inl, inr, ℕ, List, [], ◌∷◌, refl, sym, ap, subst, arith, Result, Ok, Err, At, FetchFault, text_in}
+use Rattle.cif_commands.proofs.Common.{CifParts, CifFault, cif_in, FreeEffect, cif_file, MeasuresCif, MeasuresFetched, MeasuresText}
 use Rattle.outside_io.specs.Files.{Files}
-use Rattle.session_model.specs.declared.fetching.FetchFault.{FetchFault}
-use Rattle.session_model.specs.Fetches.{AgreeOn, text_in}
+use Rattle.session_model.specs.Fetches.{AgreeOn}
 use Rattle.session_model.proofs.FetchLaws.{text_same}
-use Rattle.cif_model.specs.Cifs.{CifParts}
-use Rattle.cif_reading.specs.declared.faults.CifFault.{CifFault}
-use Rattle.cif_reading.specs.CifTexts.{cif_in}
-use Rattle.line_answers.specs.LineEffects.{FreeEffect}
-use Rattle.cif_commands.specs.CommandCif.{cif_file}
-use Rattle.cif_commands.specs.CommandCifstat.{CifstatMeans, MeasuresCif, MeasuresFetched, MeasuresText}
+use Rattle.cif_commands.specs.CommandCifstat.{CifstatMeans}
 
 module _ (number : ℕ) (name file : List ℕ) (effect : FreeEffect) where
   -- the file was fetched, whatever its text says

@@ -1,12 +1,11 @@
 -- The areas of the strips of a set count its squares.
-use Rattle.std.proofs.Common.{◌≡◌, ◌⊎◌, ◌∙◌, ◌<◌, ◌+◌, inl, inr, ℕ, pos, ◌+ℤ◌, List, [], ◌∷◌, length, take, get_or, refl, sym, ap, subst}
+use Rattle.cif_commands.proofs.Common.{◌≡◌, ◌∙◌, ◌<◌, inl, inr, ℕ, pos, List, [], ◌∷◌, length, get_or, refl, sym, ap, subst, Rect, Square, sum_on}
+use Rattle.cif_commands.proofs.Common.{area_of, HasSquares}
+use Rattle.std.proofs.Common.{◌⊎◌, ◌+◌, ◌+ℤ◌, take}
 use Rattle.std.proofs.lemmas.List.{take_more}
-use Rattle.geo_core.specs.declared.squares.Rect.{Rect}
-use Rattle.geo_core.specs.declared.squares.Square.{Square}
 use Rattle.geo_core.specs.Areas.{AreDisjoint}
 use Rattle.geo_core.specs.Covering.{Covers, IsProper}
 use Rattle.geo_core.specs.FiniteSets.Lists.{In}
-use Rattle.geo_core.specs.FiniteSets.Total.{sum_on}
 use Rattle.geo_core.specs.Strips.{IsInUnion, IsStrips}
 use Rattle.geo_core.proofs.FiniteSets.Pairs.{Pairwise, Pairwise-from_AllPairs}
 use Rattle.geo_core.proofs.FiniteSets.Searches.{All-In}
@@ -14,9 +13,8 @@ use Rattle.geo_core.proofs.FiniteSets.Sums.{sum_on-push}
 use Rattle.geo_core.proofs.FiniteSets.Totals.{Total-at, Total-from_list, Total-iff, Total-none, Total-union}
 use Rattle.geo_core.proofs.StripSets.{strips_apart}
 use Rattle.rect_contacts.proofs.Leading.{Lists-squares_of, sum_on-squares_of}
-use Rattle.rect_contacts.specs.Squares.{area_of, squares_of}
+use Rattle.rect_contacts.specs.Squares.{squares_of}
 use Rattle.square_sets.proofs.ErosionLaws.{strips_cover}
-use Rattle.cif_commands.specs.CommandCifstat.{HasSquares}
 
 -- a rectangle has as many squares as its area says
 rect_total : (area : Rect) → IsProper area → HasSquares (Covers area) (area_of area)

@@ -1,12 +1,11 @@
 -- Lists of lists to which things are added.
-use Rattle.std.proofs.Common.{◌≡◌, ◌≢◌, ◌⊎◌, ℕ, ◌<◌, List, [], ◌++◌, inl, inr, length, refl, sym, ◌∙◌, ap, subst}
-use Rattle.std.specs.Prelude.{slice_index_or, slice_set}
+use Rattle.cif_expansion.proofs.Common.{◌≡◌, ◌⊎◌, ℕ, ◌<◌, List, [], ◌++◌, inl, inr, length, refl, sym, ◌∙◌, ap, subst, slice_set, In}
+use Rattle.cif_expansion.proofs.Common.{In-append_cases, In-append_left, In-append_right, list_at, AreAdded}
+use Rattle.std.proofs.Common.{◌≢◌}
+use Rattle.std.specs.Prelude.{slice_index_or}
 use Rattle.std.proofs.lemmas.List.{get_or_default, set-set}
 use Rattle.std.proofs.Common.{get_or-set_other, get_or-set_same, length-set}
 use Rattle.std.proofs.lemmas.Bool.Decides.{eqb_tells}
-use Rattle.finite_sets.specs.Lists.{In}
-use Rattle.finite_sets.proofs.Members.{In-append_cases, In-append_left, In-append_right}
-use Rattle.cif_expansion.specs.steps.Drawings.{list_at, AreAdded}
 
 -- nothing is added
 pub added-none : {X : Type 0} (P : ℕ → X → Type 0) (lists : List (List X)) → ((place : ℕ) (x : X) → P place x → ⊥) → AreAdded P lists lists

@@ -1,22 +1,14 @@
 -- What items give in the instances of their symbol: one by one, and together.
-use Rattle.std.proofs.Common.{◌≡◌, ◌⊎◌, ℕ, ◌+◌, ◌<◌, List, [], ◌∷◌, ◌++◌, inl, inr, length, map, take, get_or, sym, ◌∙◌, ap, subst}
-use Rattle.std.specs.Prelude.{All, slice_set}
-use Rattle.std.proofs.lemmas.List.{take_more}
-use Rattle.finite_sets.specs.Lists.{In}
-use Rattle.finite_sets.proofs.Members.{In-append_cases, In-append_left, In-append_right, In-get_or, In-map, In-map_source}
+use Rattle.cif_expansion.proofs.Common.{◌≡◌, ◌⊎◌, ℕ, ◌+◌, ◌<◌, List, [], ◌∷◌, ◌++◌, inl, inr, length, map, take, get_or, sym, ◌∙◌, ap, subst, All}
+use Rattle.cif_expansion.proofs.Common.{slice_set, take_more, In, In-append_cases, In-append_left, In-append_right, In-get_or, Rect, Transform}
+use Rattle.cif_expansion.proofs.Common.{composed, rect_image, IsLawfulItem, CifItem, CifMove, moved, list_at, AreAdded, IsBoxOf, IsCallOf, IsDrawn}
+use Rattle.cif_expansion.proofs.Common.{LeavesRange, LiesInRange, MovesWithin, call_reach}
+use Rattle.finite_sets.proofs.Members.{In-map, In-map_source}
 use Rattle.finite_sets.proofs.Searches.{All-In}
-use Rattle.geo_core.specs.declared.squares.Rect.{Rect}
-use Rattle.geo_core.specs.declared.transforms.Transform.{Transform}
-use Rattle.geo_core.specs.Images.{composed, rect_image}
-use Rattle.cif_model.specs.Cifs.{IsLawfulItem}
-use Rattle.cif_model.specs.declared.cifs.CifItem.{CifItem}
 use Rattle.cif_model.specs.declared.cifs.CifItem.TheVariants.{Area, Call}
-use Rattle.cif_model.specs.declared.cifs.CifMove.{CifMove}
-use Rattle.cif_model.specs.Meanings.{moved}
-use Rattle.cif_expansion.specs.steps.Drawings.{list_at, AreAdded, IsBoxOf, IsCallOf, IsDrawn, IsRangeFault, LeavesRange}
+use Rattle.cif_expansion.specs.steps.Drawings.{IsRangeFault}
 use Rattle.cif_expansion.specs.declared.faults.ExpansionFault.{ExpansionFault}
 use Rattle.cif_expansion.specs.declared.faults.ExpansionFault.TheVariants.{TooMany, OutOfRange, Memory}
-use Rattle.cif_expansion.specs.Reach.{LiesInRange, MovesWithin, call_reach}
 use Rattle.cif_expansion.proofs.AddedLaws.{added-none, added-same, added-set, added-then}
 
 -- what some of the items are, all items together are

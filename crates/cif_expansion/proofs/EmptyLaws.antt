@@ -1,6 +1,5 @@
 -- Lists of empty lists.
-use Rattle.std.proofs.Common.{◌≡◌, ℕ, zero, suc, List, [], ◌∷◌, ◌++◌, refl}
-use Rattle.cif_expansion.specs.steps.Drawings.{list_at}
+use Rattle.cif_expansion.proofs.Common.{◌≡◌, ℕ, zero, suc, List, [], ◌∷◌, ◌++◌, refl, list_at}
 
 -- one more empty list at the end
 pub empty_more : {X : Type 0} (lists : List (List X)) → ((place : ℕ) → list_at lists place ≡ []) → (place : ℕ) → list_at (lists ++ [] ∷ []) place ≡ []

@@ -1,28 +1,20 @@
 -- Symbol by symbol, the last first: the boxes that are drawn, and those that the waiting instances lead to, are those that the text stands for.
-use Rattle.std.proofs.Common.{◌≡◌, ◌⊎◌, ℕ, zero, suc, ◌+◌, ◌*◌, ◌<◌, ◌≤◌, List, [], ◌∷◌, ◌++◌, Some, inl, inr, length, get_or, refl, sym, ◌∙◌, ap, subst}
-use Rattle.std.proofs.Common.{arith}
-use Rattle.std.specs.Prelude.{All, slice_get}
+use Rattle.cif_expansion.proofs.Common.{◌≡◌, ◌⊎◌, ℕ, zero, suc, ◌+◌, ◌*◌, ◌<◌, ◌≤◌, List, [], ◌∷◌, ◌++◌, Some, inl, inr, length, get_or, refl, sym}
+use Rattle.cif_expansion.proofs.Common.{◌∙◌, ap, subst, arith, All, slice_get, In, Rect, Transform, composed, identity, rect_image, CifParts}
+use Rattle.cif_expansion.proofs.Common.{IsLawfulItem, CifItem, CifMove, moved, size_of, list_at, IsBoxOf, IsCallOf, IsDrawn, LeavesRange}
+use Rattle.cif_expansion.proofs.Common.{StandsOutside, LiesInRange, MovesWithin, call_reach, chain_reach}
 use Rattle.std.proofs.lemmas.List.{get_or_push, length-append}
 use Rattle.std.proofs.lemmas.Option.{slice_get_read}
-use Rattle.finite_sets.specs.Lists.{In}
 use Rattle.finite_sets.proofs.Places.{In-slice_get, slice_get-In, slice_get-below}
 use Rattle.finite_sets.proofs.Searches.{All-from_In, All-In}
-use Rattle.geo_core.specs.declared.squares.Rect.{Rect}
-use Rattle.geo_core.specs.declared.transforms.Transform.{Transform}
-use Rattle.geo_core.specs.Images.{composed, identity, rect_image}
-use Rattle.cif_model.specs.Cifs.{CifParts, IsLawfulCif, IsLawfulItem}
-use Rattle.cif_model.specs.declared.cifs.CifItem.{CifItem}
+use Rattle.cif_model.specs.Cifs.{IsLawfulCif}
 use Rattle.cif_model.specs.declared.cifs.CifItem.TheVariants.{Call}
-use Rattle.cif_model.specs.declared.cifs.CifMove.{CifMove}
 use Rattle.cif_model.specs.declared.cifs.CifSymbol.{CifSymbol}
-use Rattle.cif_model.specs.Meanings.{StandsUnder, items_at, moved}
-use Rattle.cif_model.specs.Sizes.{size_of}
+use Rattle.cif_model.specs.Meanings.{StandsUnder, items_at}
 use Rattle.cif_model.proofs.RectLaws.{rect_image-composed, rect_image-identity}
 use Rattle.cif_model.proofs.SizeLaws.{depth_of, depth-falls}
 use Rattle.cif_expansion.specs.declared.limits.TheConstants.{LONGEST_CHAIN}
-use Rattle.cif_expansion.specs.steps.Drawings.{list_at, IsBoxOf, IsCallOf, IsDrawn, LeavesRange}
-use Rattle.cif_expansion.specs.Expansions.{Expands, StandsOutside, AreBoxesOf}
-use Rattle.cif_expansion.specs.Reach.{LiesInRange, MovesWithin, call_reach, chain_reach}
+use Rattle.cif_expansion.specs.Expansions.{Expands, AreBoxesOf}
 use Rattle.cif_expansion.proofs.ReachLaws.{composed-within, identity-within, within_weaker}
 
 -- the items of the symbol at a place

@@ -1,3 +1,4 @@
+mod Common
 mod ReachLaws
 mod ViewLaws
 mod StepLaws

@@ -1,12 +1,7 @@
 -- How far transforms move: a composed one no farther than both together.
-use Rattle.std.proofs.Common.{ℕ, ◌+◌, ◌≤◌, ℤ, refl, subst, arith}
-use Rattle.std.proofs.lemmas.Int.{ints}
-use Rattle.geo_core.specs.declared.orients.Orient.{Orient}
+use Rattle.cif_expansion.proofs.Common.{ℕ, ◌+◌, ◌≤◌, ℤ, refl, subst, arith, ints, Orient, Transform, composed, identity, across, upward, point_x_at}
+use Rattle.cif_expansion.proofs.Common.{point_y_at, IsAtMost, MovesWithin}
 use Rattle.geo_core.specs.declared.orients.Orient.TheVariants.{R0}
-use Rattle.geo_core.specs.declared.transforms.Transform.{Transform}
-use Rattle.geo_core.specs.Images.{composed, identity}
-use Rattle.geo_core.proofs.ImageLaws.{across, upward, point_x_at, point_y_at}
-use Rattle.cif_expansion.specs.Reach.{IsAtMost, MovesWithin}
 
 -- and what is at most this is at most more
 pub at_most_weaker : (m n : ℕ) (z : ℤ) → m ≤ n → IsAtMost m z → IsAtMost n z

@@ -1,13 +1,10 @@
 -- One more thing of a list: a step of a call, an image, a fact of each.
-use Rattle.std.proofs.Common.{◌≡◌, ℕ, ◌+◌, ◌<◌, List, [], ◌∷◌, ◌++◌, length, map, take, get_or, sym, ◌∙◌, ap, subst}
-use Rattle.std.specs.Prelude.{All}
-use Rattle.std.proofs.lemmas.List.{append_assoc, map_more, take_more}
+use Rattle.cif_expansion.proofs.Common.{◌≡◌, ℕ, ◌+◌, ◌<◌, List, [], ◌∷◌, ◌++◌, length, map, take, get_or, sym, ◌∙◌, ap, subst, All, take_more}
+use Rattle.cif_expansion.proofs.Common.{Transform, composed, identity, CifMove, moved}
+use Rattle.std.proofs.lemmas.List.{append_assoc, map_more}
 use Rattle.std.proofs.lemmas.List.Elements.{All-push}
 use Rattle.std.proofs.lemmas.List.Sums.{fold_more}
-use Rattle.geo_core.specs.declared.transforms.Transform.{Transform}
-use Rattle.geo_core.specs.Images.{composed, identity}
-use Rattle.cif_model.specs.declared.cifs.CifMove.{CifMove}
-use Rattle.cif_model.specs.Meanings.{moved, transform_of}
+use Rattle.cif_model.specs.Meanings.{transform_of}
 
 -- the steps up to a place, and the one there
 pub moved_more : (steps : List CifMove) (i : ℕ) (d : CifMove) (placed step result : Transform) → i < length steps → placed ≡ moved (take i steps)

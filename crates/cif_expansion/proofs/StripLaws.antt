@@ -1,17 +1,13 @@
 -- The strips of layer after layer, and what they are strips of.
-use Rattle.std.proofs.Common.{◌≡◌, ℕ, ◌+◌, ◌<◌, ◌≤◌, List, [], ◌∷◌, ◌++◌, Some, inl, inr, length, map, take, get_or, sym, ◌∙◌, ap, subst, arith}
-use Rattle.std.specs.Prelude.{slice_get, slice_set}
-use Rattle.std.proofs.lemmas.List.{get_or_default, get_or-set_other, length-map, length-set, length-take-le, map_push, take_all, take_more}
+use Rattle.cif_expansion.proofs.Common.{◌≡◌, ℕ, ◌+◌, ◌<◌, ◌≤◌, List, [], ◌∷◌, ◌++◌, Some, inl, inr, length, map, take, get_or, sym, ◌∙◌, ap, subst}
+use Rattle.cif_expansion.proofs.Common.{arith, slice_get, slice_set, take_all, take_more, Rect, CifParts, size_of, list_at}
+use Rattle.std.proofs.lemmas.List.{get_or_default, get_or-set_other, length-map, length-set, length-take-le, map_push}
 use Rattle.finite_sets.proofs.Places.{slice_get-push_cases}
-use Rattle.geo_core.specs.declared.squares.Rect.{Rect}
 use Rattle.geo_core.specs.declared.squares.Square.{Square}
 use Rattle.geo_core.specs.Strips.{IsInUnion, IsStrips}
 use Rattle.geo_core.proofs.StripSets.{strips_same}
-use Rattle.cif_model.specs.Cifs.{CifParts}
 use Rattle.cif_model.specs.Meanings.{IsMeant}
-use Rattle.cif_model.specs.Sizes.{size_of}
 use Rattle.cif_expansion.specs.declared.expansion.LayerStrips.{LayerStrips}
-use Rattle.cif_expansion.specs.steps.Drawings.{list_at}
 use Rattle.cif_expansion.specs.Expansions.{AreBoxesOf, IsExpanded}
 use Rattle.cif_expansion.specs.Limits.{IsWithinLimits}
 

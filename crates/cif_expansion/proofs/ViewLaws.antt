@@ -1,12 +1,10 @@
 -- What is computed from the fields of a placement, said of the transform that it is seen as.
-use Rattle.std.proofs.Common.{◌≡◌, ℕ, ℤ, Bool, cond, sym, ◌∙◌, ap, subst}
-use Rattle.geo_core.specs.declared.orients.Orient.{Orient}
-use Rattle.geo_core.specs.declared.squares.Rect.{Rect}
-use Rattle.geo_core.specs.declared.transforms.Transform.{Transform}
+use Rattle.cif_expansion.proofs.Common.{◌≡◌, ℕ, ℤ, sym, ◌∙◌, ap, subst, Orient, Rect, Transform, composed, rect_image, across, upward, point_x_at}
+use Rattle.cif_expansion.proofs.Common.{point_y_at, IsAtMost, MovesWithin}
+use Rattle.std.proofs.Common.{Bool, cond}
 use Rattle.geo_core.specs.Orientation.{orient_then}
-use Rattle.geo_core.specs.Images.{composed, point_x, point_y, rect_image, turns_x, turns_y}
-use Rattle.geo_core.proofs.ImageLaws.{transform_of, across, upward, point_x_at, point_y_at, composed-from_parts, rect_image-from_corners}
-use Rattle.cif_expansion.specs.Reach.{IsAtMost, MovesWithin}
+use Rattle.geo_core.specs.Images.{point_x, point_y, turns_x, turns_y}
+use Rattle.geo_core.proofs.ImageLaws.{transform_of, composed-from_parts, rect_image-from_corners}
 
 -- how far the parts move, if the whole moves no farther
 pub dx_seen : (n : ℕ) (inside t : Transform) → inside ≡ t → MovesWithin n t → IsAtMost n inside.dx

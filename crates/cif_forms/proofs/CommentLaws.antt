@@ -1,11 +1,9 @@
 -- Comments, byte by byte.
-use Rattle.std.proofs.Common.{◌≡◌, ◌<◌, ◌≤◌, ◌+◌, ◌-◌, ◌==◌, ℕ, Bool, true, false, cond, List}
-use Rattle.std.proofs.Common.{[], ◌∷◌, ◌++◌, length, drop, get_or, append_assoc, sym, ap, ◌∙◌, arith}
+use Rattle.cif_forms.proofs.Common.{◌≡◌, ◌<◌, ◌≤◌, ◌+◌, ◌-◌, ◌==◌, ℕ, Bool, true, false, cond, List, [], ◌∷◌, ◌++◌, length, drop, get_or}
+use Rattle.cif_forms.proofs.Common.{append_assoc, sym, ap, ◌∙◌, arith, Scan, is_semicolon, shown_from}
 use Rattle.std.proofs.lemmas.List.{drop_more}
 use Rattle.cif_forms.specs.declared.comments.Place.TheVariants.{Before}
-use Rattle.cif_forms.specs.declared.comments.Scan.{Scan}
-use Rattle.cif_forms.specs.Bytes.{is_semicolon}
-use Rattle.cif_forms.specs.Comments.{behind, depth_behind, is_of_comment, place_behind, shown, shown_from}
+use Rattle.cif_forms.specs.Comments.{behind, depth_behind, is_of_comment, place_behind, shown}
 
 one_more : (depth : ℕ) (opens shuts : Bool) → cond opens (depth + 1) (cond shuts (depth - 1) depth) ≤ depth + 1
 one_more depth true shuts = omega arith

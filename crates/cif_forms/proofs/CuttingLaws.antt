@@ -1,16 +1,13 @@
 -- Commands, one after another.
-use Rattle.std.proofs.Common.{◌≡◌, ℕ, ◌+◌, ◌<◌, ◌≤◌, Bool, true, false, Result, Ok, Err, Some, None, cond, List, [], ◌∷◌, length, take, drop}
-use Rattle.std.proofs.Common.{refl, sym, ap, ◌∙◌, arith, inl, inr}
-use Rattle.std.specs.List.{slice_split, position, position_or_len, before_first, after_first, All}
-use Rattle.std.proofs.lemmas.Bool.{cases_lt, lt-ltb, le-ltb}
+use Rattle.cif_forms.proofs.Common.{◌≡◌, ℕ, ◌+◌, ◌<◌, ◌≤◌, Bool, true, false, Result, Ok, Err, Some, None, cond, List, [], ◌∷◌, length, take, drop}
+use Rattle.cif_forms.proofs.Common.{refl, sym, ap, ◌∙◌, arith, inl, inr, slice_split, position, position_or_len, All, cases_lt, lt-ltb, is_semicolon}
+use Rattle.cif_forms.proofs.Common.{At, line_of_command, first_faulty_part_or, command_at, commands_from, line_ends, line_ends_before, step_on}
+use Rattle.std.specs.List.{before_first, after_first}
+use Rattle.std.proofs.lemmas.Bool.{le-ltb}
 use Rattle.std.proofs.lemmas.List.Splits.{slice_split_first, slice_split_none, length-slice_split}
 use Rattle.std.proofs.lemmas.List.Sums.{fails_before_first}
-use Rattle.cif_forms.specs.Bytes.{is_semicolon}
-use Rattle.text_form.specs.declared.reading.At.{At}
 use Rattle.text_form.specs.Folds.{fault_at, unless_faulty}
-use Rattle.cif_forms.specs.Cutting.{line_of_command}
-use Rattle.text_form.specs.Parts.{first_faulty_part_or}
-use Rattle.cif_forms.specs.Cutting.{IsFirstCommand, IsLastCommand, command_at, commands_from, line_ends, line_ends_before, step_on}
+use Rattle.cif_forms.specs.Cutting.{IsFirstCommand, IsLastCommand}
 
 -- a command before others has its semicolon
 pub commands_from-cons : (line : ℕ) (part : List ℕ) (parts : List (List ℕ)) → 0 < length parts

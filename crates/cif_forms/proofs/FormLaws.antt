@@ -1,8 +1,5 @@
 -- What a command says that begins with a digit.
-use Rattle.std.proofs.Common.{◌≡◌, ◌==◌, ℕ, true, cond, List, ◌∷◌, ap}
-use Rattle.std.specs.Char.{is_ascii_digit}
-use Rattle.cif_forms.specs.declared.commands.CifCommand.TheVariants.{End, ReadOver}
-use Rattle.cif_forms.specs.Commands.{layer_said, said_by, said_from, trimmed}
+use Rattle.cif_forms.proofs.Common.{◌≡◌, ◌==◌, ℕ, true, cond, List, ◌∷◌, ap, is_ascii_digit, End, ReadOver, layer_said, said_by, said_from, trimmed}
 use Rattle.cif_forms.specs.Words.{words_of}
 
 -- a command that begins with a digit

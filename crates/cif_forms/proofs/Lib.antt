@@ -1,4 +1,5 @@
 mod CommentLaws
+mod Common
 mod FormLaws
 mod NumberLaws
 mod CuttingLaws

@@ -1,17 +1,15 @@
 -- Numbers that are held within reach of 32 bits.
-use Rattle.std.proofs.Common.{◌≡◌, ◌≢◌, ℕ, zero, suc, ◌≤◌, ◌==◌, ◌^◌, ◌&&◌, Bool, true, false, cond, List}
-use Rattle.std.proofs.Common.{length, ℤ, pos, neg_ℤ, int_le, int_lt, Result, Ok, Err, sym, ap, ◌∙◌, arith, inl, inr}
+use Rattle.cif_forms.proofs.Common.{◌≡◌, ℕ, suc, ◌≤◌, ◌==◌, ◌^◌, ◌&&◌, Bool, true, false, cond, List, length, Result, Ok, Err, sym, ap, ◌∙◌, arith}
+use Rattle.cif_forms.proofs.Common.{inl, inr, int_max, int_min, all_ascii_digits, cases_Bool, cases_lt, Empty, Digit, Number, HIGHEST, LOWEST}
+use Rattle.std.proofs.Common.{◌≢◌, zero}
+use Rattle.std.proofs.Common.{ℤ, pos, neg_ℤ, int_le, int_lt}
 use lib.Signed.{mag}
-use Rattle.std.specs.Int.{int_max, int_min}
-use Rattle.std.specs.Str.{all_ascii_digits}
 use Rattle.std.specs.Str.Parse.{starts_with_minus, digits_value}
-use Rattle.std.proofs.lemmas.Bool.{cases_Bool, cases_lt}
 use Rattle.text_scan.proofs.NumberLemmas.{within_ok}
 use Rattle.text_scan.specs.declared.numeral.NumFault.{NumFault}
-use Rattle.text_scan.specs.declared.numeral.NumFault.TheVariants.{Empty, Digit, Range}
+use Rattle.text_scan.specs.declared.numeral.NumFault.TheVariants.{Range}
 use Rattle.text_scan.specs.Numbers.{natural_of, without_minus, with_sign, signed, integer_of, within, in_range, number_of}
-use Rattle.cif_forms.specs.declared.words.CifWord.TheVariants.{Number, Broken}
-use Rattle.cif_forms.specs.declared.limits.TheConstants.{HIGHEST, LOWEST}
+use Rattle.cif_forms.specs.declared.words.CifWord.TheVariants.{Broken}
 use Rattle.cif_forms.specs.Words.{held, past_all}
 
 in_range-ok : (r : Result ℤ NumFault) (z : ℤ) → in_range (2 ^ 63) r ≡ Ok z → r ≡ Ok z

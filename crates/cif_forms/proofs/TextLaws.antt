@@ -1,14 +1,11 @@
 -- What is written is cut into the commands that it was made of.
-use Rattle.std.proofs.Common.{◌≡◌, ℕ, ◌<◌, ◌==◌, ◌&&◌, true, false, cond, List, [], ◌∷◌, ◌++◌, length, refl, sym, ap, ◌∙◌, arith, inl, inr}
-use Rattle.std.specs.List.{onto_first}
-use Rattle.std.proofs.lemmas.Bool.{and_parts, cases_Bool}
+use Rattle.cif_forms.proofs.Common.{◌≡◌, ℕ, ◌<◌, ◌==◌, ◌&&◌, true, false, cond, List, [], ◌∷◌, ◌++◌, length, refl, sym, ap, ◌∙◌, arith, inl, inr}
+use Rattle.cif_forms.proofs.Common.{onto_first, and_parts, cases_Bool, is_semicolon, is_numeral, is_blank, Scan, shown_from, begins_with_numeral}
 use Rattle.cif_forms.specs.declared.comments.Place.{Place}
 use Rattle.cif_forms.specs.declared.comments.Place.TheVariants.{Before, ReadOver, Within}
-use Rattle.cif_forms.specs.Bytes.{is_semicolon, is_numeral, is_blank}
-use Rattle.cif_forms.specs.declared.comments.Scan.{Scan}
 use Rattle.cif_forms.proofs.WordLaws.{words_in-numeral}
-use Rattle.cif_forms.specs.Comments.{depth_behind, opens_comment, place_behind, shown_from, without_comments}
-use Rattle.cif_forms.specs.Words.{begins_with_numeral, words_in}
+use Rattle.cif_forms.specs.Comments.{depth_behind, opens_comment, place_behind, without_comments}
+use Rattle.cif_forms.specs.Words.{words_in}
 
 -- a byte that opens no comment
 abbrev pub IsNoParenthesis : ℕ → Type 0

@@ -1,13 +1,11 @@
 -- The words of a command, word by word.
-use Rattle.std.proofs.Common.{◌≡◌, ℕ, suc, ◌+◌, ◌<◌, ◌≤◌, ◌&&◌, ◌||◌, max, true, false, not, cond, Some, None}
-use Rattle.std.proofs.Common.{List, [], ◌∷◌, length, take, drop, map, refl, sym, ap, ◌∙◌, arith, inl, inr}
-use Rattle.std.specs.Char.{is_ascii_uppercase}
-use Rattle.std.specs.List.{onto_first, position, position_or_len}
-use Rattle.std.proofs.lemmas.Bool.{cases_Bool, cases_lt, lt-ltb}
+use Rattle.cif_forms.proofs.Common.{◌≡◌, ℕ, suc, ◌+◌, ◌<◌, ◌≤◌, ◌&&◌, ◌||◌, true, false, not, cond, Some, None, List, [], ◌∷◌, length, take, drop}
+use Rattle.cif_forms.proofs.Common.{map, refl, sym, ap, ◌∙◌, arith, inl, inr, is_ascii_uppercase, onto_first, position, position_or_len, cases_Bool}
+use Rattle.cif_forms.proofs.Common.{cases_lt, lt-ltb, is_numeral, is_mark, is_blank, begins_with_numeral, from_first_word}
+use Rattle.std.proofs.Common.{max}
 use Rattle.std.proofs.lemmas.List.{nil_from_length}
 use Rattle.std.proofs.lemmas.List.Sums.{prefix_len-le-length}
-use Rattle.cif_forms.specs.Bytes.{is_numeral, is_mark, is_blank}
-use Rattle.cif_forms.specs.Words.{begins_with_numeral, words_in, from_first_word, is_no_numeral, word_of, words_of}
+use Rattle.cif_forms.specs.Words.{words_in, is_no_numeral, word_of, words_of}
 
 -- one more word
 pub words_of-more : (bytes rest word : List ℕ) → words_in bytes ≡ word ∷ words_in rest → words_of bytes ≡ word_of word ∷ words_of rest

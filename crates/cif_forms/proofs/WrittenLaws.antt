@@ -1,30 +1,26 @@
 -- What written commands say.
-use Rattle.std.proofs.Common.{◌≡◌, ℕ, ◌<◌, ◌≤◌, ◌==◌, ◌&&◌, ◌||◌, Bool, true, false, not, cond, List, [], ◌∷◌}
-use Rattle.std.proofs.Common.{◌++◌, length, map, ℤ, pos, FitsSigned, Some, None, refl, sym, ap, ◌∙◌, arith, reverse}
+use Rattle.cif_forms.proofs.Common.{◌≡◌, ℕ, ◌<◌, ◌≤◌, ◌==◌, ◌&&◌, ◌||◌, Bool, true, false, not, cond, List, [], ◌∷◌, ◌++◌, length, map, Some, None}
+use Rattle.cif_forms.proofs.Common.{refl, sym, ap, ◌∙◌, arith, is_ascii_digit, is_ascii_uppercase, w32, list_all, flat_map, AllByRecursion}
+use Rattle.cif_forms.proofs.Common.{all_ascii_digits, and_from, and_parts, lt-ltb, list_all-append, line_of, all_ascii_digits-natural_text}
+use Rattle.cif_forms.proofs.Common.{decimal-std, End, ReadOver, Number, is_blank, is_mark, goes_on, layer_said, moves_in, said_by, trimmed}
+use Rattle.cif_forms.proofs.Common.{without_last_blanks, from_first_word, AreUnmarked, is_unmarked_text}
+use Rattle.std.proofs.Common.{ℤ, pos, FitsSigned, reverse}
 use Rattle.std.specs.Prelude.{codes, nat_lt}
-use Rattle.std.specs.Char.{is_ascii_digit, is_ascii_uppercase}
-use Rattle.std.specs.Int.{w32}
-use Rattle.std.specs.List.{list_all, list_any, flat_map, AllByRecursion}
-use Rattle.std.specs.Str.{all_ascii_digits}
-use Rattle.std.proofs.lemmas.Bool.{and_from, and_parts, lt-ltb}
+use Rattle.std.specs.List.{list_any}
 use Rattle.std.proofs.lemmas.Fmt.{length-decimal-le}
 use Rattle.std.proofs.lemmas.List.{reverse-append, reverse-reverse}
 use Rattle.std.proofs.lemmas.List.Concat.{flat_map-append}
-use Rattle.std.proofs.lemmas.List.Folds.{list_all-append}
 use Rattle.text_scan.specs.Decimal.{decimal}
 use Rattle.text_scan.specs.PlainNames.{is_plain_byte, is_plain_name}
-use Rattle.text_scan.specs.Written.{line_of}
-use Rattle.text_scan.proofs.DecimalLemmas.{all_ascii_digits-natural_text, decimal-std}
-use Rattle.cif_forms.specs.declared.commands.CifCommand.TheVariants.{End, Other, Layer, ReadOver, Start, Finish, Area, Call}
+use Rattle.cif_forms.specs.declared.commands.CifCommand.TheVariants.{Other, Layer, Start, Finish, Area, Call}
 use Rattle.cif_forms.specs.declared.commands.SaidMove.{SaidMove}
 use Rattle.cif_forms.specs.declared.commands.SaidMove.TheVariants.{Shift, MirrorX, MirrorY, Toward}
 use Rattle.cif_forms.specs.declared.words.CifWord.{CifWord}
-use Rattle.cif_forms.specs.declared.words.CifWord.TheVariants.{B, C, D, M, R, S, T, X, Y, Number}
-use Rattle.cif_forms.specs.Bytes.{is_blank, is_mark}
-use Rattle.cif_forms.specs.Commands.{goes_on, is_broken, is_layer_byte, is_layer_name, layer_said}
-use Rattle.cif_forms.specs.Commands.{moves_in, said_by, says, trimmed, without_last_blanks}
-use Rattle.cif_forms.specs.Words.{from_first_word, words_of}
-use Rattle.cif_forms.specs.Written.{AreUnmarked, MoveFits, is_unmarked_text, move_words}
+use Rattle.cif_forms.specs.declared.words.CifWord.TheVariants.{B, C, D, M, R, S, T, X, Y}
+use Rattle.cif_forms.specs.Commands.{is_broken, is_layer_byte, is_layer_name}
+use Rattle.cif_forms.specs.Commands.{says}
+use Rattle.cif_forms.specs.Words.{words_of}
+use Rattle.cif_forms.specs.Written.{MoveFits, move_words}
 use Rattle.cif_forms.proofs.WrittenWords.{decimal-digit, unmarked-decimal, unmarked-decimals, unmarked-kinds, unmarked-line_of}
 use Rattle.cif_forms.proofs.WrittenWords.{words_of-decimal, words_of-decimals, words_of-line_of}
 

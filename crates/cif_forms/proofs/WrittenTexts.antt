@@ -1,21 +1,18 @@
 -- A written text is cut into the commands that it was made of, and read one command after another.
-use Rattle.std.proofs.Common.{◌≡◌, ℕ, ◌+◌, ◌<◌, ◌==◌, ◌||◌, Bool, true, false, Result, Ok, Err}
-use Rattle.std.proofs.Common.{List, [], ◌∷◌, ◌++◌, length, refl, sym, ap, ◌∙◌, arith, append_assoc}
+use Rattle.cif_forms.proofs.Common.{◌≡◌, ℕ, ◌+◌, ◌<◌, ◌==◌, ◌||◌, Bool, true, false, Result, Ok, Err, List, [], ◌∷◌, ◌++◌, length, refl, sym, ap}
+use Rattle.cif_forms.proofs.Common.{◌∙◌, arith, append_assoc, slice_split, All, and_from, and_parts, list_all-append, At, first_faulty_part_or}
+use Rattle.cif_forms.proofs.Common.{is_mark, is_semicolon, commands_from, line_ends, line_ends_before, line_of_command, step_on, AreUnmarked}
+use Rattle.cif_forms.proofs.Common.{is_unmarked, is_unmarked_text}
 use Rattle.std.specs.Prelude.{codes}
-use Rattle.std.specs.List.{slice_split, All}
-use Rattle.std.proofs.lemmas.Bool.{and_from, and_parts, not-true, or_parts}
+use Rattle.std.proofs.lemmas.Bool.{not-true, or_parts}
 use Rattle.std.proofs.lemmas.List.Elements.{All-cons, All-nil}
-use Rattle.std.proofs.lemmas.List.Folds.{list_all-append}
 use Rattle.std.proofs.lemmas.List.Splits.{slice_split_at, slice_split_none}
-use Rattle.text_form.specs.declared.reading.At.{At}
 use Rattle.text_form.specs.Folds.{unless_faulty}
-use Rattle.text_form.specs.Parts.{first_faulty_part_or}
 use Rattle.text_form.specs.SaidLines.{and_then}
-use Rattle.cif_forms.specs.Bytes.{is_mark, is_semicolon}
 use Rattle.cif_forms.specs.Comments.{without_comments}
-use Rattle.cif_forms.specs.Cutting.{commands_from, commands_of, line_ends, line_ends_before, line_of_command, step_on}
-use Rattle.cif_forms.specs.Written.{AreUnmarked, LooksPastLineFeeds, first_fault_of, is_unmarked}
-use Rattle.cif_forms.specs.Written.{is_unmarked_text, without_line, with_semicolon, written_parts, written_text}
+use Rattle.cif_forms.specs.Cutting.{commands_of}
+use Rattle.cif_forms.specs.Written.{LooksPastLineFeeds, first_fault_of}
+use Rattle.cif_forms.specs.Written.{without_line, with_semicolon, written_parts, written_text}
 use Rattle.cif_forms.proofs.CuttingLaws.{commands_from-cons}
 use Rattle.cif_forms.proofs.TextLaws.{HasNoComment, without_comments-plain}
 

@@ -1,25 +1,20 @@
 -- The words of written commands, and that written commands are unmarked.
-use Rattle.std.proofs.Common.{◌≡◌, ℕ, suc, ◌+◌, ◌<◌, ◌^◌, ◌==◌, ◌&&◌, ◌||◌, Bool, true, false, not, cond, List, [], ◌∷◌}
-use Rattle.std.proofs.Common.{◌++◌, length, map, ℤ, pos, negsuc, FitsSigned, refl, sym, ap, ◌∙◌, arith, append-nil, inl, inr}
+use Rattle.cif_forms.proofs.Common.{◌≡◌, ℕ, suc, ◌+◌, ◌<◌, ◌^◌, ◌==◌, ◌&&◌, ◌||◌, Bool, true, false, not, cond, List, [], ◌∷◌, ◌++◌, length, map}
+use Rattle.cif_forms.proofs.Common.{refl, sym, ap, ◌∙◌, arith, append-nil, inl, inr, is_ascii_digit, is_ascii_uppercase, w32, int_max, int_min}
+use Rattle.cif_forms.proofs.Common.{list_all, flat_map, onto_first, AllByRecursion, all_ascii_digits, and_from, and_parts, cases_Bool, line_of}
+use Rattle.cif_forms.proofs.Common.{all_ascii_digits-natural_text, decimal-std, HIGHEST, LOWEST, Number, is_mark, is_numeral, AreUnmarked}
+use Rattle.cif_forms.proofs.Common.{is_unmarked, is_unmarked_text}
+use Rattle.std.proofs.Common.{ℤ, pos, negsuc, FitsSigned}
 use lib.Signed.{mag}
-use Rattle.std.specs.Char.{is_ascii_digit, is_ascii_uppercase}
-use Rattle.std.specs.Int.{w32, int_max, int_min}
-use Rattle.std.specs.List.{list_all, flat_map, onto_first, AllByRecursion}
-use Rattle.std.specs.Str.{all_ascii_digits}
-use Rattle.std.proofs.lemmas.Bool.{and_from, and_parts, cases_Bool, eqb-true}
+use Rattle.std.proofs.lemmas.Bool.{eqb-true}
 use Rattle.std.proofs.lemmas.Bool.Decides.{nat_tests}
 use Rattle.std.proofs.lemmas.List.{map-append}
 use Rattle.std.proofs.lemmas.Fmt.{decimal_digit}
 use Rattle.text_scan.specs.Decimal.{decimal, natural_text}
 use Rattle.text_scan.specs.Numbers.{integer_of}
-use Rattle.text_scan.specs.Written.{line_of}
-use Rattle.text_scan.proofs.DecimalLemmas.{all_ascii_digits-natural_text, decimal-std, integer_of-decimal}
+use Rattle.text_scan.proofs.DecimalLemmas.{integer_of-decimal}
 use Rattle.text_scan.proofs.WrittenLemmas.{IsWord-decimal}
-use Rattle.cif_forms.specs.declared.limits.TheConstants.{HIGHEST, LOWEST}
-use Rattle.cif_forms.specs.declared.words.CifWord.TheVariants.{Number}
-use Rattle.cif_forms.specs.Bytes.{is_mark, is_numeral}
 use Rattle.cif_forms.specs.Words.{held, letter_of, word_of, words_in, words_of}
-use Rattle.cif_forms.specs.Written.{AreUnmarked, is_unmarked, is_unmarked_text}
 use Rattle.cif_forms.proofs.TextLaws.{words_in-join}
 use Rattle.cif_forms.proofs.WordLaws.{numeral-is_shown, shown, words_in-numeral}
 use Rattle.cif_forms.proofs.WrittenTexts.{unmarked-append}

@@ -1,34 +1,31 @@
 -- Each command keeps what was read lawful.
-use Rattle.std.proofs.Common.{◌≡◌, ◌≤◌, ℕ, ℤ, Bool, true, false, not, ◌||◌, ◌&&◌, List, [], ◌∷◌, ◌++◌, inl, inr, length, Option, Some}
-use Rattle.std.proofs.Common.{None, Ok, refl, sym, ap, subst, ◌∙◌, if◌then◌else◌, arith}
+use Rattle.cif_reading.proofs.Common.{◌≡◌, ℕ, ℤ, Bool, true, false, List, [], ◌∷◌, ◌++◌, length, sym, ap, subst, ◌∙◌, if◌then◌else◌, arith, ints}
+use Rattle.cif_reading.proofs.Common.{says, SaidMove, CifSymbol, CifFault, Draft, nothing_yet, fault_in, is_factor, takes, with_layer}
+use Rattle.std.proofs.Common.{◌≤◌, not, ◌||◌, ◌&&◌, inl, inr, Option, Some}
+use Rattle.std.proofs.Common.{None, Ok, refl}
 use Rattle.std.specs.Prelude.{All, is_some, slice_get}
-use Rattle.std.proofs.lemmas.Int.{ints}
 use Rattle.std.proofs.lemmas.List.{length_push}
 use Rattle.std.proofs.lemmas.List.Elements.{All-nil, All-push, All-same, All-weaker}
 use Rattle.finite_sets.proofs.Places.{slice_get-push_cases}
 use Rattle.text_form.proofs.PartLaws.{first_faulty_part_or-keeps}
 use Rattle.geo_core.specs.declared.squares.Rect.{Rect}
 use Rattle.name_index.proofs.Keys.{still_distinct}
-use Rattle.cif_forms.specs.Commands.{says}
 use Rattle.cif_forms.specs.Cutting.{commands_of, line_of_command, step_on}
 use Rattle.cif_forms.specs.declared.commands.CifCommand.{CifCommand}
 use Rattle.cif_forms.specs.declared.commands.CifCommand.TheVariants.{Empty, ReadOver, End, LeftOut as SaidLeftOut, Other, Layer, Start, Finish}
 use Rattle.cif_forms.specs.declared.commands.CifCommand.TheVariants.{Area as SaidArea, Call as SaidCall}
-use Rattle.cif_forms.specs.declared.commands.SaidMove.{SaidMove}
 use Rattle.cif_model.specs.Cifs.{CifParts, HasScaledEdges, IsLawfulCif, IsLawfulItem}
 use Rattle.cif_model.specs.declared.cifs.CifItem.{CifItem}
 use Rattle.cif_model.specs.declared.cifs.CifItem.TheVariants.{Area, Call}
-use Rattle.cif_model.specs.declared.cifs.CifSymbol.{CifSymbol}
 use Rattle.cif_reading.specs.declared.drafts.Opened.{Opened}
-use Rattle.cif_reading.specs.declared.faults.CifFault.{CifFault}
 use Rattle.cif_reading.specs.declared.faults.CifFault.TheVariants.{Form, LeftOut, NoSymbol, SymbolTwice, Range}
 use Rattle.cif_reading.specs.Scales.{IsScale}
 use Rattle.cif_reading.specs.Boxes.{area_is_in_range, area_said, has_short_side, is_in_range}
 use Rattle.cif_reading.specs.SaidSteps.{call_is_in_range}
-use Rattle.cif_reading.specs.Drafts.{Draft, IsLawfulOpened, has_symbol, layer_place, scale_of, nothing_yet}
-use Rattle.cif_reading.specs.Faults.{area_faults, call_faults, fault_in, faults_there, first_fault, is_factor, lacks_semicolon, start_faults}
+use Rattle.cif_reading.specs.Drafts.{IsLawfulOpened, has_symbol, layer_place, scale_of}
+use Rattle.cif_reading.specs.Faults.{area_faults, call_faults, faults_there, first_fault, lacks_semicolon, start_faults}
 use Rattle.cif_reading.specs.Faults.{uses_what_is_left_out}
-use Rattle.cif_reading.specs.Additions.{call_said, takes, with_area, with_finish, with_item, with_layer, with_start}
+use Rattle.cif_reading.specs.Additions.{call_said, with_area, with_finish, with_item, with_start}
 use Rattle.cif_reading.specs.steps.LawfulDrafts.{IsLawfulDraft}
 use Rattle.cif_reading.specs.CifTexts.{cif_in, parts_of, read_of, step, unless}
 use Rattle.cif_reading.proofs.NumberLaws.{edges-scaled, moves-lawful, scale_of_factors}

@@ -1,3 +1,4 @@
+mod Common
 mod NumberLaws
 pub mod PlaceLaws
 pub mod LawfulDrafts

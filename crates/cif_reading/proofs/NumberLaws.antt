@@ -1,22 +1,21 @@
 -- Numbers that are scaled stay near.
-use Rattle.std.proofs.Common.{◌≡◌, ◌<◌, ◌≤◌, ◌*◌, ◌^◌, ℕ, ℤ, pos, negsuc, Bool, true, false, ◌&&◌, List, [], ◌∷◌, map, if◌then◌else◌, arith}
+use Rattle.cif_reading.proofs.Common.{◌≡◌, ℕ, ℤ, Bool, true, false, List, [], ◌∷◌, map, if◌then◌else◌, arith, list_all, ints, SaidMove}
+use Rattle.cif_reading.proofs.Common.{move_is_in_range, move_said, is_factor}
+use Rattle.std.proofs.Common.{◌<◌, ◌≤◌, ◌*◌, ◌^◌, pos, negsuc, ◌&&◌}
 use Rattle.std.specs.Prelude.{◌+ℤ◌, int_le, int_lt, All}
-use Rattle.std.specs.List.{list_all}
 use Rattle.std.specs.Prelude.{◌*ℤ◌, ◌≤ℤ◌, unsigned_abs}
 use Rattle.std.specs.Int.{int_div_euclid}
-use Rattle.std.proofs.lemmas.Int.{ints, unsigned_abs-mul}
+use Rattle.std.proofs.lemmas.Int.{unsigned_abs-mul}
 use Rattle.std.proofs.lemmas.List.Elements.{All-nil, All-cons}
 use Rattle.std.proofs.lemmas.Bool.{and_parts}
 use Rattle.std.proofs.Math.Nat.{mul-le-mul_left, mul-le-mul_right}
-use Rattle.cif_forms.specs.declared.commands.SaidMove.{SaidMove}
 use Rattle.cif_forms.specs.declared.commands.SaidMove.TheVariants.{Shift, MirrorX, MirrorY, Toward}
 use Rattle.cif_model.specs.Cifs.{IsScaledNumber, HasScaledEdges, IsLawfulMove}
 use Rattle.cif_reading.specs.declared.limits.TheConstants.{MOST_FACTOR, MOST_SCALED}
 use Rattle.cif_reading.specs.declared.scales.Scale.{Scale}
 use Rattle.cif_reading.specs.Scales.{IsScale, scaled}
 use Rattle.cif_reading.specs.Boxes.{area_is_in_range, area_said, halved, high_edge, is_in_range, low_edge}
-use Rattle.cif_reading.specs.SaidSteps.{call_is_in_range, move_is_in_range, move_said, quarters}
-use Rattle.cif_reading.specs.Faults.{is_factor}
+use Rattle.cif_reading.specs.SaidSteps.{call_is_in_range, quarters}
 
 quotient_is_near : (a b : ℤ) → pos 1 ≤ℤ b → unsigned_abs (int_div_euclid a b) ≤ unsigned_abs a
 quotient_is_near (pos a) (pos b) h = omega arith

@@ -1,16 +1,13 @@
 -- Places of things that are searched in a list.
-use Rattle.std.proofs.Common.{◌≡◌, ◌<◌, ◌≤◌, ◌+◌, ℕ, ℤ, suc, Bool, true, false, not, ◌||◌, List, [], ◌∷◌, ◌++◌, length, map, refl, sym, ap, ◌∙◌, cond}
-use Rattle.std.proofs.Common.{if◌then◌else◌, arith}
-use Rattle.std.specs.Prelude.{Option, Some, None, IfSome, nat_lt}
-use Rattle.std.specs.List.{list_any, position, position_or_len}
-use Rattle.std.specs.Ordering.{int_eq}
-use Rattle.std.specs.Str.{bytes_eq}
+use Rattle.cif_reading.proofs.Common.{◌≡◌, ℕ, ℤ, Bool, true, false, List, [], ◌∷◌, ◌++◌, length, map, sym, ap, ◌∙◌, if◌then◌else◌, arith, Some, None}
+use Rattle.cif_reading.proofs.Common.{list_any, position, int_eq, bytes_eq, CifSymbol, with_layer}
+use Rattle.std.proofs.Common.{◌<◌, ◌≤◌, ◌+◌, suc, not, ◌||◌, refl, cond}
+use Rattle.std.specs.Prelude.{Option, IfSome, nat_lt}
+use Rattle.std.specs.List.{position_or_len}
 use Rattle.std.proofs.lemmas.Bool.Decides.{nat_tests}
 use Rattle.std.proofs.lemmas.List.{length_push, map-append}
 use Rattle.std.proofs.lemmas.List.Sums.{prefix_len-le-length}
-use Rattle.cif_model.specs.declared.cifs.CifSymbol.{CifSymbol}
 use Rattle.cif_reading.specs.Drafts.{has_number, has_symbol, layer_place, symbol_place}
-use Rattle.cif_reading.specs.Additions.{with_layer}
 
 one_more : (test any : Bool) (k n : ℕ) → any ≡ nat_lt k n → (test || any) ≡ nat_lt (cond (not test) (1 + k) 0) (suc n)
 one_more true any k n e = grind (arith, nat_tests)

@@ -1,18 +1,14 @@
 -- A text is refused exactly at its first faulty command, or at its end where it has none and no `E`.
-use Rattle.std.proofs.Common.{◌≡◌, ◌↔◌, ◌⊎◌, inl, inr, ℕ, Bool, true, false, List, [], ◌∷◌, Option, Some, None, Result, Ok, Err, refl, sym, ap}
-use Rattle.std.proofs.Common.{◌∙◌, if◌then◌else◌}
+use Rattle.cif_reading.proofs.Common.{◌≡◌, ℕ, Bool, true, false, List, [], ◌∷◌, sym, ap, ◌∙◌, if◌then◌else◌, says, CifFault, Draft, nothing_yet}
+use Rattle.cif_reading.proofs.Common.{fault_in, takes}
+use Rattle.std.proofs.Common.{◌↔◌, ◌⊎◌, inl, inr, Option, Some, None, Result, Ok, Err, refl}
 use Rattle.text_scan.specs.Lines.{lines_of}
 use Rattle.text_form.specs.declared.reading.At.{At}
 use Rattle.text_form.specs.Folds.{ended_at, fault_at, finished, last_number, unless_faulty}
 use Rattle.text_form.proofs.PartLaws.{first_faulty_part_or-first, first_faulty_part_or-refused}
-use Rattle.cif_forms.specs.Commands.{says}
 use Rattle.cif_forms.specs.Cutting.{CommandText, commands_of, line_of_command, step_on}
 use Rattle.cif_model.specs.Cifs.{CifParts}
-use Rattle.cif_reading.specs.declared.faults.CifFault.{CifFault}
 use Rattle.cif_reading.specs.declared.faults.CifFault.TheVariants.{NoEnd}
-use Rattle.cif_reading.specs.Drafts.{Draft, nothing_yet}
-use Rattle.cif_reading.specs.Faults.{fault_in}
-use Rattle.cif_reading.specs.Additions.{takes}
 use Rattle.cif_reading.specs.CifTexts.{cif_in, finish, parts_of, read_from, read_of, step, unless}
 use Rattle.cif_reading.specs.RefusedTexts.{HasNoEnd, IsFirstFaultyCommand, Says}
 

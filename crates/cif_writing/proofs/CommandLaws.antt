@@ -1,14 +1,14 @@
 -- Commands, appended word by word.
-use Rattle.std.proofs.Common.{◌≡◌, ℕ, ℤ, pos, ◌+ℤ◌, ◌*ℤ◌, Bool, false, List, [], ◌∷◌, ◌++◌, map, refl, sym, ap, ◌∙◌, append_assoc, append-nil}
+use Rattle.cif_writing.proofs.Common.{◌≡◌, ℕ, ℤ, Bool, false, List, [], ◌∷◌, ◌++◌, map, refl, sym, ap, ◌∙◌, append_assoc, append-nil, text_of, Rect}
+use Rattle.cif_writing.proofs.Common.{Transform, start_command, name_command, box_command, call_command, plain_call}
+use Rattle.std.proofs.Common.{pos, ◌+ℤ◌, ◌*ℤ◌}
 use Rattle.std.specs.Prelude.{◌-ℤ◌, codes, if◌then◌else◌}
 use Rattle.text_scan.specs.Decimal.{decimal, natural_text}
-use Rattle.text_scan.specs.Written.{line_of, text_of, behind_blanks}
+use Rattle.text_scan.specs.Written.{line_of, behind_blanks}
 use Rattle.text_scan.proofs.WrittenLemmas.{blanks-append, line-words}
 use Rattle.geo_core.specs.declared.orients.Orient.{Orient}
-use Rattle.geo_core.specs.declared.squares.Rect.{Rect}
-use Rattle.geo_core.specs.declared.transforms.Transform.{Transform}
-use Rattle.cif_writing.specs.Commands.{command, start_command, name_command, layer_command, box_command, direction, stays}
-use Rattle.cif_writing.specs.Commands.{mirror_words, turn_words, shift_words, call_command, plain_call, end_line}
+use Rattle.cif_writing.specs.Commands.{command, layer_command, direction, stays}
+use Rattle.cif_writing.specs.Commands.{mirror_words, turn_words, shift_words, end_line}
 
 -- what is appended to what has been appended
 behind : (a b c x y : List ℕ) → b ≡ a ++ x → c ≡ b ++ y → c ≡ a ++ (x ++ y)

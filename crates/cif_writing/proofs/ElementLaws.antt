@@ -1,16 +1,12 @@
 -- The elements of a grid, one by one.
-use Rattle.std.proofs.Common.{◌≡◌, ℕ, ℤ, map, sym, ap, subst, ◌∙◌}
-use Rattle.std.specs.Prelude.{Some, slice_get}
+use Rattle.cif_writing.proofs.Common.{◌≡◌, ℕ, ℤ, map, sym, ap, subst, ◌∙◌, Some, slice_get, Grid, Transform, slice_get-map_there, displacements}
+use Rattle.cif_writing.proofs.Common.{element_transform}
 use Rattle.std.proofs.lemmas.Option.{same_Some}
-use Rattle.geo_core.specs.declared.grids.Grid.{Grid}
 use Rattle.geo_core.specs.declared.orients.Orient.TheVariants.{R0}
-use Rattle.geo_core.specs.declared.transforms.Transform.{Transform}
 use Rattle.geo_core.specs.Elements.{elements_of}
 use Rattle.geo_core.specs.Images.{composed}
 use Rattle.geo_core.specs.Reach.{IsInReach, MovesInReach}
-use Rattle.geo_core.proofs.FiniteSets.Places.{slice_get-map_there}
-use Rattle.cell_tree.specs.Uses.{displacements, IsLawfulGrid}
-use Rattle.cell_library.specs.LayoutTrees.{element_transform}
+use Rattle.cell_tree.specs.Uses.{IsLawfulGrid}
 use Rattle.cell_library.proofs.GridSpots.{IsStepSmall, step_in_reach, step_small}
 use Rattle.cell_library.proofs.RowSpots.{kept, kept_step}
 

@@ -1,6 +1,7 @@
 -- what crates above name of those below
 pub use Rattle.cell_library.proofs as CellLibrary
 mod CommandLaws
+mod Common
 mod ElementLaws
 mod LineLaws
 mod OneText

@@ -1,7 +1,7 @@
 -- Lines of things in order: one thing more, and that there is one list of them where each thing has one.
-use Rattle.std.proofs.Common.{◌≡◌, ◌+◌, ℕ, suc, List, [], ◌∷◌, ◌++◌, length, refl, sym, ap, subst, ◌∙◌, append_assoc, append-nil, arith}
-use Rattle.std.specs.Prelude.{Some, slice_get}
-use Rattle.cif_writing.specs.Symbols.{AreRuns}
+use Rattle.cif_writing.proofs.Common.{◌≡◌, ◌+◌, ℕ, List, [], ◌∷◌, ◌++◌, length, refl, sym, ap, subst, ◌∙◌, append_assoc, append-nil, arith, Some}
+use Rattle.cif_writing.proofs.Common.{slice_get, AreRuns}
+use Rattle.std.proofs.Common.{suc}
 
 module _ {X : Type 0} (Of : ℕ → X → List (List ℕ) → Type 0) where
   -- the lines of one thing more

@@ -1,19 +1,10 @@
 -- A lawful library has one text for each cell: the lines of each symbol are one list.
-use Rattle.std.proofs.Common.{◌≡◌, ◌<◌, ℕ, List, [], ◌∷◌, ◌++◌, length, sym, ap, ◌∙◌}
-use Rattle.std.specs.Prelude.{Option, Some, slice_get}
-use Rattle.geo_core.specs.declared.squares.Rect.{Rect}
-use Rattle.geo_strips.proofs.StripListLaws.{one_list}
-use Rattle.tech_model.specs.declared.raw.RawTech.{RawTech}
-use Rattle.cell_tree.specs.declared.use_tables.UseBody.{UseBody}
-use Rattle.cell_library.specs.Libraries.{IsLawfulLibrary, LibraryParts, seen}
-use Rattle.cell_library.specs.Limits.{HullIs}
-use Rattle.cell_library.specs.LayoutModel.Layouts.{Layout}
-use Rattle.cell_library.specs.Views.{view_at}
+use Rattle.cif_writing.proofs.Common.{◌≡◌, ◌<◌, ℕ, List, [], ◌∷◌, ◌++◌, length, sym, ap, ◌∙◌, Option, Some, slice_get, Rect, one_list, RawTech}
+use Rattle.cif_writing.proofs.Common.{UseBody, IsLawfulLibrary, LibraryParts, seen, HullIs, Layout, view_at, use_is_lawful, start_command}
+use Rattle.cif_writing.proofs.Common.{name_command, part_lines, HoldsPart, part_sets, symbol_number, IsPart, IsSymbol, IsUse}
 use Rattle.cell_library.proofs.BoxesBelow.{hull_seen}
-use Rattle.cell_library.proofs.ElementCounts.{use_is_lawful}
-use Rattle.cif_writing.specs.Commands.{start_command, name_command, part_lines, finish_command}
-use Rattle.cif_writing.specs.Parts.{HoldsPart, part_sets}
-use Rattle.cif_writing.specs.Symbols.{symbol_number, use_calls, AreCalls, AreParts, AreSymbols, IsPart, IsSymbol, IsUse}
+use Rattle.cif_writing.specs.Commands.{finish_command}
+use Rattle.cif_writing.specs.Symbols.{use_calls, AreCalls, AreParts, AreSymbols}
 use Rattle.cif_writing.proofs.LineLaws.{one_list_of_lines, HasOne}
 
 -- a part has one list of lines

@@ -1,22 +1,19 @@
 -- The cells of a library order are cells of the library, and an index of them gives their numbers.
-use Rattle.std.proofs.Common.{◌≡◌, ◌+◌, ◌<◌, ℕ, Bool, List, [], ◌∷◌, ◌++◌, map, take, sym, ap, ◌∙◌, length}
-use Rattle.std.proofs.Common.{arith, if◌then◌else◌}
-use Rattle.std.specs.Prelude.{Option, Some, nat_eq, slice_get, unwrap_or}
+use Rattle.cif_writing.proofs.Common.{◌≡◌, ◌+◌, ◌<◌, ℕ, Bool, List, [], ◌∷◌, ◌++◌, map, take, sym, ap, ◌∙◌, length, arith, Option, Some, slice_get}
+use Rattle.cif_writing.proofs.Common.{CellKey, In, slice_get-map_there, children_in, IsLawfulLibrary, LibraryParts, seen, symbol_number}
+use Rattle.std.proofs.Common.{if◌then◌else◌}
+use Rattle.std.specs.Prelude.{nat_eq, unwrap_or}
 use Rattle.std.specs.List.{position, position_or_len}
 use Rattle.std.proofs.lemmas.Bool.Decides.{Decides-eqb}
 use Rattle.std.proofs.lemmas.List.{map-append}
 use Rattle.indexmap.specs.IndexSet.{insert_key}
-use Rattle.ext_model.specs.declared.tables.CellKey.{CellKey}
-use Rattle.geo_core.specs.FiniteSets.Lists.{Distinct, In, Lists}
+use Rattle.geo_core.specs.FiniteSets.Lists.{Distinct, Lists}
 use Rattle.geo_core.proofs.FiniteSets.Members.{In-map_source}
-use Rattle.geo_core.proofs.FiniteSets.Places.{one_place, slice_get-In_take, slice_get-map_there, take-slice_get}
+use Rattle.geo_core.proofs.FiniteSets.Places.{one_place, slice_get-In_take, take-slice_get}
 use Rattle.geo_core.proofs.FiniteSets.Searches.{list_any-of_absent}
 use Rattle.geo_core.proofs.FiniteSets.FirstPlaces.{found_or_length}
 use Rattle.use_orders.specs.Uses.{IsAtOrBelow}
-use Rattle.cell_library.specs.Additions.{children_in}
-use Rattle.cell_library.specs.Libraries.{IsLawfulLibrary, LibraryParts, seen}
 use Rattle.cell_library.proofs.ChildLaws.{below_there}
-use Rattle.cif_writing.specs.Symbols.{symbol_number}
 
 module _ (library : LibraryParts) (lawful : IsLawfulLibrary library) where
   -- so the cells of an order are

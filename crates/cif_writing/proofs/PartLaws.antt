@@ -1,25 +1,22 @@
 -- The parts of a technology: each is a set with one bit, and they are found type by type.
-use Rattle.std.proofs.Common.{◌≡◌, ◌≢◌, ◌+◌, ◌-◌, ◌^◌, ◌<◌, inl, inr, ℕ, suc, Bool, true, false, List, [], ◌∷◌, ◌++◌, length, map, filter, get_or}
-use Rattle.std.proofs.Common.{cond, refl, sym, ap, ◌∙◌, append_assoc, append-nil, arith}
-use Rattle.std.specs.Prelude.{IsTrue, Some, slice_get}
+use Rattle.cif_writing.proofs.Common.{◌≡◌, ◌+◌, ◌<◌, ℕ, Bool, false, List, [], ◌∷◌, ◌++◌, length, map, get_or, refl, sym, ap, ◌∙◌, append_assoc}
+use Rattle.cif_writing.proofs.Common.{append-nil, arith, Some, slice_get, length-map, slice_get-get_or, In, In-slice_get, slice_get-map_there}
+use Rattle.cif_writing.proofs.Common.{PartSet, RawTech, parts_of, is_atom, is_second_image, own_mark, atom_sets, mark_sets, part_sets}
+use Rattle.std.proofs.Common.{◌≢◌, ◌-◌, ◌^◌, inl, inr, suc, true, filter}
+use Rattle.std.proofs.Common.{cond}
+use Rattle.std.specs.Prelude.{IsTrue}
 use Rattle.std.specs.List.{range_with_len}
 use Rattle.std.proofs.lemmas.Bool.{eqb-true}
-use Rattle.std.proofs.lemmas.List.{length-map}
-use Rattle.std.proofs.lemmas.Option.{slice_get-get_or}
 use Rattle.std.proofs.lemmas.Nat.{pow_pos}
-use Rattle.geo_core.specs.FiniteSets.Lists.{In}
 use Rattle.geo_core.proofs.FiniteSets.Members.{In-append_cases, In-filter_passes, In-filter_source, In-map_source}
-use Rattle.geo_core.proofs.FiniteSets.Places.{In-slice_get, slice_get-map_there}
-use Rattle.tech_model.specs.declared.raw.PartSet.{PartSet}
-use Rattle.tech_model.specs.declared.raw.RawTech.{RawTech}
 use Rattle.tech_model.specs.declared.raw.TypeId.{TypeId}
 use Rattle.tech_model.specs.Rules.{types_of}
-use Rattle.tech_model.specs.Types.{images_of, is_type, layer_of, parts_of}
+use Rattle.tech_model.specs.Types.{images_of, is_type, layer_of}
 use Rattle.tech_model.specs.WellFormed.{IsWellFormed}
 use Rattle.tech_model.proofs.MarkLaws.{mark_of-contact}
 use Rattle.tech_model.proofs.RuleLaws.{types_of-type}
 use Rattle.tech_model.proofs.SetLaws.{contact_of}
-use Rattle.cif_writing.specs.Parts.{is_atom, is_second, is_second_image, own_mark, atom_sets, mark_sets, part_sets}
+use Rattle.cif_writing.specs.Parts.{is_second}
 
 -- ---- sets with one bit
 

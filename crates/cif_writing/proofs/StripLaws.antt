@@ -1,25 +1,22 @@
 -- The tiles whose types have a part cover exactly the squares that hold it.
-use Rattle.std.proofs.Common.{◌≡◌, ◌≢◌, ℕ, true, List, refl, sym, ap, subst, ◌∙◌, bit_and, arith}
-use Rattle.std.specs.Prelude.{◌==◌, filter}
+use Rattle.cif_writing.proofs.Common.{◌≡◌, ℕ, List, refl, sym, ap, subst, ◌∙◌, arith, ◌==◌, Rect, In, IsInUnion, IsStrips, RawTech, parts_of, Layout}
+use Rattle.cif_writing.proofs.Common.{areas_with, HoldsPart}
+use Rattle.std.proofs.Common.{◌≢◌, true, bit_and}
+use Rattle.std.specs.Prelude.{filter}
 use Rattle.std.proofs.lemmas.Bool.{eq-eqb, eqb-true}
 use Rattle.std.proofs.lemmas.Nat.Bits.{bit_at-zero, bit_at_and, same_from_bits}
 use Rattle.geo_core.specs.declared.squares.Piece.{Piece}
-use Rattle.geo_core.specs.declared.squares.Rect.{Rect}
 use Rattle.geo_core.specs.declared.squares.Square.{Square}
 use Rattle.geo_core.specs.Covering.{Covers}
-use Rattle.geo_core.specs.FiniteSets.Lists.{In}
-use Rattle.geo_core.specs.Strips.{IsInUnion, IsStrips}
 use Rattle.geo_core.proofs.FiniteSets.Members.{In-filter, In-filter_passes, In-filter_source, In-map, In-map_source}
 use Rattle.geo_core.proofs.StripSets.{strips_same}
 use Rattle.geo_core.proofs.TileSets.{tile_value}
-use Rattle.tech_model.specs.declared.raw.RawTech.{RawTech}
 use Rattle.tech_model.specs.declared.raw.TypeRec.{TypeRec}
-use Rattle.tech_model.specs.Types.{is_subset, parts_of}
+use Rattle.tech_model.specs.Types.{is_subset}
 use Rattle.cell_library.specs.CellPaint.Painting.{kinds_on, paint_range, place_at}
 use Rattle.cell_library.specs.CellPaint.Paints.{IsSoundPaint}
 use Rattle.cell_library.specs.CellPaint.Pieces.{pieces_on, AreTakenOut}
-use Rattle.cell_library.specs.LayoutModel.Layouts.{Layout}
-use Rattle.cif_writing.specs.Parts.{areas_with, has_part, HoldsPart}
+use Rattle.cif_writing.specs.Parts.{has_part}
 
 -- a set with a part is not that of space
 none_of_space : (raw : RawTech) (part kind : ℕ) → part ≢ 0 → is_subset part (parts_of raw kind) ≡ true → kind ≢ 0

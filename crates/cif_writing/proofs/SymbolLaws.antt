@@ -1,28 +1,14 @@
 -- The lines of a symbol, one part behind the other, and the whole text.
-use Rattle.std.proofs.Common.{◌≡◌, ◌<◌, ℕ, false, List, [], ◌∷◌, ◌++◌, length, map, refl, sym, ap, subst, ◌∙◌, append-nil}
-use Rattle.std.specs.Prelude.{◌==◌, Option, Some, slice_get}
-use Rattle.text_scan.specs.Written.{text_of}
-use Rattle.text_scan.proofs.WrittenLemmas.{text_of-append, lines_behind}
-use Rattle.geo_core.specs.declared.grids.Grid.{Grid}
-use Rattle.geo_core.specs.declared.squares.Rect.{Rect}
-use Rattle.geo_core.specs.Strips.{IsStrips}
-use Rattle.geo_strips.proofs.StripListLaws.{one_list}
-use Rattle.tech_model.specs.declared.raw.RawTech.{RawTech}
-use Rattle.cell_tree.specs.declared.use_tables.UseBody.{UseBody}
+use Rattle.cif_writing.proofs.Common.{◌≡◌, ◌<◌, ℕ, false, List, [], ◌∷◌, ◌++◌, length, map, refl, sym, ap, subst, ◌∙◌, append-nil, ◌==◌, Option}
+use Rattle.cif_writing.proofs.Common.{Some, slice_get, text_of, text_of-append, lines_behind, Grid, Rect, IsStrips, one_list, RawTech, UseBody}
+use Rattle.cif_writing.proofs.Common.{displacements, children_in, element_transform, IsLawfulLibrary, LibraryParts, seen, HullIs, Layout, view_at}
+use Rattle.cif_writing.proofs.Common.{LONGEST_TEXT, start_command, name_command, box_command, part_lines, call_command, plain_call, HoldsPart}
+use Rattle.cif_writing.proofs.Common.{elements_of_use, symbol_number, IsPart, IsSymbol, IsUse, Writes, IsTooLongWith, AreTooLong}
 use Rattle.cell_tree.specs.UseOrders.LibraryOrder.{IsLibraryOrder}
-use Rattle.cell_tree.specs.Uses.{displacements}
-use Rattle.cell_library.specs.Additions.{children_in}
-use Rattle.cell_library.specs.LayoutTrees.{element_transform}
-use Rattle.cell_library.specs.Libraries.{IsLawfulLibrary, LibraryParts, seen}
-use Rattle.cell_library.specs.Limits.{HullIs}
-use Rattle.cell_library.specs.LayoutModel.Layouts.{Layout}
-use Rattle.cell_library.specs.Views.{LibraryView, view_at}
-use Rattle.cif_writing.specs.declared.limits.TheConstants.{LONGEST_TEXT}
-use Rattle.cif_writing.specs.Commands.{start_command, name_command, layer_command, box_command, part_lines, call_command, finish_command, plain_call}
+use Rattle.cell_library.specs.Views.{LibraryView}
+use Rattle.cif_writing.specs.Commands.{layer_command, finish_command}
 use Rattle.cif_writing.specs.Commands.{end_line}
-use Rattle.cif_writing.specs.Parts.{HoldsPart}
-use Rattle.cif_writing.specs.Symbols.{elements_of_use, symbol_number, AreCalls, AreParts, AreSymbols, IsCifText, IsPart, IsSymbol, IsUse}
-use Rattle.cif_writing.specs.steps.Writing.{Writes, IsTooLongWith, AreTooLong}
+use Rattle.cif_writing.specs.Symbols.{AreCalls, AreParts, AreSymbols, IsCifText}
 use Rattle.cif_writing.proofs.OneText.{one_list_of_parts, one_list_of_symbols, one_use}
 use Rattle.cif_writing.proofs.WritingLaws.{longer, too_long_among}
 

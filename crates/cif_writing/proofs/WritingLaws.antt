@@ -1,17 +1,14 @@
 -- What is written behind a text, part by part, and texts that are too long.
-use Rattle.std.proofs.Common.{◌≡◌, ◌≢◌, ◌+◌, ◌<◌, ◌≤◌, ℕ, zero, suc, List, [], ◌∷◌, ◌++◌, length, map, take, drop, refl, sym, ap, subst, ◌∙◌}
-use Rattle.std.proofs.Common.{append_assoc, append-nil, arith}
-use Rattle.std.specs.Prelude.{Some, slice_get, Err, IfErr, Ok, Result}
+use Rattle.cif_writing.proofs.Common.{◌≡◌, ◌+◌, ◌<◌, ℕ, List, [], ◌∷◌, ◌++◌, length, map, take, drop, refl, sym, ap, subst, ◌∙◌, append_assoc}
+use Rattle.cif_writing.proofs.Common.{append-nil, arith, Some, slice_get, text_of, text_of-append, lines_behind, LONGEST_TEXT, AreRuns, Writes}
+use Rattle.cif_writing.proofs.Common.{IsTooLongWith, AreTooLong}
+use Rattle.std.proofs.Common.{◌≢◌, ◌≤◌, zero, suc}
+use Rattle.std.specs.Prelude.{Err, IfErr, Ok, Result}
 use Rattle.std.proofs.lemmas.List.{drop_all, length-append, length-take-le, take_all}
 use Rattle.std.proofs.lemmas.Option.{slice_get_within}
 use Rattle.geo_core.proofs.FiniteSets.Places.{cut-slice_get, drop-slice_get, take-slice_get}
-use Rattle.text_scan.specs.Written.{text_of}
-use Rattle.text_scan.proofs.WrittenLemmas.{text_of-append, lines_behind}
 use Rattle.cif_writing.specs.declared.faults.CifWriteFault.{CifWriteFault}
 use Rattle.cif_writing.specs.declared.faults.CifWriteFault.TheVariants.{Memory}
-use Rattle.cif_writing.specs.declared.limits.TheConstants.{LONGEST_TEXT}
-use Rattle.cif_writing.specs.Symbols.{AreRuns}
-use Rattle.cif_writing.specs.steps.Writing.{Writes, IsTooLongWith, AreTooLong}
 use Rattle.cif_writing.proofs.LineLaws.{lines_more, lines_cut, one_list_of_lines, HasOne, LinesCut}
 
 -- ---- lines behind a text

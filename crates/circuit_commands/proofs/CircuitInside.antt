@@ -1,15 +1,11 @@
 -- Lines of circuits, for which no shelf has to answer.
-use Rattle.std.proofs.Common.{ℕ, Bool, true, false, cond, List, [], ◌∷◌, ◌++◌, length, refl, sym, subst}
+use Rattle.circuit_commands.proofs.Common.{ℕ, List, [], ◌∷◌, ◌++◌, refl, sym, subst, ReportLine, Circuit, IsOfInside, reply, Written, Stored, Passed}
+use Rattle.std.proofs.Common.{Bool, true, false, cond, length}
 use Rattle.std.specs.Prelude.{nat_lt}
-use Rattle.session_model.specs.declared.report.ReportLine.{ReportLine}
-use Rattle.ext_model.specs.declared.circuits.Circuit.{Circuit}
 use Rattle.ext_model.specs.declared.records.FetRec.{FetRec}
 use Rattle.line_answers.proofs.InsideLaws.{no_lines_inside, reply_inside}
-use Rattle.line_answers.specs.LineEffects.{IsOfInside, reply}
 use Rattle.circuit_commands.specs.declared.circuits.CircuitFile.{CircuitFile}
 use Rattle.circuit_commands.specs.declared.circuits.CircuitFile.TheVariants.{Flat, Sim}
-use Rattle.circuit_commands.specs.declared.circuits.Written.{Written}
-use Rattle.circuit_commands.specs.declared.circuits.Written.TheVariants.{Stored, Passed}
 use Rattle.circuit_commands.specs.Circuits.{IsWritten, bare_line, bare_lines, lines_of, sim_reply}
 
 -- those of transistors without terminals, and what is behind them

@@ -1,10 +1,9 @@
 -- What `ext2sim` does rests on the files alone that it fetches.
-use Rattle.std.proofs.Common.{ℕ, List, inl, inr, ap, subst}
+use Rattle.circuit_commands.proofs.Common.{ℕ, List, inl, inr, ap, subst, Ext2simMeans}
 use Rattle.outside_io.specs.Files.{Files}
 use Rattle.session_model.specs.Fetches.{AgreeOn}
 use Rattle.ext_loading.proofs.FileLaws.{read_rests, refused_rests}
 use Rattle.line_answers.specs.LineEffects.{FreeEffect}
-use Rattle.circuit_commands.specs.CommandExt2sim.{Ext2simMeans}
 
 pub ext2sim_rests : (number : ℕ) (files others : Files) (cell : List ℕ) (effect : FreeEffect) → Ext2simMeans number files cell effect
     → AgreeOn effect.fetched files others → Ext2simMeans number others cell effect

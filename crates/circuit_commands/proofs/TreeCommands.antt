@@ -1,21 +1,14 @@
 -- What `ext2sim` answers in each case.
-use Rattle.std.proofs.Common.{◌≡◌, ℕ, List, [], ◌∷◌, refl, inl, inr}
+use Rattle.circuit_commands.proofs.Common.{◌≡◌, ℕ, List, [], ◌∷◌, refl, inl, inr, All, fetched_by, Circuit, ArrayExt, plains, circuit_files}
+use Rattle.circuit_commands.proofs.Common.{answers_refusal, Written, Ext2simMeans}
 use Rattle.outside_io.specs.Files.{Files}
 use Rattle.session_model.specs.declared.answer.Answer.{Answer}
 use Rattle.session_model.specs.Effects.{AnswersFetching}
-use Rattle.session_model.specs.FileTrees.{All, fetched_by}
-use Rattle.ext_model.specs.declared.circuits.Circuit.{Circuit}
-use Rattle.ext_model.specs.declared.arrays.ArrayExt.{ArrayExt}
 use Rattle.circuit_model.specs.declared.faults.FlatFault.{FlatFault}
 use Rattle.circuit_model.specs.Refusals.{IsFlatFaultOf, IsFlatOf}
-use Rattle.ext_loading.specs.PlainRecords.Plains.{plains}
 use Rattle.ext_loading.specs.Loads.{AreRead}
-use Rattle.ext_loading.specs.Readings.{circuit_files}
-use Rattle.line_answers.proofs.AnswerLaws.{answers_refusal}
 use Rattle.line_answers.specs.Refusals.{refusal_line}
-use Rattle.circuit_commands.specs.declared.circuits.Written.{Written}
 use Rattle.circuit_commands.specs.Circuits.{IsSimWritten, lines_of, stores_of}
-use Rattle.circuit_commands.specs.CommandExt2sim.{Ext2simMeans}
 use Rattle.circuit_commands.specs.Refusals.{flat_refusal}
 
 -- the circuit of the records is written, or passes a limit

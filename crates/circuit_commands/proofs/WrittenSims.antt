@@ -1,18 +1,14 @@
 -- Sim files by their texts.
-use Rattle.std.proofs.Common.{◌≡◌, ◌⊎◌, ◌≤◌, ◌++◌, ◌∷◌, [], ℕ, List, length, inl, inr, refl, sym, ◌∙◌, ap, subst}
-use Rattle.std.specs.Prelude.{codes}
+use Rattle.circuit_commands.proofs.Common.{◌≡◌, ◌≤◌, ◌++◌, ◌∷◌, [], ℕ, List, inl, inr, refl, sym, ◌∙◌, ap, subst, codes, ReportLine, reply, Circuit}
+use Rattle.circuit_commands.proofs.Common.{Written, Stored, Passed}
+use Rattle.std.proofs.Common.{◌⊎◌, length}
 use Rattle.session_model.specs.declared.answer.Store.{Store}
-use Rattle.session_model.specs.declared.report.ReportLine.{ReportLine}
-use Rattle.line_answers.specs.LineEffects.{reply}
-use Rattle.ext_model.specs.declared.circuits.Circuit.{Circuit}
 use Rattle.sim_text.specs.declared.faults.SimFault.{SimFault}
 use Rattle.sim_text.specs.declared.faults.SimFault.TheVariants.{Memory}
 use Rattle.sim_text.specs.declared.limits.TheConstants.{LONGEST_TEXT}
 use Rattle.sim_text.specs.WrittenTexts.{IsTooLong, sim_text}
 use Rattle.sim_records.specs.declared.limits.TheConstants.{MOST_SWITCHES}
 use Rattle.sim_records.specs.SimRecords.{HasTooManySwitches, sim_of}
-use Rattle.circuit_commands.specs.declared.circuits.Written.{Written}
-use Rattle.circuit_commands.specs.declared.circuits.Written.TheVariants.{Stored, Passed}
 use Rattle.circuit_commands.specs.steps.FaultLimits.{fault_limit}
 use Rattle.circuit_commands.specs.Circuits.{IsSimWritten, bare_lines, counts_text}
 

@@ -1,12 +1,7 @@
 -- The switches of a transistor have its letter and its gate, and lead between its terminals.
-use Rattle.std.proofs.Common.{◌≡◌, ℕ, List, [], ◌∷◌, map, inl, inr, refl, subst}
-use Rattle.std.specs.Prelude.{◌+ℤ◌}
-use Rattle.finite_sets.specs.Lists.{In}
-use Rattle.finite_sets.proofs.Members.{In-append_cases, In-map, In-map_source}
-use Rattle.full_names.specs.ExtModel.declared.records.FetRec.{FetRec}
-use Rattle.full_names.specs.ExtModel.declared.records.TermRec.{TermRec}
-use Rattle.sim_records.specs.SimText.declared.files.SimFet.{SimFet}
-use Rattle.sim_records.specs.Switches.{letter_of, switch_between, switches_among, switches_from, switches_of, switches_with}
+use Rattle.circuit_laws.proofs.Common.{◌≡◌, ℕ, List, [], ◌∷◌, map, inl, inr, refl, subst, ◌+ℤ◌, In, In-append_cases, In-map, In-map_source, FetRec}
+use Rattle.circuit_laws.proofs.Common.{TermRec, SimFet, letter_of, switches_of}
+use Rattle.sim_records.specs.Switches.{switch_between, switches_among, switches_from, switches_with}
 
 -- the names at terminals
 abbrev pub nodes_at : List TermRec → List (List ℕ)

@@ -1,28 +1,18 @@
 -- A flat circuit has no more nodes than its elements have node records, and its sim records no more than it.
-use Rattle.std.proofs.Common.{◌≡◌, ◌≤◌, ℕ, suc, List, [], ◌∷◌, length, map, inl, inr, refl, ◌∙◌, ap, subst, arith}
-use Rattle.std.specs.Prelude.{sum_by}
-use Rattle.std.specs.List.{flat_map}
+use Rattle.circuit_laws.proofs.Common.{◌≡◌, ◌≤◌, ℕ, suc, List, [], ◌∷◌, length, map, inl, inr, refl, ◌∙◌, ap, subst, arith, sum_by, flat_map}
+use Rattle.circuit_laws.proofs.Common.{bytes_eq-Decides, bytes_eq, In, Chain-append, Chain-either_back, In-index, In-map, find-In, Circuit, NodeRec}
+use Rattle.circuit_laws.proofs.Common.{names_of, Element, full_names, name_in, AreLinked, AreOneNode, AreFlatNodes, IsPlaced, gives_name, is_among}
+use Rattle.circuit_laws.proofs.Common.{aliases_of, sim_of, AreOfOneNode, IsAlias, SimRecords}
 use Rattle.std.proofs.lemmas.List.{length-map}
 use Rattle.std.proofs.lemmas.List.Concat.{length-flat_map}
-use Rattle.std.proofs.lemmas.Slice.Eq.{bytes_eq-Decides}
-use Rattle.std.specs.Str.{bytes_eq}
 use Rattle.finite_sets.specs.Chain.Chain.{stay, go}
-use Rattle.finite_sets.specs.Lists.{In, Distinct}
-use Rattle.finite_sets.proofs.Chains.{Chain-append, Chain-either_back, Chain-one, Chain-same}
+use Rattle.finite_sets.specs.Lists.{Distinct}
+use Rattle.finite_sets.proofs.Chains.{Chain-one, Chain-same}
 use Rattle.finite_sets.proofs.Distincts.{length-distinct}
-use Rattle.finite_sets.proofs.Members.{In-index, In-map}
 use Rattle.finite_sets.proofs.Pairs.{Pairwise, Pairwise-from_AllPairs}
-use Rattle.finite_sets.proofs.Searches.{find-In, find-passes, In-from_list_any}
+use Rattle.finite_sets.proofs.Searches.{find-passes, In-from_list_any}
 use Rattle.finite_sets.proofs.Images.{In-flat_map}
-use Rattle.full_names.specs.ExtModel.declared.circuits.Circuit.{Circuit}
-use Rattle.full_names.specs.ExtModel.declared.records.NodeRec.{NodeRec}
-use Rattle.full_names.specs.ExtModel.RecordNames.{names_of}
-use Rattle.full_names.specs.CircuitModel.Elements.{Element}
-use Rattle.full_names.specs.CircuitModel.FullNames.{full_names, name_in, AreLinked, AreOneNode}
-use Rattle.full_names.specs.CircuitModel.FlatNodes.{AreFlatNodes, IsPlaced, gives_name, is_among}
 use Rattle.full_names.specs.CircuitModel.Refusals.{node_count}
-use Rattle.sim_records.specs.SimRecords.{aliases_of, sim_of}
-use Rattle.sim_networks.specs.SwitchNet.SimRecords.{AreOfOneNode, IsAlias, SimRecords}
 use Rattle.sim_networks.specs.SwitchNet.SimRecords as Records
 use Rattle.sim_networks.specs.SimNetworks.{HasMoreNodesThan, records_of}
 use Rattle.circuit_laws.proofs.FlatNames.{IsOfNode}

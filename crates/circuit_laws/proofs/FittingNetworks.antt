@@ -1,6 +1,5 @@
 -- The network of a flat circuit has no more nodes than a network may have.
-use Rattle.std.proofs.Common.{length}
-use Rattle.full_names.specs.CircuitModel.Elements.{elements_of}
+use Rattle.circuit_laws.proofs.Common.{length, elements_of}
 use Rattle.sim_networks.specs.SwitchNet.declared.limits.TheConstants.{MOST_NODES}
 use Rattle.circuit_laws.specs.NetworkLaws.{FlatNetworksFit}
 use Rattle.circuit_laws.proofs.LawfulElements.{few_node_records, lawful_elements}

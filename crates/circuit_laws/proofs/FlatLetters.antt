@@ -1,21 +1,15 @@
 -- Each transistor of the circuit of a flat layout has a letter that makes a switch.
-use Rattle.std.proofs.Common.{◌≡◌, ◌<◌, ℕ, true, IsTrue, List, [], ◌∷◌, length, sym, subst, arith}
+use Rattle.circuit_laws.proofs.Common.{◌≡◌, ℕ, List, [], ◌∷◌, length, sym, subst, arith, All-contains, In, Contains-from_In, In-index, All-from_In}
+use Rattle.circuit_laws.proofs.Common.{In-flat_map_source, FetRec, sim_of, letter_of, switches_of}
+use Rattle.std.proofs.Common.{◌<◌, true, IsTrue}
 use Rattle.std.specs.Prelude.{slice_index_or}
-use Rattle.std.proofs.lemmas.List.Elements.{All-contains}
-use Rattle.finite_sets.specs.Lists.{In}
-use Rattle.finite_sets.proofs.Members.{Contains-from_In, In-index}
-use Rattle.finite_sets.proofs.Searches.{All-from_In}
-use Rattle.finite_sets.proofs.Images.{In-flat_map_source}
 use Rattle.tech_model.specs.declared.raw.FetRule.{FetRule}
 use Rattle.tech_model.specs.declared.raw.RawTech.{RawTech}
 use Rattle.tech_model.specs.Forms.{is_fet_name}
 use Rattle.tech_model.specs.Rules.{KeepsRules}
-use Rattle.full_names.specs.ExtModel.declared.records.FetRec.{FetRec}
 use Rattle.tree_records.specs.NamedTrees.{NamedTree}
 use Rattle.tree_records.specs.TreeCircuits.{AreFlatFetRecords, IsFlatFetRecord}
 use Rattle.sim_records.specs.SimText.Parts.{is_letter}
-use Rattle.sim_records.specs.SimRecords.{sim_of}
-use Rattle.sim_records.specs.Switches.{letter_of, switches_of}
 use Rattle.sim_networks.specs.SimNetworks.{HasLetter}
 use Rattle.circuit_laws.specs.NetworkLaws.{FlatCircuitsHaveLetters}
 use Rattle.circuit_laws.proofs.FetSwitches.{switch_of_fet}

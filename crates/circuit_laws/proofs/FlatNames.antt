@@ -1,29 +1,15 @@
 -- Each name in the sim records of a flat circuit is a name of one of its nodes.
-use Rattle.std.proofs.Common.{◌≡◌, ℕ, List, [], ◌∷◌, ◌++◌, length, map, inl, inr, refl, sym, ◌∙◌, ap, subst}
-use Rattle.std.specs.Prelude.{Option, Some, None, ℤ, find}
-use Rattle.std.specs.Str.{bytes_eq}
-use Rattle.std.specs.List.{flat_map}
-use Rattle.std.proofs.lemmas.List.Elements.{All-contains}
-use Rattle.std.proofs.lemmas.Slice.Eq.{bytes_eq-Decides}
-use Rattle.finite_sets.specs.Lists.{In}
-use Rattle.finite_sets.proofs.Members.{Contains-from_In, In-append_cases, In-map, In-map_source}
-use Rattle.finite_sets.proofs.Searches.{find-In, find-none, list_any-of_In}
-use Rattle.finite_sets.proofs.Images.{In-flat_map_source}
-use Rattle.full_names.specs.ExtModel.declared.circuits.Circuit.{Circuit}
-use Rattle.full_names.specs.ExtModel.declared.records.CellExt.{CellExt}
-use Rattle.full_names.specs.ExtModel.declared.records.FetRec.{FetRec}
-use Rattle.full_names.specs.ExtModel.declared.records.NodeRec.{NodeRec}
-use Rattle.full_names.specs.ExtModel.declared.records.TermRec.{TermRec}
-use Rattle.full_names.specs.ExtModel.Lawful.{IsLawful, IsLawfulFet, IsLawfulTerm}
-use Rattle.full_names.specs.ExtModel.RecordNames.{names_of, node_names}
-use Rattle.full_names.specs.CircuitModel.Elements.{Element}
-use Rattle.full_names.specs.CircuitModel.FullNames.{name_in}
-use Rattle.full_names.specs.CircuitModel.FlatNodes.{AreFlatNodes, has_name}
-use Rattle.full_names.specs.CircuitModel.FlatFets.{AreFlatFets, IsFlatFet, fets_in, fets_of, node_name, side_name}
+use Rattle.circuit_laws.proofs.Common.{◌≡◌, ℕ, List, [], ◌∷◌, ◌++◌, length, map, inl, inr, refl, sym, ◌∙◌, ap, subst, Option, Some, None, ℤ, find}
+use Rattle.circuit_laws.proofs.Common.{bytes_eq, flat_map, All-contains, bytes_eq-Decides, In, Contains-from_In, In-append_cases, In-map}
+use Rattle.circuit_laws.proofs.Common.{In-map_source, find-In, In-flat_map_source, Circuit, CellExt, FetRec, NodeRec, TermRec, IsLawful, IsLawfulFet}
+use Rattle.circuit_laws.proofs.Common.{names_of, Element, name_in, AreFlatNodes, AreFlatFets, IsFlatFet, fets_in, fets_of, side_name, SimFet}
+use Rattle.circuit_laws.proofs.Common.{aliases_of, cap_of, sim_of, switches_of}
+use Rattle.finite_sets.proofs.Searches.{find-none, list_any-of_In}
+use Rattle.full_names.specs.ExtModel.Lawful.{IsLawfulTerm}
+use Rattle.full_names.specs.ExtModel.RecordNames.{node_names}
+use Rattle.full_names.specs.CircuitModel.FlatNodes.{has_name}
+use Rattle.full_names.specs.CircuitModel.FlatFets.{node_name}
 use Rattle.full_names.specs.CircuitModel.Circuits.{IsCircuitOf}
-use Rattle.sim_records.specs.SimText.declared.files.SimFet.{SimFet}
-use Rattle.sim_records.specs.SimRecords.{aliases_of, cap_of, sim_of}
-use Rattle.sim_records.specs.Switches.{switches_of}
 use Rattle.sim_networks.specs.SwitchNet.SimRecords.{names_of_aliases, names_of_transistors}
 use Rattle.sim_networks.specs.SwitchNet.SimRecords as Records
 use Rattle.sim_networks.specs.SimNetworks.{records_of, transistor_of}

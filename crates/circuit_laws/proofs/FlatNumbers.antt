@@ -1,21 +1,13 @@
 -- The nodes of the network of a flat circuit are those of the circuit, in the same order.
-use Rattle.std.proofs.Common.{◌≡◌, ℕ, List, [], ◌∷◌, map, length, inl, inr, refl, sym, ap, subst}
-use Rattle.std.specs.Prelude.{AllPairs, ℤ}
-use Rattle.finite_sets.specs.Lists.{In}
-use Rattle.finite_sets.proofs.Chains.{Chain-either_back, Chain-either_through}
-use Rattle.finite_sets.proofs.Images.{In-flat_map_source}
-use Rattle.finite_sets.proofs.Members.{In-map, In-map_source}
+use Rattle.circuit_laws.proofs.Common.{◌≡◌, ℕ, List, [], ◌∷◌, map, length, inl, inr, refl, sym, ap, subst, ℤ, In, Chain-either_back}
+use Rattle.circuit_laws.proofs.Common.{In-flat_map_source, In-map, In-map_source, Circuit, NodeRec, names_of, Element, elements_of, AreLinked}
+use Rattle.circuit_laws.proofs.Common.{AreOneNode, AreFlatNodes, aliases_of, cap_of, sim_of, AreOfOneNode, IsAlias, SimRecords}
+use Rattle.std.specs.Prelude.{AllPairs}
+use Rattle.finite_sets.proofs.Chains.{Chain-either_through}
 use Rattle.finite_sets.proofs.Pairs.{AllPairs-from_Pairwise, Pairwise-within}
-use Rattle.full_names.specs.ExtModel.declared.circuits.Circuit.{Circuit}
-use Rattle.full_names.specs.ExtModel.declared.records.NodeRec.{NodeRec}
-use Rattle.full_names.specs.ExtModel.RecordNames.{names_of}
-use Rattle.full_names.specs.CircuitModel.Elements.{Element, elements_of}
-use Rattle.full_names.specs.CircuitModel.FullNames.{AreLinked, AreOneNode, IsFullName}
-use Rattle.full_names.specs.CircuitModel.FlatNodes.{AreFlatNodes}
+use Rattle.full_names.specs.CircuitModel.FullNames.{IsFullName}
 use Rattle.full_names.proofs.ExtModel.NameOrders.{name_cmp_total}
 use Rattle.full_names.proofs.ListOrders.{StandsBefore, not_before_itself, pairwise_names}
-use Rattle.sim_records.specs.SimRecords.{aliases_of, cap_of, sim_of}
-use Rattle.sim_networks.specs.SwitchNet.SimRecords.{AreOfOneNode, IsAlias, SimRecords}
 use Rattle.sim_networks.specs.SwitchNet.SimRecords as Records
 use Rattle.sim_networks.specs.SimNetworks.{HasNodeForEach, records_of}
 use Rattle.sim_networks.proofs.NumberedNames.{node_for_each}

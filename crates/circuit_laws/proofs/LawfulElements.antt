@@ -1,22 +1,15 @@
 -- What the elements of records keep to that have no fault.
-use Rattle.std.proofs.Common.{◌≡◌, ◌≤◌, ℕ, zero, suc, Bool, cond, List, [], ◌∷◌, ◌++◌, length, inl, inr, refl, sym, ◌∙◌, ap, subst}
-use Rattle.std.specs.Prelude.{Option, Some, None}
+use Rattle.circuit_laws.proofs.Common.{◌≡◌, ◌≤◌, ℕ, zero, suc, Bool, cond, List, [], ◌∷◌, ◌++◌, length, inl, inr, refl, sym, ◌∙◌, ap, subst, Option}
+use Rattle.circuit_laws.proofs.Common.{Some, None, bytes_eq, All-contains, In, Contains-from_In, find-In, In-flat_map_source, UseRec, CellExt}
+use Rattle.circuit_laws.proofs.Common.{IsLawful, Element, elements_of}
 use Rattle.std.specs.Option.{option_or}
-use Rattle.std.specs.Str.{bytes_eq}
 use Rattle.std.proofs.lemmas.Bool.{cases_lt, lt-ltb}
-use Rattle.std.proofs.lemmas.List.Elements.{All-contains}
-use Rattle.finite_sets.specs.Lists.{In}
-use Rattle.finite_sets.proofs.Members.{Contains-from_In}
-use Rattle.finite_sets.proofs.Searches.{find-In, option_or-none}
-use Rattle.finite_sets.proofs.Images.{In-flat_map_source}
-use Rattle.full_names.specs.ExtModel.declared.records.UseRec.{UseRec}
-use Rattle.full_names.specs.ExtModel.declared.records.CellExt.{CellExt}
-use Rattle.full_names.specs.ExtModel.Lawful.{IsLawful}
+use Rattle.finite_sets.proofs.Searches.{option_or-none}
 use Rattle.full_names.specs.CircuitModel.declared.faults.FlatFault.TheVariants.{TooMany}
 use Rattle.full_names.specs.CircuitModel.declared.limits.CircuitLimit.{CircuitLimit}
 use Rattle.full_names.specs.CircuitModel.declared.limits.CircuitLimit.TheVariants.{Depth, Elements, Nodes, Names, Merges}
 use Rattle.full_names.specs.CircuitModel.declared.limits.TheConstants.{LONGEST_CHAIN, MOST_FLAT_ELEMENTS, MOST_NODES, MOST_NAME_BYTES, MOST_MERGES}
-use Rattle.full_names.specs.CircuitModel.Elements.{AreRecords, Element, elements_below, elements_of, ext_of, of_option}
+use Rattle.full_names.specs.CircuitModel.Elements.{AreRecords, elements_below, ext_of, of_option}
 use Rattle.full_names.specs.CircuitModel.Refusals.{past, depth_of, node_count, name_bytes, merge_count, class_fault, element_fault, first_fault}
 use Rattle.full_names.specs.CircuitModel.Refusals.{walk_fault, count_fault, flat_fault}
 

@@ -1,3 +1,4 @@
+mod Common
 mod SameLists
 mod SameNodes
 mod SameFets

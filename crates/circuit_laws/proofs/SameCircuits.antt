@@ -1,10 +1,5 @@
 -- The flat circuit of given records is unique.
-use Rattle.std.proofs.Common.{◌≡◌, List, sym, ◌∙◌, subst}
-use Rattle.full_names.specs.ExtModel.declared.records.NodeRec.{NodeRec}
-use Rattle.full_names.specs.ExtModel.declared.records.CellExt.{CellExt}
-use Rattle.full_names.specs.ExtModel.declared.circuits.Circuit.{Circuit}
-use Rattle.full_names.specs.CircuitModel.Elements.{Element, elements_of}
-use Rattle.full_names.specs.CircuitModel.FlatFets.{fets_of, AreFlatFets}
+use Rattle.circuit_laws.proofs.Common.{◌≡◌, List, sym, ◌∙◌, subst, NodeRec, CellExt, Circuit, Element, elements_of, fets_of, AreFlatFets}
 use Rattle.full_names.specs.CircuitModel.Circuits.{IsCircuitOf}
 use Rattle.circuit_laws.specs.CircuitLaws.{CircuitsAreUnique}
 use Rattle.circuit_laws.proofs.SameNodes.{same_nodes}

@@ -1,16 +1,6 @@
 -- Two circuits with the same nodes have the same transistors.
-use Rattle.std.proofs.Common.{◌≡◌, ℕ, pos, List, [], ◌∷◌, refl, sym, ◌∙◌, ap, subst}
-use Rattle.std.specs.Prelude.{if◌then◌else◌}
-use Rattle.std.specs.Str.{bytes_eq}
-use Rattle.finite_sets.specs.Lists.{In}
-use Rattle.finite_sets.specs.Total.{sum_on}
-use Rattle.finite_sets.proofs.Members.{In-map, In-map_source}
-use Rattle.geo_core.specs.declared.squares.Square.{Square}
-use Rattle.full_names.specs.ExtModel.declared.records.NodeRec.{NodeRec}
-use Rattle.full_names.specs.ExtModel.declared.records.TermRec.{TermRec}
-use Rattle.full_names.specs.ExtModel.declared.records.FetRec.{FetRec}
-use Rattle.full_names.specs.CircuitModel.Elements.{Element}
-use Rattle.full_names.specs.CircuitModel.FlatFets.{side_name, IsFlatFet, AreFlatFets}
+use Rattle.circuit_laws.proofs.Common.{◌≡◌, ℕ, pos, List, [], ◌∷◌, refl, sym, ◌∙◌, ap, subst, if◌then◌else◌, bytes_eq, In, sum_on, In-map}
+use Rattle.circuit_laws.proofs.Common.{In-map_source, Square, NodeRec, TermRec, FetRec, Element, side_name, IsFlatFet, AreFlatFets}
 use Rattle.circuit_laws.proofs.SameLists.{same_by_name}
 
 -- each terminal of the one flat transistor is a terminal of the other

@@ -1,14 +1,12 @@
 -- Lists of things that stand in the name order of a name of theirs.
-use Rattle.std.proofs.Common.{◌≡◌, ℕ, List, map}
+use Rattle.circuit_laws.proofs.Common.{◌≡◌, ℕ, List, map, In, AreInNameOrder}
 use Rattle.std.specs.declared.cmp.Ordering.TheVariants.{Less}
 use Rattle.std.proofs.lemmas.Cmp.{tied_itself}
 use Rattle.finite_sets.specs.Laws.{IsTransitive}
-use Rattle.finite_sets.specs.Lists.{In}
 use Rattle.finite_sets.proofs.Pairs.{Pairwise, Pairwise-unmap}
 use Rattle.finite_sets.proofs.InOrder.{same_by_order, Pairwise-from_order}
 use Rattle.full_names.specs.ExtModel.NameOrder.{name_cmp}
 use Rattle.full_names.proofs.ExtModel.NameOrders.{name_cmp_total}
-use Rattle.full_names.specs.CircuitModel.FullNames.{AreInNameOrder}
 
 -- the first name stands before the second
 abbrev IsEarlier : List ℕ → List ℕ → Type 0

@@ -1,18 +1,13 @@
 -- Two circuits of the same elements have the same nodes.
-use Rattle.std.proofs.Common.{◌≡◌, ℕ, ◌<◌, ℤ, pos, List, [], map, get_or, drop, inl, refl, sym, ◌∙◌, ap, subst}
-use Rattle.std.specs.Prelude.{if◌then◌else◌, ◌+ℤ◌, find}
+use Rattle.circuit_laws.proofs.Common.{◌≡◌, ℕ, pos, List, [], map, inl, refl, sym, ◌∙◌, ap, subst, if◌then◌else◌, ◌+ℤ◌, find, In, sum_on}
+use Rattle.circuit_laws.proofs.Common.{Chain-append, Chain-either_back, Square, NodeRec, names_of, Element, name_in, full_names, AreLinked}
+use Rattle.circuit_laws.proofs.Common.{AreInNameOrder, is_among, gives_name, IsPlaced, AreFlatNodes}
+use Rattle.std.proofs.Common.{◌<◌, ℤ, get_or, drop}
 use Rattle.std.proofs.lemmas.List.{ext_get_or, map-id}
 use Rattle.std.proofs.lemmas.Option.{same_Some}
-use Rattle.finite_sets.specs.Lists.{In}
-use Rattle.finite_sets.specs.Total.{sum_on}
-use Rattle.finite_sets.proofs.Chains.{Chain-append, Chain-either_back}
-use Rattle.geo_core.specs.declared.squares.Square.{Square}
-use Rattle.full_names.specs.ExtModel.declared.records.NodeRec.{NodeRec}
 use Rattle.full_names.specs.ExtModel.declared.records.MergeRec.{MergeRec}
-use Rattle.full_names.specs.ExtModel.RecordNames.{names_of}
-use Rattle.full_names.specs.CircuitModel.Elements.{Element, placed}
-use Rattle.full_names.specs.CircuitModel.FullNames.{name_in, full_names, AreLinked, AreInNameOrder}
-use Rattle.full_names.specs.CircuitModel.FlatNodes.{is_among, gives_name, sum_of, measure_of, IsPlaced, IsFlatNode, AreFlatNodes}
+use Rattle.full_names.specs.CircuitModel.Elements.{placed}
+use Rattle.full_names.specs.CircuitModel.FlatNodes.{sum_of, measure_of, IsFlatNode}
 use Rattle.circuit_laws.proofs.SameLists.{same_by_name}
 
 -- what has one name of a node has all names of each other node that has it

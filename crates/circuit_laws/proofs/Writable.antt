@@ -1,26 +1,17 @@
 -- Sim records can be made of flat transistors: their names are those of the records' transistors, and their lengths are sums of some of theirs.
-use Rattle.std.proofs.Common.{◌≡◌, ◌<◌, ◌≤◌, ◌+◌, ℕ, zero, suc, ℤ, pos, negsuc, Bool, true, false, cond, List, [], ◌∷◌, ◌++◌, refl, sym, ◌∙◌}
-use Rattle.std.proofs.Common.{subst, inl, inr, arith}
+use Rattle.circuit_laws.proofs.Common.{◌≡◌, ◌≤◌, ℕ, zero, suc, pos, Bool, cond, List, [], ◌∷◌, ◌++◌, refl, sym, ◌∙◌, subst, inl, inr, arith, ◌+ℤ◌}
+use Rattle.circuit_laws.proofs.Common.{Option, Some, None, sum_by, bytes_eq, In, sum_on, In-map_source, All-from_In, find-In, In-flat_map_source}
+use Rattle.circuit_laws.proofs.Common.{CellExt, FetRec, NodeRec, TermRec, UseRec, IsLawful, IsLawfulFet, Element, elements_of, AreFlatFets}
+use Rattle.circuit_laws.proofs.Common.{IsFlatFet, fets_in, fets_of, side_name}
+use Rattle.std.proofs.Common.{◌<◌, ◌+◌, ℤ, negsuc, true, false}
 use Rattle.std.proofs.lemmas.Int.{ints}
-use Rattle.std.specs.Prelude.{◌≢◌, ◌+ℤ◌, ◌-ℤ◌, ◌≤ℤ◌, IsTrue, Option, Some, None, sum_by}
+use Rattle.std.specs.Prelude.{◌≢◌, ◌-ℤ◌, ◌≤ℤ◌, IsTrue}
 use Rattle.std.specs.Int.RustNames.{unsigned_abs}
-use Rattle.std.specs.Str.{bytes_eq}
 use Rattle.std.proofs.lemmas.List.Sums.{sum_by-cons}
-use Rattle.finite_sets.specs.Lists.{In}
-use Rattle.finite_sets.specs.Total.{sum_on}
-use Rattle.finite_sets.proofs.Members.{In-map_source}
-use Rattle.finite_sets.proofs.Searches.{All-from_In, find-In, All-In}
-use Rattle.finite_sets.proofs.Images.{In-flat_map_source}
+use Rattle.finite_sets.proofs.Searches.{All-In}
 use Rattle.full_names.specs.ExtModel.declared.limits.TheConstants.{LENGTHS_EDGE}
-use Rattle.full_names.specs.ExtModel.declared.records.CellExt.{CellExt}
-use Rattle.full_names.specs.ExtModel.declared.records.FetRec.{FetRec}
-use Rattle.full_names.specs.ExtModel.declared.records.NodeRec.{NodeRec}
-use Rattle.full_names.specs.ExtModel.declared.records.TermRec.{TermRec}
-use Rattle.full_names.specs.ExtModel.declared.records.UseRec.{UseRec}
-use Rattle.full_names.specs.ExtModel.Lawful.{IsLawful, IsLawfulFet}
 use Rattle.full_names.specs.ExtModel.NodeNames.{is_word}
-use Rattle.full_names.specs.CircuitModel.Elements.{Element, elements_below, elements_of, ext_of, of_option}
-use Rattle.full_names.specs.CircuitModel.FlatFets.{AreFlatFets, IsFlatFet, fets_in, fets_of, side_name}
+use Rattle.full_names.specs.CircuitModel.Elements.{elements_below, ext_of, of_option}
 use Rattle.sim_records.specs.SimRecords.{HasLetterAndLengths}
 use Rattle.circuit_laws.specs.CircuitLaws.{FlatTransistorHasLetterAndLengths, FlatTransistorsHaveLetterAndLengths}
 

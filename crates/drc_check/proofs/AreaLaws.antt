@@ -1,18 +1,6 @@
 -- The areas of sound pieces have squares and are bounded, as sets of squares are to be.
-use Rattle.std.proofs.Common.{ℕ, List, subst, arith}
-use Rattle.std.specs.Prelude.{All, filter}
-use Rattle.std.proofs.lemmas.Int.{ints}
-use Rattle.finite_sets.specs.Lists.{In}
-use Rattle.finite_sets.proofs.Members.{In-filter_source, In-map_source}
-use Rattle.finite_sets.proofs.Searches.{All-In, All-from_In}
-use Rattle.geo_core.specs.declared.squares.Rect.{Rect}
-use Rattle.geo_core.specs.Covering.{IsProper}
-use Rattle.square_sets.specs.declared.limits.TheConstants.{SET_EDGE}
-use Rattle.square_sets.specs.Reaches.{IsBounded}
-use Rattle.tech_model.specs.declared.raw.TypeId.{TypeId}
-use Rattle.cell_library.specs.CellTree.Hulls.{SpansInRange}
-use Rattle.drc_check.specs.declared.pieces.ListedPiece.{ListedPiece}
-use Rattle.drc_check.specs.steps.Checks.{areas_of_list, is_of_list, IsSoundPiece}
+use Rattle.drc_check.proofs.Common.{ℕ, List, subst, arith, All, filter, ints, In, In-filter_source, In-map_source, All-In, All-from_In, Rect}
+use Rattle.drc_check.proofs.Common.{IsProper, SET_EDGE, IsBounded, TypeId, SpansInRange, ListedPiece, areas_of_list, is_of_list, IsSoundPiece}
 
 -- what lies in the range of paint is bounded
 spans_bounded : (area : Rect) → SpansInRange area → IsBounded SET_EDGE area

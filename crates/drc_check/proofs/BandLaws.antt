@@ -1,14 +1,9 @@
 -- Bands of a hull, one more on top of the others.
-use Rattle.std.proofs.Common.{◌≡◌, ◌<◌, ◌≤ℤ◌, ◌<ℤ◌, ◌+ℤ◌, ◌-ℤ◌, inl, inr, ℤ, pos, List, [], ◌∷◌, ◌++◌, FitsSigned, w64, to_z, of_z, ap, subst, ◌∙◌}
-use Rattle.std.proofs.Common.{arith}
-use Rattle.std.specs.Int.{int_min}
-use Rattle.std.specs.Int.RustNames.{unsigned_abs}
-use Rattle.std.proofs.lemmas.Int.{by_lt_z, clamps, ints, to_z-of_z}
-use Rattle.finite_sets.proofs.Members.{In-append_left, In-push, In-push_cases}
-use Rattle.geo_core.specs.declared.squares.Rect.{Rect}
-use Rattle.geo_core.specs.Areas.{IsNear, LiesWithin}
-use Rattle.cell_library.specs.CellTree.Hulls.{SpansInRange}
-use Rattle.drc_check.specs.steps.Bands.{AreBandsBelow}
+use Rattle.drc_check.proofs.Common.{◌≡◌, ◌<◌, ◌≤ℤ◌, ◌<ℤ◌, ◌+ℤ◌, ◌-ℤ◌, inl, inr, ℤ, pos, List, [], ◌∷◌, ◌++◌, FitsSigned, w64, to_z, of_z, ap, subst}
+use Rattle.drc_check.proofs.Common.{◌∙◌, arith, int_min, unsigned_abs, ints, to_z-of_z, In-push_cases, Rect, LiesWithin, SpansInRange, AreBandsBelow}
+use Rattle.std.proofs.lemmas.Int.{by_lt_z, clamps}
+use Rattle.finite_sets.proofs.Members.{In-append_left, In-push}
+use Rattle.geo_core.specs.Areas.{IsNear}
 
 -- the rows of a hull between two of its rows
 abbrev pub rows_between : Rect → ℤ → ℤ → Rect

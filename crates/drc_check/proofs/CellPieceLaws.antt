@@ -1,29 +1,15 @@
 -- The pieces in a cell's hull are all that it has.
-use Rattle.std.proofs.Common.{◌≡◌, ◌≢◌, ◌<◌, ◌≤ℤ◌, ◌<ℤ◌, ℕ, false, List, [], length, sym, ap, subst, ◌∙◌, arith, true≢false}
-use Rattle.std.specs.Prelude.{All, Option, Some, None}
-use Rattle.std.proofs.lemmas.Int.{ints}
-use Rattle.geo_core.specs.declared.squares.Rect.{Rect}
-use Rattle.geo_core.specs.Areas.{LiesWithin, has_square}
-use Rattle.geo_core.specs.Covering.{Covers, IsProper}
+use Rattle.drc_check.proofs.Common.{◌≡◌, ◌≢◌, ◌<◌, ◌≤ℤ◌, ◌<ℤ◌, ℕ, false, List, [], length, sym, ap, subst, ◌∙◌, arith, true≢false, All, Option, Some}
+use Rattle.drc_check.proofs.Common.{None, ints, Rect, LiesWithin, has_square, Covers, IsProper, TypeId, joined, Place, flat_sets, joined_at}
+use Rattle.drc_check.proofs.Common.{SpansInRange, LibraryParts, seen, Rule, IsLawfulRule, ListedPiece, AreCellPieces, AreListedPiecesOf, IsListedAt}
 use Rattle.geo_core.proofs.CoveringLaws.{covers_is_proper, has_square-IsProper}
-use Rattle.tech_model.specs.declared.raw.TypeId.{TypeId}
-use Rattle.tech_model.specs.Types.{joined}
-use Rattle.hierarchy_model.specs.Offences.LayoutModel.Places.{Place}
-use Rattle.hierarchy_model.specs.Offences.LayoutModel.FlatSets.{flat_sets}
-use Rattle.hierarchy_model.specs.Offences.Offences.{joined_at}
 use Rattle.cell_library.specs.CellTree.declared.limits.TheConstants.{MOST_DEPTH}
-use Rattle.cell_library.specs.CellTree.Hulls.{SpansInRange}
-use Rattle.cell_library.specs.Libraries.{IsLawfulLibrary, LibraryParts, seen}
+use Rattle.cell_library.specs.Libraries.{IsLawfulLibrary}
 use Rattle.cell_library.specs.LayoutTrees.{tree_at}
 use Rattle.cell_library.specs.Limits.{HullIs}
 use Rattle.cell_library.proofs.BoxesBelow.{hull_seen}
 use Rattle.cell_library.proofs.HullsHoldMaterial.{hull_holds}
 use Rattle.cell_library.proofs.VisitLaws.{hull_spans}
-use Rattle.drc_rules.specs.declared.rules.Rule.{Rule}
-use Rattle.drc_rules.specs.LawfulRules.{IsLawfulRule}
-use Rattle.drc_check.specs.declared.pieces.ListedPiece.{ListedPiece}
-use Rattle.drc_check.specs.steps.CellPieces.{AreCellPieces, AreListedPiecesOf}
-use Rattle.drc_check.specs.steps.Pieces.{IsListedAt}
 use Rattle.drc_check.proofs.ListedLaws.{listed_is_material}
 
 -- a part of a hull lies in the range of paint

@@ -1,11 +1,9 @@
 -- What is found of the things of a list.
-use Rattle.std.proofs.Common.{◌≡◌, ◌⊎◌, ◌+◌, ◌<◌, inl, inr, ℕ, List, [], ◌∷◌, ◌++◌, length, take, get_or, refl, sym, ap, ◌∙◌}
-use Rattle.std.specs.Prelude.{Option, Some, None}
-use Rattle.std.specs.List.{cons_option, filter_map}
+use Rattle.drc_check.proofs.Common.{◌≡◌, ◌⊎◌, ◌+◌, ◌<◌, inl, inr, ℕ, List, [], ◌∷◌, ◌++◌, length, take, get_or, refl, sym, ap, ◌∙◌, Option, Some}
+use Rattle.drc_check.proofs.Common.{None, filter_map, append_assoc, take_more, In}
+use Rattle.std.specs.List.{cons_option}
 use Rattle.std.specs.Option.{option_to_list}
-use Rattle.std.proofs.lemmas.List.{append_assoc, take_more}
 use Rattle.std.proofs.lemmas.List.Elements.{filter_map-append}
-use Rattle.finite_sets.specs.Lists.{In}
 
 option_source : {Y : Type 0} (found : Option Y) (ys : List Y) (y : Y) → In y (cons_option found ys) → (found ≡ Some y) ⊎ In y ys
 option_source None ys y among = inr among

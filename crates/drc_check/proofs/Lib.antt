@@ -1,6 +1,7 @@
 mod AreaLaws
 mod BandLaws
 mod CellPieceLaws
+mod Common
 mod FoundLists
 mod ListedLaws
 mod MarkLaws

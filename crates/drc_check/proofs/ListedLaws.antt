@@ -1,17 +1,11 @@
 -- Types that lawful rules list.
-use Rattle.std.proofs.Common.{◌≡◌, ◌≢◌, ◌<◌, ◌==◌, inl, inr, ℕ, true, List, length, subst, arith, eq-eqb}
-use Rattle.std.specs.Prelude.{All, IsTrue}
-use Rattle.std.specs.List.{list_any}
-use Rattle.finite_sets.specs.Lists.{In}
-use Rattle.finite_sets.proofs.Searches.{All-In, list_any-passes}
-use Rattle.tech_model.specs.declared.raw.RawTech.{RawTech}
-use Rattle.tech_model.specs.declared.raw.TypeId.{TypeId}
+use Rattle.drc_check.proofs.Common.{◌≡◌, ◌≢◌, ◌<◌, ◌==◌, inl, inr, ℕ, true, List, length, subst, arith, eq-eqb, All, list_any, In, All-In}
+use Rattle.drc_check.proofs.Common.{list_any-passes, RawTech, TypeId, Rule, IsLawfulRule, has_plane, IsListedType}
+use Rattle.std.specs.Prelude.{IsTrue}
 use Rattle.tech_model.specs.Types.{is_type}
 use Rattle.tech_model.proofs.TypeLaws.{or_left, or_right}
 use Rattle.tech_model.proofs.WellFormedLaws.{type_bounds}
-use Rattle.drc_rules.specs.declared.rules.Rule.{Rule}
-use Rattle.drc_rules.specs.LawfulRules.{AreTypesOn, IsLawfulRule}
-use Rattle.drc_check.specs.steps.Listed.{has_plane, IsListedType}
+use Rattle.drc_rules.specs.LawfulRules.{AreTypesOn}
 
 type_is_material : (raw : RawTech) (plane : ℕ) (types : List TypeId) (kind : TypeId) → AreTypesOn raw plane types → In kind types → kind.0 ≢ 0
 type_is_material raw plane types kind are among space =

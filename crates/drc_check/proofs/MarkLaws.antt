@@ -1,8 +1,7 @@
 -- Marks of types.
-use Rattle.std.proofs.Common.{◌<◌, inl, inr, ℕ, Bool, true, false, List, length, sym, subst, ◌∙◌, get_or-set_other, get_or-set_same}
-use Rattle.std.proofs.Math.ListN.{set}
+use Rattle.drc_check.proofs.Common.{◌<◌, inl, inr, ℕ, Bool, true, false, List, length, sym, subst, ◌∙◌, set, IsMarkedType}
+use Rattle.std.proofs.Common.{get_or-set_other, get_or-set_same}
 use Rattle.std.proofs.lemmas.Bool.{cases_eq}
-use Rattle.drc_check.specs.steps.Listed.{IsMarkedType}
 
 -- what is marked is
 pub mark_set : (marks : List Bool) (at : ℕ) → at < length marks → IsMarkedType (set marks at true) at

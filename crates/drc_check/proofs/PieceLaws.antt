@@ -1,13 +1,8 @@
 -- Pieces of which fewer are wanted, and pieces that are joined.
-use Rattle.std.proofs.Common.{◌⊎◌, inl, inr, List, [], ◌++◌}
-use Rattle.finite_sets.specs.Lists.{In}
-use Rattle.finite_sets.proofs.Members.{In-append_cases, In-append_left, In-append_right}
-use Rattle.tech_model.specs.declared.raw.RawTech.{RawTech}
-use Rattle.tech_model.specs.declared.raw.TypeId.{TypeId}
-use Rattle.hierarchy_model.specs.Offences.LayoutModel.Places.{Place}
-use Rattle.hierarchy_model.specs.Offences.Offences.{SetLayout}
-use Rattle.drc_check.specs.declared.pieces.ListedPiece.{ListedPiece}
-use Rattle.drc_check.specs.steps.Pieces.{AreListedPieces, HasPieceAt}
+use Rattle.drc_check.proofs.Common.{◌⊎◌, inl, inr, List, [], ◌++◌, In, In-append_cases, RawTech, TypeId, Place, SetLayout, ListedPiece}
+use Rattle.drc_check.proofs.Common.{AreListedPieces}
+use Rattle.finite_sets.proofs.Members.{In-append_left, In-append_right}
+use Rattle.drc_check.specs.steps.Pieces.{HasPieceAt}
 
 -- a piece that is found among some is found among more
 pub found_among : (some all : List ListedPiece) (place : Place) (kind : TypeId) → ((piece : ListedPiece) → In piece some → In piece all)

@@ -1,19 +1,9 @@
 -- The pieces that tiles make, one plane after another.
-use Rattle.std.proofs.Common.{◌≡◌, ◌+◌, ◌<◌, ◌≤◌, inl, inr, ℕ, Bool, false, List, ◌++◌, length, sym, ap, ◌∙◌, arith, true≢false}
-use Rattle.std.specs.Prelude.{All}
-use Rattle.std.specs.List.{list_any}
+use Rattle.drc_check.proofs.Common.{◌≡◌, ◌+◌, ◌<◌, ◌≤◌, inl, inr, ℕ, Bool, false, List, ◌++◌, length, sym, ap, ◌∙◌, arith, true≢false, All, list_any}
+use Rattle.drc_check.proofs.Common.{append_assoc, In-append_cases, RawTech, TypeId, Place, PartTile, Rule, IsLawfulRule, ListedPiece, has_plane}
+use Rattle.drc_check.proofs.Common.{IsListedType, IsMarkedType, set_of_all, AddsListed, AddsMadePieces, IsListedAt}
 use Rattle.std.proofs.lemmas.Bool.{cases_lt}
-use Rattle.std.proofs.lemmas.List.{append_assoc}
-use Rattle.finite_sets.proofs.Members.{In-append_cases}
-use Rattle.tech_model.specs.declared.raw.RawTech.{RawTech}
-use Rattle.tech_model.specs.declared.raw.TypeId.{TypeId}
-use Rattle.hierarchy_model.specs.Offences.LayoutModel.Places.{Place}
-use Rattle.cell_library.specs.declared.part_tiles.PartTile.{PartTile}
-use Rattle.drc_rules.specs.declared.rules.Rule.{Rule}
-use Rattle.drc_rules.specs.LawfulRules.{IsLawfulRule}
-use Rattle.drc_check.specs.declared.pieces.ListedPiece.{ListedPiece}
-use Rattle.drc_check.specs.steps.Listed.{has_plane, IsListedType, IsMarkedType}
-use Rattle.drc_check.specs.steps.Pieces.{set_of_all, AddsListed, AddsMadePieces, AddsOfPlane, IsListedAt, IsMarkedTypeOn}
+use Rattle.drc_check.specs.steps.Pieces.{AddsOfPlane, IsMarkedTypeOn}
 use Rattle.drc_check.proofs.ListedLaws.{listed_is_material, listed_plane, listed_plane_named}
 use Rattle.drc_check.proofs.PieceLaws.{pieces_for, pieces_joined}
 

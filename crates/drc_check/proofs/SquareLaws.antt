@@ -1,30 +1,13 @@
 -- The squares of a list's types are those that its pieces have, so they violate the same rules.
-use Rattle.std.proofs.Common.{◌≡◌, ◌==◌, inl, inr, ℕ, ℤ, true, List, refl, sym, ap, subst, ◌∙◌, eqb-true, eq-eqb}
-use Rattle.std.specs.Prelude.{Some, filter}
-use Rattle.std.specs.List.{list_any}
-use Rattle.std.proofs.lemmas.Bool.{and_from, and_parts}
-use Rattle.finite_sets.specs.Lists.{In}
-use Rattle.finite_sets.proofs.Members.{In-filter, In-filter_passes, In-filter_source, In-map, In-map_source}
-use Rattle.finite_sets.proofs.Searches.{list_any-passes, list_any-source}
-use Rattle.geo_core.specs.declared.squares.Square.{Square}
-use Rattle.geo_core.specs.declared.squares.Rect.{Rect}
-use Rattle.geo_core.specs.Covering.{Covers}
-use Rattle.geo_core.specs.Strips.{IsInUnion}
+use Rattle.drc_check.proofs.Common.{◌≡◌, ◌==◌, inl, inr, ℕ, ℤ, true, List, refl, sym, ap, subst, ◌∙◌, eqb-true, eq-eqb, Some, filter, list_any}
+use Rattle.drc_check.proofs.Common.{and_from, and_parts, In, In-filter, In-filter_passes, In-filter_source, In-map_source, list_any-passes, Square}
+use Rattle.drc_check.proofs.Common.{Rect, Covers, IsInUnion, RawTech, TypeId, CellTree, flat_sets, joined_at, on_plane, Rule, RuleKind, ListedPiece}
+use Rattle.drc_check.proofs.Common.{areas_of_list, is_of_list, ViolatesIn, IsListedType, AreListedPieces, IsListedAt, ViolatesBy}
+use Rattle.finite_sets.proofs.Members.{In-map}
+use Rattle.finite_sets.proofs.Searches.{list_any-source}
 use Rattle.square_sets.specs.Boxes.{LiesInBox}
-use Rattle.tech_model.specs.declared.raw.RawTech.{RawTech}
-use Rattle.tech_model.specs.declared.raw.TypeId.{TypeId}
-use Rattle.hierarchy_model.specs.Offences.LayoutModel.CellTrees.{CellTree}
-use Rattle.hierarchy_model.specs.Offences.LayoutModel.FlatSets.{flat_sets}
-use Rattle.hierarchy_model.specs.Offences.Offences.{joined_at}
-use Rattle.hierarchy_model.specs.Offences.TypedStacks.{on_plane}
-use Rattle.drc_rules.specs.declared.rules.Rule.{Rule}
-use Rattle.drc_rules.specs.declared.rules.RuleKind.{RuleKind}
 use Rattle.drc_rules.specs.declared.rules.RuleKind.TheVariants.{Separation, Spacing, Width}
-use Rattle.drc_check.specs.declared.pieces.ListedPiece.{ListedPiece}
-use Rattle.drc_check.specs.steps.Checks.{areas_of_list, is_of_list, ViolatesIn}
-use Rattle.drc_check.specs.steps.Listed.{IsListedType}
-use Rattle.drc_check.specs.steps.Pieces.{AreListedPieces, IsListedAt}
-use Rattle.drc_check.specs.Violations.{IsOfList, Violates, ViolatesBy}
+use Rattle.drc_check.specs.Violations.{IsOfList, Violates}
 
 -- ---- sets with the same squares
 

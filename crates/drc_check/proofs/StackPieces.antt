@@ -1,38 +1,24 @@
 -- The pieces of a plane, from the stacks that its tiles make.
-use Rattle.std.proofs.Common.{◌≡◌, ◌≢◌, ◌&&◌, ◌==◌, ◌<◌, inl, inr, ℕ, Bool, true, false, cond, bit_or, List, [], ◌∷◌, ◌++◌, length, map}
-use Rattle.std.proofs.Common.{refl, sym, ap, subst, ◌∙◌, arith, eqb-true, eq-eqb}
-use Rattle.std.specs.Prelude.{Option, Some, None, slice_get, slice_index_or}
-use Rattle.std.specs.Int.{bit_at}
-use Rattle.std.specs.List.{filter_map}
+use Rattle.drc_check.proofs.Common.{◌≡◌, ◌≢◌, ◌&&◌, ◌==◌, ◌<◌, inl, inr, ℕ, Bool, true, false, cond, bit_or, List, [], ◌∷◌, ◌++◌, length, map, refl}
+use Rattle.drc_check.proofs.Common.{sym, ap, subst, ◌∙◌, arith, eqb-true, eq-eqb, Option, Some, None, slice_index_or, bit_at, filter_map, and_parts}
+use Rattle.drc_check.proofs.Common.{cases_Bool, In, In-filter, In-filter_passes, In-filter_source, All-from_In, Square, Rect, Covers, IsProper}
+use Rattle.drc_check.proofs.Common.{is_covered, Stack, PartSet, RawTech, TypeId, joined, parts_of, Place, on_plane, bit_kept, union_bit, PartTile}
+use Rattle.drc_check.proofs.Common.{ListedPiece, member_union, stack_piece, part_set_at, set_in, set_of_all, set_of_tile, tiles_of_plane}
+use Rattle.drc_check.proofs.Common.{AreListedPieces, HasMembersIn}
+use Rattle.std.specs.Prelude.{slice_get}
 use Rattle.std.specs.Option.{option_map}
-use Rattle.std.proofs.lemmas.Bool.{and_parts, cases_Bool}
 use Rattle.std.proofs.lemmas.List.{length-map}
 use Rattle.std.proofs.lemmas.Option.{get_or_from_slice_get, slice_get-map, slice_get_within}
-use Rattle.finite_sets.specs.Lists.{In}
-use Rattle.finite_sets.proofs.Members.{In-filter, In-filter_passes, In-filter_source}
 use Rattle.finite_sets.proofs.Places.{In-slice_get, slice_get-In}
-use Rattle.finite_sets.proofs.Searches.{All-from_In}
-use Rattle.geo_core.specs.declared.squares.Square.{Square}
-use Rattle.geo_core.specs.declared.squares.Rect.{Rect}
 use Rattle.geo_core.specs.Areas.{corner_of}
-use Rattle.geo_core.specs.Covering.{Covers, CoversAt, IsProper, is_covered}
+use Rattle.geo_core.specs.Covering.{CoversAt}
 use Rattle.geo_core.proofs.CoveringLaws.{Covers-is_covered, corner_covered}
-use Rattle.rect_overlays.specs.declared.stacks.Stack.{Stack}
 use Rattle.rect_overlays.specs.Stacks.{AreStacks, IsStack}
-use Rattle.tech_model.specs.declared.raw.PartSet.{PartSet}
-use Rattle.tech_model.specs.declared.raw.RawTech.{RawTech}
-use Rattle.tech_model.specs.declared.raw.TypeId.{TypeId}
-use Rattle.tech_model.specs.Types.{joined, parts_of, type_number}
-use Rattle.hierarchy_model.specs.Offences.LayoutModel.Places.{Place}
-use Rattle.hierarchy_model.specs.Offences.TypedStacks.{on_plane}
+use Rattle.tech_model.specs.Types.{type_number}
 use Rattle.hierarchy_model.proofs.Offences.LayoutModel.SetUnions.{none_union, union_assoc, union_none, union_some}
-use Rattle.hierarchy_model.proofs.Offences.TileLaws.{bit_kept, union_bit}
 use Rattle.hierarchy_model.proofs.Offences.UnionLaws.{same_sets}
-use Rattle.cell_library.specs.declared.part_tiles.PartTile.{PartTile}
-use Rattle.drc_check.specs.declared.pieces.ListedPiece.{ListedPiece}
-use Rattle.drc_check.specs.steps.Pieces.{tile_area, is_on_plane, marked_piece, member_union, stack_piece, part_set_at, set_in, set_of_all, set_of_tile}
-use Rattle.drc_check.specs.steps.Pieces.{tiles_of_plane}
-use Rattle.drc_check.specs.steps.Pieces.{AreListedPieces, HasMembersIn, IsMarkedTypeOn, IsOnPartTile}
+use Rattle.drc_check.specs.steps.Pieces.{tile_area, is_on_plane, marked_piece}
+use Rattle.drc_check.specs.steps.Pieces.{IsMarkedTypeOn, IsOnPartTile}
 use Rattle.drc_check.proofs.FoundLists.{filter_map_kept, filter_map_source}
 use Rattle.drc_check.proofs.TileUnions.{part_of_tile, tile_of_part}
 

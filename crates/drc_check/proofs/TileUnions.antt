@@ -1,29 +1,18 @@
 -- What tiles make together, and that it is what the flat layout has where a visit hands the tiles out.
-use Rattle.std.proofs.Common.{◌≡◌, ◌&&◌, ◌==◌, ◌<◌, inl, inr, ℕ, Bool, true, false, cond, List, length, get_or, refl, sym, ap, subst, ◌∙◌}
-use Rattle.std.proofs.Common.{eqb-true, eq-eqb}
-use Rattle.std.specs.Int.{bit_at}
-use Rattle.std.proofs.lemmas.Bool.{and_parts, and_from, cases_Bool}
-use Rattle.finite_sets.specs.Lists.{In, Lists}
-use Rattle.finite_sets.proofs.Members.{In-get_or, In-index}
-use Rattle.geo_core.specs.declared.squares.Square.{Square}
-use Rattle.geo_core.specs.declared.squares.Rect.{Rect}
-use Rattle.geo_core.specs.Covering.{Covers, is_covered}
+use Rattle.drc_check.proofs.Common.{◌≡◌, ◌&&◌, ◌==◌, ◌<◌, inl, inr, ℕ, Bool, true, false, cond, List, length, get_or, refl, sym, ap, subst, ◌∙◌}
+use Rattle.drc_check.proofs.Common.{eqb-true, eq-eqb, bit_at, and_parts, and_from, cases_Bool, In, Lists, In-get_or, Square, Rect, Covers}
+use Rattle.drc_check.proofs.Common.{is_covered, RawTech, joined, parts_of, Place, CellTree, flat_sets, SetLayout, joined_at, bit_kept, union_bit}
+use Rattle.drc_check.proofs.Common.{PartTile, IsPartTileIn, set_of_part, set_of_tiles, set_of_all, set_of_tile}
+use Rattle.finite_sets.proofs.Members.{In-index}
 use Rattle.geo_core.specs.Images.{rect_image}
 use Rattle.geo_core.proofs.CoveringLaws.{Covers-is_covered, is_covered-Covers, covers_second}
-use Rattle.tech_model.specs.declared.raw.RawTech.{RawTech}
-use Rattle.tech_model.specs.Types.{joined, parts_of}
-use Rattle.hierarchy_model.specs.Offences.LayoutModel.Places.{Place}
-use Rattle.hierarchy_model.specs.Offences.LayoutModel.CellTrees.{CellTree}
 use Rattle.hierarchy_model.specs.Offences.LayoutModel.CellTrees.CellTree.{cell_tree}
-use Rattle.hierarchy_model.specs.Offences.LayoutModel.FlatSets.{flat_sets, parts_in}
-use Rattle.hierarchy_model.specs.Offences.Offences.{SetLayout, flat_type, joined_at, union_of}
-use Rattle.hierarchy_model.proofs.Offences.TileLaws.{bit_kept, union_bit}
+use Rattle.hierarchy_model.specs.Offences.LayoutModel.FlatSets.{parts_in}
+use Rattle.hierarchy_model.specs.Offences.Offences.{flat_type, union_of}
 use Rattle.hierarchy_model.proofs.Offences.UnionLaws.{no_part, same_sets}
 use Rattle.hierarchy_model.proofs.CleanLaws.{flat_of_parts}
-use Rattle.cell_library.specs.declared.part_tiles.PartTile.{PartTile}
-use Rattle.cell_library.specs.PartTiles.{IsPartTileIn, set_from, set_of_part, set_of_tiles}
+use Rattle.cell_library.specs.PartTiles.{set_from}
 use Rattle.cell_library.proofs.PartLaws.{part_is_there}
-use Rattle.drc_check.specs.steps.Pieces.{set_of_all, set_of_tile}
 
 -- ---- the parts of what tiles make
 

@@ -1,17 +1,10 @@
 -- Lists of violations: one rule more, the same sets, and that there is one list.
-use Rattle.std.proofs.Common.{◌≡◌, ◌<◌, ◌+◌, inl, inr, ℕ, List, [], ◌∷◌, ◌++◌, length, map, refl, sym, ap, subst, ◌∙◌, arith}
-use Rattle.std.proofs.lemmas.List.{append-nil, append_assoc}
-use Rattle.std.specs.Prelude.{Err, IfOk, Ok, Result}
-use Rattle.finite_sets.specs.Lists.{In}
-use Rattle.finite_sets.proofs.Members.{In-append_cases, In-map_source}
-use Rattle.geo_core.specs.declared.squares.Square.{Square}
-use Rattle.geo_core.specs.declared.squares.Rect.{Rect}
-use Rattle.geo_core.specs.Strips.{IsStrips}
+use Rattle.drc_check.proofs.Common.{◌≡◌, ◌<◌, ◌+◌, inl, inr, ℕ, List, [], ◌∷◌, ◌++◌, length, map, refl, sym, ap, subst, ◌∙◌, arith, append-nil}
+use Rattle.drc_check.proofs.Common.{append_assoc, IfOk, In, In-append_cases, In-map_source, Square, Rect, IsStrips, Rule, Violation, violation_of}
+use Rattle.drc_check.proofs.Common.{AreRuleStripsFrom}
+use Rattle.std.specs.Prelude.{Err, Ok, Result}
 use Rattle.geo_core.proofs.StripSets.{strips_same}
 use Rattle.geo_strips.proofs.StripListLaws.{one_list}
-use Rattle.drc_rules.specs.declared.rules.Rule.{Rule}
-use Rattle.drc_check.specs.declared.violations.Violation.{Violation}
-use Rattle.drc_check.specs.Violations.{violation_of, AreRuleStripsFrom}
 
 -- what follows from what holds of the value of an answer holds of it
 pub if_ok_then : {X E : Type 0} (result : Result X E) (P Q : X → Type 0) → ((x : X) → P x → Q x) → IfOk result P → IfOk result Q

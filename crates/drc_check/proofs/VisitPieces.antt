@@ -1,27 +1,12 @@
 -- The pieces that the tiles of visits make are those of the flat layout.
-use Rattle.std.proofs.Common.{◌≡◌, ◌+◌, ◌<◌, inl, inr, ◌⊎◌, ℕ, suc, List, [], ◌∷◌, ◌++◌, length, take, sym, ap, subst, ◌∙◌, arith}
-use Rattle.std.specs.Prelude.{slice_index_or}
+use Rattle.drc_check.proofs.Common.{◌≡◌, ◌+◌, ◌<◌, inl, inr, ◌⊎◌, ℕ, List, [], ◌∷◌, ◌++◌, length, take, sym, ap, subst, ◌∙◌, arith, slice_index_or}
+use Rattle.drc_check.proofs.Common.{In, Lists, In-append_cases, In-push_cases, Square, Rect, LiesWithin, Covers, IsInUnion, RawTech, Place, CellTree}
+use Rattle.drc_check.proofs.Common.{flat_sets, on_plane, PartTile, IsPartTileIn, set_of_part, set_of_tiles, Rule, ListedPiece, AreBandsOf}
+use Rattle.drc_check.proofs.Common.{AreListedPiecesIn, AreListedPiecesOf, AddsListed}
+use Rattle.std.proofs.Common.{suc}
 use Rattle.std.proofs.Math.Seq.{take-suc}
-use Rattle.finite_sets.specs.Lists.{In, Lists}
-use Rattle.finite_sets.proofs.Members.{In-append_cases, In-push_cases}
-use Rattle.geo_core.specs.declared.squares.Square.{Square}
-use Rattle.geo_core.specs.declared.squares.Rect.{Rect}
-use Rattle.geo_core.specs.Areas.{LiesWithin}
-use Rattle.geo_core.specs.Covering.{Covers}
-use Rattle.geo_core.specs.Strips.{IsInUnion}
 use Rattle.geo_core.proofs.CoveringLaws.{within_trans, filled_within}
-use Rattle.tech_model.specs.declared.raw.RawTech.{RawTech}
-use Rattle.hierarchy_model.specs.Offences.LayoutModel.Places.{Place}
-use Rattle.hierarchy_model.specs.Offences.LayoutModel.CellTrees.{CellTree}
-use Rattle.hierarchy_model.specs.Offences.LayoutModel.FlatSets.{flat_sets}
-use Rattle.hierarchy_model.specs.Offences.TypedStacks.{on_plane}
-use Rattle.cell_library.specs.declared.part_tiles.PartTile.{PartTile}
-use Rattle.cell_library.specs.PartTiles.{IsPartTileIn, set_of_part, set_of_tiles}
-use Rattle.drc_rules.specs.declared.rules.Rule.{Rule}
-use Rattle.drc_check.specs.declared.pieces.ListedPiece.{ListedPiece}
-use Rattle.drc_check.specs.steps.Bands.{AreBandsOf}
-use Rattle.drc_check.specs.steps.CellPieces.{AreListedPiecesIn, AreListedPiecesOf, IsListedIn}
-use Rattle.drc_check.specs.steps.Pieces.{AddsListed}
+use Rattle.drc_check.specs.steps.CellPieces.{IsListedIn}
 use Rattle.drc_check.proofs.PieceLaws.{no_pieces, pieces_for, pieces_joined}
 use Rattle.drc_check.proofs.TileUnions.{flat_of_tiles, tile_inside}
 

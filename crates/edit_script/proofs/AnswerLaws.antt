@@ -1,17 +1,12 @@
 -- What the library answers to an edit of the current cell, as what comes of a command.
-use Rattle.std.proofs.Common.{◌≡◌, ◌⊎◌, ◌∙◌, sym, ap, subst, refl, inl, inr, ℕ, suc, List, Option, Some, Result, Ok, Err}
+use Rattle.edit_script.proofs.Common.{◌≡◌, ◌∙◌, sym, ap, subst, ℕ, List, Option, Some, Result, Ok, Err, option_map, option_map_or, CellKey, LibFault}
+use Rattle.edit_script.proofs.Common.{LibraryParts, edits_of, seen, EditIsRefused, LibraryView, EditFault, IsTold, editing_of, in_current}
+use Rattle.std.proofs.Common.{◌⊎◌, refl, inl, inr, suc}
 use Rattle.std.specs.Prelude.{MatchOption, OnErr, OnOk}
-use Rattle.std.specs.Option.{option_map, option_map_or}
-use Rattle.ext_model.specs.declared.tables.CellKey.{CellKey}
-use Rattle.cell_library.specs.declared.faults.LibFault.{LibFault}
-use Rattle.cell_library.specs.Libraries.{LibraryParts, IsNextEdit, IsSame, edits_of, seen}
-use Rattle.cell_library.specs.Refusals.{Answers, AnswersOrLacksMemory, EditIsRefused, HasFaultOrLacksMemory}
-use Rattle.cell_library.specs.Views.{LibraryView}
-use Rattle.edit_script.specs.declared.faults.EditFault.{EditFault}
+use Rattle.cell_library.specs.Libraries.{IsNextEdit, IsSame}
+use Rattle.cell_library.specs.Refusals.{Answers, AnswersOrLacksMemory, HasFaultOrLacksMemory}
 use Rattle.edit_script.specs.declared.faults.EditFault.TheVariants.{NoCurrent, Memory}
-use Rattle.edit_script.specs.Answers.{IsTold, Leaves}
-use Rattle.edit_script.specs.Editing.{editing_of}
-use Rattle.edit_script.specs.Edits.{in_current}
+use Rattle.edit_script.specs.Answers.{Leaves}
 use Rattle.edit_script.specs.Refusals.{CurrentIsRefused, LibraryRefuses, with_word}
 
 -- ---- an edit of the library

@@ -1,24 +1,17 @@
 -- A new cell, or another current one, as what comes of a command; and what words name.
-use Rattle.std.proofs.Common.{◌≡◌, ◌<◌, ◌∙◌, sym, ap, subst, ℕ, List, length, Option, Some, None, arith}
-use Rattle.std.specs.Option.{option_map}
+use Rattle.edit_script.proofs.Common.{◌≡◌, ◌<◌, ◌∙◌, sym, ap, subst, ℕ, List, length, Option, Some, None, arith, option_map, CellKey, LayerId}
+use Rattle.edit_script.proofs.Common.{RawTech, layer_named, LibFault, LibraryParts, edits_of, seen, EditIsRefused, LibraryView, cell_named}
+use Rattle.edit_script.proofs.Common.{count_seen, EditFault, editing_of, applied}
 use Rattle.std.specs.Str.{bytes_eq}
 use Rattle.std.proofs.lemmas.List.{length-map}
 use Rattle.std.proofs.lemmas.List.Quantifiers.{position-Some}
 use Rattle.finite_sets.proofs.Searches.{position_from-below}
-use Rattle.ext_model.specs.declared.tables.CellKey.{CellKey}
-use Rattle.tech_model.specs.declared.raw.LayerId.{LayerId}
-use Rattle.tech_model.specs.declared.raw.RawTech.{RawTech}
-use Rattle.tech_model.specs.Types.{has_name, layer_named, layer_number}
-use Rattle.cell_library.specs.declared.faults.LibFault.{LibFault}
+use Rattle.tech_model.specs.Types.{has_name, layer_number}
 use Rattle.cell_library.specs.Edits.{with_new_cell}
-use Rattle.cell_library.specs.Libraries.{LibraryParts, IsNextCell, edits_of, seen}
-use Rattle.cell_library.specs.Refusals.{EditIsRefused, NewCellIsRefused}
-use Rattle.cell_library.specs.Views.{CellView, LibraryView, cell_named, names_of}
-use Rattle.cell_library.proofs.ViewLaws.{count_seen}
+use Rattle.cell_library.specs.Libraries.{IsNextCell}
+use Rattle.cell_library.specs.Refusals.{NewCellIsRefused}
+use Rattle.cell_library.specs.Views.{CellView, names_of}
 use Rattle.script_lines.specs.declared.commands.Command.TheVariants as command
-use Rattle.edit_script.specs.declared.faults.EditFault.{EditFault}
-use Rattle.edit_script.specs.Editing.{editing_of}
-use Rattle.edit_script.specs.Edits.{applied}
 use Rattle.edit_script.specs.Refusals.{ApplyIsRefused}
 
 -- ---- what words name

@@ -1,23 +1,14 @@
 -- The current cell stays one of the library's: no command takes a cell away.
-use Rattle.std.proofs.Common.{◌≡◌, ◌<◌, ◌∙◌, sym, ap, subst, refl, arith, length-append}
-use Rattle.std.proofs.Common.{ℕ, ℤ, List, [], ◌∷◌, length, Option, Some, None, Result, Ok, Err}
+use Rattle.edit_script.proofs.Common.{◌≡◌, ◌<◌, ◌∙◌, sym, ap, subst, arith, ℕ, ℤ, List, [], ◌∷◌, length, Option, Some, None, Result, Ok, Err}
+use Rattle.edit_script.proofs.Common.{option_map_or, Grid, LayerId, layer_named, CellKey, empty_cell, erased, labelled, moved, painted, placed}
+use Rattle.edit_script.proofs.Common.{transform_of, unlabelled, with_grid, without_use, LibraryParts, LibraryView, cell_named, length-changed_at}
+use Rattle.edit_script.proofs.Common.{count_seen, Command, EditFault, Applies, Editing, editing_of, applied, grid_of, in_current, label_layer}
+use Rattle.edit_script.proofs.Common.{label_of, with_cell, with_label_layer, with_layer, with_six_as_grid}
+use Rattle.std.proofs.Common.{refl, length-append}
 use Rattle.std.specs.Prelude.{IfSome}
-use Rattle.std.specs.Option.{option_map_or}
 use Rattle.geo_core.specs.declared.transforms.Transform.{Transform}
-use Rattle.geo_core.specs.declared.grids.Grid.{Grid}
-use Rattle.tech_model.specs.declared.raw.LayerId.{LayerId}
-use Rattle.tech_model.specs.Types.{layer_named}
-use Rattle.ext_model.specs.declared.tables.CellKey.{CellKey}
-use Rattle.cell_library.specs.Edits.{empty_cell, erased, labelled, moved, painted, placed, transform_of, unlabelled, with_grid, without_use}
-use Rattle.cell_library.specs.Libraries.{LibraryParts}
-use Rattle.cell_library.specs.Views.{LibraryView, cell_named}
-use Rattle.cell_library.proofs.ViewLaws.{length-changed_at, count_seen}
-use Rattle.script_lines.specs.declared.commands.Command.{Command}
 use Rattle.script_lines.specs.declared.commands.Command.TheVariants as command
-use Rattle.edit_script.specs.declared.faults.EditFault.{EditFault}
-use Rattle.edit_script.specs.Answers.{Applies}
-use Rattle.edit_script.specs.Editing.{Editing, IsCurrent, editing_of}
-use Rattle.edit_script.specs.Edits.{applied, grid_of, in_current, label_layer, label_of, with_cell, with_label_layer, with_layer, with_six_as_grid}
+use Rattle.edit_script.specs.Editing.{IsCurrent}
 use Rattle.edit_script.proofs.CellLaws.{named_below}
 
 -- the current cell, if there is one, is one of those that are seen

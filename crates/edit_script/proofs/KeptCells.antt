@@ -1,19 +1,14 @@
 -- What a command leaves of the cells: a command of the current cell leaves all others, and `new` all that were there.
-use Rattle.std.proofs.Common.{◌≡◌, ◌≢◌, ◌<◌, ℕ, ℤ, zero, suc, List, [], ◌∷◌, length, Option, Some, None, refl, arith, length-append}
+use Rattle.edit_script.proofs.Common.{◌≡◌, ◌<◌, ℕ, ℤ, List, [], ◌∷◌, length, Option, Some, None, arith, option_map_or, Grid, LayerId, layer_named}
+use Rattle.edit_script.proofs.Common.{empty_cell, erased, labelled, moved, painted, placed, transform_of, unlabelled, with_grid, without_use}
+use Rattle.edit_script.proofs.Common.{LibraryView, cell_named, length-changed_at, Command, Editing, applied, grid_of, in_current, label_layer}
+use Rattle.edit_script.proofs.Common.{label_of, with_cell, with_label_layer, with_layer, with_six_as_grid}
+use Rattle.std.proofs.Common.{◌≢◌, zero, suc, refl, length-append}
 use Rattle.std.specs.Prelude.{IfSome, slice_index_or}
-use Rattle.std.specs.Option.{option_map_or}
 use Rattle.std.proofs.lemmas.List.{get_or_append_left}
-use Rattle.geo_core.specs.declared.grids.Grid.{Grid}
 use Rattle.geo_core.specs.declared.transforms.Transform.{Transform}
-use Rattle.tech_model.specs.declared.raw.LayerId.{LayerId}
-use Rattle.tech_model.specs.Types.{layer_named}
-use Rattle.cell_library.specs.Edits.{empty_cell, erased, labelled, moved, painted, placed, transform_of, unlabelled, with_grid, without_use}
-use Rattle.cell_library.specs.Views.{CellView, LibraryView, cell_named, changed_at, no_cell, view_at, with_cell_changed}
-use Rattle.cell_library.proofs.ViewLaws.{length-changed_at}
-use Rattle.script_lines.specs.declared.commands.Command.{Command}
+use Rattle.cell_library.specs.Views.{CellView, changed_at, no_cell, view_at, with_cell_changed}
 use Rattle.script_lines.specs.declared.commands.Command.TheVariants as command
-use Rattle.edit_script.specs.Editing.{Editing}
-use Rattle.edit_script.specs.Edits.{applied, grid_of, in_current, label_layer, label_of, with_cell, with_label_layer, with_layer, with_six_as_grid}
 
 -- The technology and the number of cells stay, and so does each cell but this one.
 pub record KeepsOthers (cell : ℕ) (view after : LibraryView) : Type 0 where

@@ -2,6 +2,7 @@
 pub use Rattle.cell_library.proofs as CellLibrary
 mod AnswerLaws
 pub mod CellLaws
+mod Common
 mod CurrentLaws
 pub mod KeptCells
 mod NumberLaws

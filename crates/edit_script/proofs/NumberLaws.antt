@@ -1,9 +1,9 @@
 -- The numbers of a command are not changed when they are passed on.
-use Rattle.std.proofs.Common.{◌≡◌, ℤ, pos, arith}
+use Rattle.edit_script.proofs.Common.{◌≡◌, ℤ, arith, w64, to_z-of_z}
+use Rattle.std.proofs.Common.{pos}
 use Rattle.std.specs.Prelude.{IsTrue}
-use Rattle.std.specs.Int.{w64}
 use Rattle.std.proofs.lemmas.Grind.{common_steps}
-use Rattle.std.proofs.lemmas.Int.{ints, to_z-of_z}
+use Rattle.std.proofs.lemmas.Int.{ints}
 use Rattle.script_lines.specs.CellBodies.declared.limits.TheConstants.{LAST_POSITION}
 use Rattle.script_lines.specs.Arguments.{is_between}
 use Rattle.script_lines.specs.Forms.{IsNumber}

@@ -1,20 +1,12 @@
 -- Edits of paint and labels, as what comes of a command.
-use Rattle.std.proofs.Common.{◌≡◌, ℕ, ℤ, List, Option, Some, Result}
+use Rattle.edit_script.proofs.Common.{◌≡◌, ℕ, ℤ, List, Option, Some, Result, LayerId, layer_named, CellKey, LibFault, painted, erased, labelled}
+use Rattle.edit_script.proofs.Common.{unlabelled, LibraryParts, seen, UnlabelIsRefused, EditFault, Applies, IsTold, Editing, editing_of, label_layer}
+use Rattle.edit_script.proofs.Common.{label_of, with_layer, with_label_layer}
 use Rattle.geo_core.specs.declared.squares.Rect.{Rect}
 use Rattle.tech_model.specs.declared.raw.Label.{Label}
-use Rattle.tech_model.specs.declared.raw.LayerId.{LayerId}
-use Rattle.tech_model.specs.Types.{layer_named}
-use Rattle.ext_model.specs.declared.tables.CellKey.{CellKey}
-use Rattle.cell_library.specs.declared.faults.LibFault.{LibFault}
-use Rattle.cell_library.specs.Edits.{painted, erased, labelled, unlabelled}
-use Rattle.cell_library.specs.Libraries.{LibraryParts, seen}
-use Rattle.cell_library.specs.Refusals.{PaintIsRefused, EraseIsRefused, LabelIsRefused, UnlabelIsRefused}
+use Rattle.cell_library.specs.Refusals.{PaintIsRefused, EraseIsRefused, LabelIsRefused}
 use Rattle.script_lines.specs.declared.commands.Command.TheVariants as command
-use Rattle.edit_script.specs.declared.faults.EditFault.{EditFault}
 use Rattle.edit_script.specs.declared.faults.EditFault.TheVariants.{NoLayer}
-use Rattle.edit_script.specs.Answers.{Applies, IsTold}
-use Rattle.edit_script.specs.Editing.{Editing, editing_of}
-use Rattle.edit_script.specs.Edits.{label_layer, label_of, with_layer, with_label_layer}
 use Rattle.edit_script.specs.Refusals.{LayerIsRefused, LabelLayerIsRefused, LibraryRefuses}
 use Rattle.edit_script.proofs.AnswerLaws.{Answered, answered_as, answered_leaves, in_cell, in_found}
 

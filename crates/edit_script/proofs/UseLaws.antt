@@ -1,18 +1,10 @@
 -- Edits of uses, as what comes of a command.
-use Rattle.std.proofs.Common.{◌≡◌, ℕ, ℤ, List, Option, Some, Result}
-use Rattle.geo_core.specs.declared.grids.Grid.{Grid}
-use Rattle.ext_model.specs.declared.tables.CellKey.{CellKey}
-use Rattle.cell_library.specs.declared.faults.LibFault.{LibFault}
-use Rattle.cell_library.specs.Edits.{placed, with_grid, moved, without_use}
-use Rattle.cell_library.specs.Libraries.{LibraryParts, seen}
-use Rattle.cell_library.specs.Refusals.{PlaceIsRefused, ArrayIsRefused, MoveIsRefused, DeleteIsRefused}
-use Rattle.cell_library.specs.Views.{cell_named}
+use Rattle.edit_script.proofs.Common.{◌≡◌, ℕ, ℤ, List, Option, Some, Result, Grid, CellKey, LibFault, placed, with_grid, moved, without_use}
+use Rattle.edit_script.proofs.Common.{LibraryParts, seen, ArrayIsRefused, MoveIsRefused, DeleteIsRefused, cell_named, EditFault, Applies, IsTold}
+use Rattle.edit_script.proofs.Common.{Editing, editing_of, grid_of, with_cell, with_six_as_grid}
+use Rattle.cell_library.specs.Refusals.{PlaceIsRefused}
 use Rattle.script_lines.specs.declared.commands.Command.TheVariants as command
-use Rattle.edit_script.specs.declared.faults.EditFault.{EditFault}
 use Rattle.edit_script.specs.declared.faults.EditFault.TheVariants.{NoCell}
-use Rattle.edit_script.specs.Answers.{Applies, IsTold}
-use Rattle.edit_script.specs.Editing.{Editing, editing_of}
-use Rattle.edit_script.specs.Edits.{grid_of, with_cell, with_six_as_grid}
 use Rattle.edit_script.specs.Refusals.{CellIsRefused, GridIsRefused, LibraryRefuses}
 use Rattle.edit_script.proofs.AnswerLaws.{Answered, answered_as, answered_leaves, in_cell, in_found}
 

@@ -1,24 +1,16 @@
 -- The names of a use have the squares of one rectangle.
-use Rattle.std.proofs.Common.{◌≡◌, ℕ, ℤ, pos, ◌+ℤ◌, ◌-ℤ◌, ◌≤ℤ◌, ◌<ℤ◌, true, false, List, [], ◌∷◌, ◌⊎◌, inl, inr, to_z, of_z, IsTrue, refl, sym, ap}
-use Rattle.std.proofs.Common.{◌∙◌, subst, arith}
-use Rattle.std.specs.Prelude.{Some, int_le}
-use Rattle.std.specs.Int.{w32, w64, int_max, int_min}
-use Rattle.std.specs.Int.RustNames.{FitsSigned}
-use Rattle.std.proofs.lemmas.Bool.{cases_Bool}
-use Rattle.std.proofs.lemmas.Int.{ints, clamps}
-use Rattle.finite_sets.specs.Lists.{In}
+use Rattle.element_index.proofs.Common.{◌≡◌, ℕ, ℤ, pos, ◌+ℤ◌, ◌-ℤ◌, ◌≤ℤ◌, ◌<ℤ◌, true, false, List, [], ◌∷◌, ◌⊎◌, inl, inr, to_z, of_z, IsTrue, refl}
+use Rattle.element_index.proofs.Common.{sym, ap, ◌∙◌, subst, arith, Some, w32, w64, FitsSigned, cases_Bool, ints, clamps, In, Square, Covers}
+use Rattle.element_index.proofs.Common.{indices, is_use_id, indexed_name, element_ids, ArePartsOf, one_square, grid_area, IsNameAt, IsBlock}
+use Rattle.std.specs.Prelude.{int_le}
+use Rattle.std.specs.Int.{int_max, int_min}
 use Rattle.finite_sets.specs.Range.{integer_range, pairs_of, IsBetween}
 use Rattle.finite_sets.proofs.Members.{In-map, In-map_source}
 use Rattle.finite_sets.proofs.Ranges.{Lists-rectangle}
 use Rattle.geo_core.specs.declared.grids.Grid.{Grid}
-use Rattle.geo_core.specs.declared.squares.Square.{Square}
-use Rattle.geo_core.specs.Covering.{Covers}
-use Rattle.geo_core.specs.Elements.{indices, nth_index, element_of, elements_of, IsLawful}
-use Rattle.ext_model.specs.ElementNames.{is_use_id, indexed_name}
+use Rattle.geo_core.specs.Elements.{nth_index, element_of, elements_of, IsLawful}
 use Rattle.element_index.specs.declared.limits.TheConstants.{WHOLE_COLUMN}
-use Rattle.element_index.specs.GivenNames.{element_ids}
-use Rattle.element_index.specs.NameParts.{ArePartsOf}
-use Rattle.element_index.specs.Squares.{one_square, grid_area, IsNameAt, LiesLow, IsBlock}
+use Rattle.element_index.specs.Squares.{LiesLow}
 use Rattle.element_index.proofs.SquareLaws.{short_low, short_high, short_from, kept_short}
 
 -- a rectangle of one square covers it

@@ -1,16 +1,10 @@
 -- Rectangles in several trees.
-use Rattle.std.proofs.Common.{◌≡◌, ℕ, ◌+◌, ◌<◌, true, false, List, [], ◌∷◌, ◌++◌, inl, inr, length, get_or, take, drop, refl, sym, ap, ◌∙◌, subst}
-use Rattle.std.proofs.Common.{append_assoc, append-nil, arith, length-drop, ◌-◌}
-use Rattle.std.specs.Prelude.{Option, Some, None, IfSome, IfNone, IsTrue, ◌↔◌}
-use Rattle.std.specs.Option.{is_some}
-use Rattle.std.proofs.lemmas.Grind.{flat_map-append}
+use Rattle.element_index.proofs.Common.{◌≡◌, ℕ, ◌+◌, ◌<◌, true, false, List, [], ◌∷◌, ◌++◌, inl, inr, length, get_or, take, drop, refl, sym, ap, ◌∙◌}
+use Rattle.element_index.proofs.Common.{subst, append_assoc, append-nil, arith, length-drop, ◌-◌, Some, None, ◌↔◌, is_some, flat_map-append, In}
+use Rattle.element_index.proofs.Common.{In-append_cases, In-get_or, Rect, IsMeeting, MissesAll, rects_of, MeetsSome}
+use Rattle.std.specs.Prelude.{Option, IfSome, IfNone, IsTrue}
 use Rattle.std.proofs.lemmas.List.{take_all, take_more, take-append-drop}
-use Rattle.finite_sets.specs.Lists.{In}
 use Rattle.finite_sets.proofs.Images.{In-flat_map}
-use Rattle.finite_sets.proofs.Members.{In-append_cases, In-get_or}
-use Rattle.geo_core.specs.declared.squares.Rect.{Rect}
-use Rattle.rect_trees.specs.Meetings.{IsMeeting, MissesAll}
-use Rattle.element_index.specs.Forests.{rects_of, MeetsSome}
 
 -- the rectangles of one list of trees and then of another
 rects_of-append : (trees more : List (List Rect)) → rects_of (trees ++ more) ≡ rects_of trees ++ rects_of more

@@ -1,31 +1,17 @@
 -- What an index holds as uses come, and what it tells of names.
-use Rattle.std.proofs.Common.{◌≡◌, ℕ, ◌≤◌, pos, ◌+ℤ◌, ◌*ℤ◌, ◌≤ℤ◌, ◌<ℤ◌, Bool, true, false, List, [], ◌∷◌, ◌++◌, ◌⊎◌, inl, inr, IsTrue, length, refl}
-use Rattle.std.proofs.Common.{sym, ap, ◌∙◌, subst, arith, append-nil}
-use Rattle.std.specs.Prelude.{slice_get, Option, Some, None, IsSome, ◌↔◌, ◌||◌}
+use Rattle.element_index.proofs.Common.{◌≡◌, ℕ, ◌≤◌, pos, ◌+ℤ◌, ◌*ℤ◌, ◌≤ℤ◌, ◌<ℤ◌, Bool, true, false, List, [], ◌∷◌, ◌++◌, ◌⊎◌, inl, inr, IsTrue}
+use Rattle.element_index.proofs.Common.{length, refl, sym, ap, ◌∙◌, subst, arith, append-nil, slice_get, Some, None, ◌↔◌, list_any, bytes_eq}
+use Rattle.element_index.proofs.Common.{flat_map-append, ints, bytes_eq-Decides, In, In-append_cases, Rect, Square, common_rect, corner_of, Covers}
+use Rattle.element_index.proofs.Common.{covers_first, covers_second, covers_both, covers_is_proper, corner_covered, square_is, is_use_id, IsIndexed}
+use Rattle.element_index.proofs.Common.{ROWS_OF_AN_ID, MOST_IDS, UseElements, element_ids, names_in, is_among, MeetsSome, raised, lowered, IsNameAt}
+use Rattle.element_index.proofs.Common.{IsBlock}
+use Rattle.std.specs.Prelude.{Option, IsSome, ◌||◌}
 use Rattle.std.specs.Option.{option_to_list}
-use Rattle.std.specs.List.{list_any}
-use Rattle.std.specs.Str.{bytes_eq}
-use Rattle.std.proofs.lemmas.Grind.{flat_map-append}
-use Rattle.std.proofs.lemmas.Int.{ints}
-use Rattle.std.proofs.lemmas.Slice.Eq.{bytes_eq-Decides}
-use Rattle.finite_sets.specs.Lists.{In}
 use Rattle.finite_sets.proofs.Distincts.{Distinct-push}
-use Rattle.finite_sets.proofs.Members.{In-append_left, In-append_right, In-append_cases, In-push_cases, In-push}
+use Rattle.finite_sets.proofs.Members.{In-append_left, In-append_right, In-push_cases, In-push}
 use Rattle.finite_sets.proofs.Searches.{list_any-passes, list_any-fails, list_any-of_In, list_any-of_absent}
-use Rattle.geo_core.specs.declared.squares.Rect.{Rect}
-use Rattle.geo_core.specs.declared.squares.Square.{Square}
-use Rattle.geo_core.specs.Areas.{common_rect, corner_of}
-use Rattle.geo_core.specs.Covering.{Covers}
 use Rattle.geo_core.specs.Strips.{IsInUnion}
-use Rattle.geo_core.proofs.CoveringLaws.{covers_first, covers_second, covers_both, covers_is_proper, corner_covered}
-use Rattle.geo_core.proofs.SquareLaws.{square_is}
-use Rattle.ext_model.specs.ElementNames.{is_use_id, IsIndexed}
 use Rattle.ext_model.specs.LawfulArrays.{HasIdForm}
-use Rattle.element_index.specs.declared.limits.TheConstants.{ROWS_OF_AN_ID, MOST_IDS}
-use Rattle.element_index.specs.declared.uses.UseElements.{UseElements}
-use Rattle.element_index.specs.GivenNames.{element_ids, names_in, is_among}
-use Rattle.element_index.specs.Forests.{MeetsSome}
-use Rattle.element_index.specs.Squares.{raised, lowered, IsNameAt, IsBlock}
 use Rattle.element_index.specs.Holds.{IsGrown, IsSquareOf, Holds}
 use Rattle.element_index.proofs.IdLaws.{there_In}
 use Rattle.element_index.proofs.SquareLaws.{id_told, one_square_of, one_name_of, square_later}

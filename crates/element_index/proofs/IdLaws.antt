@@ -1,20 +1,13 @@
 -- Ids and the names of elements: where each is cut, and what it tells.
-use Rattle.std.proofs.Common.{◌≡◌, ℕ, ℤ, List, [], ◌∷◌, ◌++◌, Bool, length, if◌then◌else◌, refl, sym, ap, ◌∙◌, subst, arith, length-append}
-use Rattle.std.specs.Prelude.{position, slice_get, Some, None}
-use Rattle.std.specs.List.{list_any}
-use Rattle.std.specs.Str.{bytes_eq}
+use Rattle.element_index.proofs.Common.{◌≡◌, ℕ, ℤ, List, [], ◌∷◌, ◌++◌, Bool, length, refl, sym, ap, ◌∙◌, subst, arith, length-append, position}
+use Rattle.element_index.proofs.Common.{slice_get, Some, None, list_any, bytes_eq, slice_get-get_or, slice_get_within, get_or_from_slice_get}
+use Rattle.element_index.proofs.Common.{bytes_eq-Decides, decimal, In, In-get_or, indexed_name, stands_nowhere}
+use Rattle.std.proofs.Common.{if◌then◌else◌}
 use Rattle.std.proofs.lemmas.Bool.{eq-eqb, ne_eqb, true≢false}
 use Rattle.std.proofs.Math.Seq.{get_or-append_seam}
-use Rattle.std.proofs.lemmas.Option.{slice_get-get_or, slice_get_within, get_or_from_slice_get}
-use Rattle.std.proofs.lemmas.Slice.Eq.{bytes_eq-Decides}
-use Rattle.text_scan.specs.Decimal.{decimal}
 use Rattle.text_scan.proofs.NumberLemmas.{digit_is}
-use Rattle.finite_sets.specs.Lists.{In}
-use Rattle.finite_sets.proofs.Members.{In-get_or}
 use Rattle.finite_sets.proofs.Searches.{list_any-of_absent}
-use Rattle.ext_model.specs.ElementNames.{indexed_name}
 use Rattle.ext_model.proofs.TextCuts.{Lacks, lacks-append, lacks-decimal}
-use Rattle.name_index.proofs.Positions.{stands_nowhere}
 
 -- a text in which the byte stands does not lack it
 pub has_byte : (byte : ℕ) (text rest : List ℕ) → Lacks byte (text ++ byte ∷ rest) → ⊥

@@ -1,3 +1,4 @@
+mod Common
 pub mod IdLaws
 mod PartLaws
 mod SquareLaws

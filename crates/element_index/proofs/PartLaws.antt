@@ -1,21 +1,16 @@
 -- The parts of a name with indices, as cuts of its bytes find them.
-use Rattle.std.proofs.Common.{◌≡◌, ℕ, ℤ, List, [], ◌∷◌, ◌++◌, inl, inr, ◌+◌, ◌-◌, ◌<◌, Bool, Result, Ok, Err, FitsSigned, to_z, of_z, refl}
-use Rattle.std.proofs.Common.{false, length, get_or, take, drop, IsTrue, sym, ap, ◌∙◌, subst, arith, length-drop}
-use Rattle.std.specs.Prelude.{position, Some, None, ◌↔◌}
-use Rattle.std.specs.Int.{w32, w64}
-use Rattle.std.proofs.lemmas.Bool.{both_ways, eq-eqb, eqb-true, ne_eqb}
-use Rattle.std.proofs.lemmas.Int.{ints}
+use Rattle.element_index.proofs.Common.{◌≡◌, ℕ, ℤ, List, [], ◌∷◌, ◌++◌, inl, inr, ◌+◌, ◌-◌, ◌<◌, Bool, to_z, of_z, refl, false, length, get_or, take}
+use Rattle.element_index.proofs.Common.{drop, IsTrue, sym, ap, ◌∙◌, subst, arith, length-drop, position, Some, None, ◌↔◌, w32, w64, both_ways, ints}
+use Rattle.element_index.proofs.Common.{In, In-index, decimal, is_use_id, IsIndexed}
+use Rattle.std.proofs.Common.{Result, Ok, Err, FitsSigned}
+use Rattle.std.proofs.lemmas.Bool.{eq-eqb, eqb-true, ne_eqb}
 use Rattle.std.proofs.lemmas.Iterator.Adapters.{position_from-zero}
 use Rattle.std.proofs.lemmas.List.{get_or_default, get_or-take, length-take-le, take_all, take-append-drop}
 use Rattle.std.proofs.lemmas.List.Quantifiers.{position-Some}
-use Rattle.finite_sets.specs.Lists.{In}
-use Rattle.finite_sets.proofs.Members.{In-index}
 use Rattle.finite_sets.proofs.Searches.{drop_split, position_from-none}
 use Rattle.text_scan.specs.declared.numeral.NumFault.{NumFault}
-use Rattle.text_scan.specs.Decimal.{decimal}
 use Rattle.text_scan.specs.Numbers.{number_of}
 use Rattle.text_scan.proofs.DecimalLemmas.{number_of-decimal}
-use Rattle.ext_model.specs.ElementNames.{is_use_id, IsIndexed}
 use Rattle.ext_model.proofs.TextCuts.{Lacks, one_cut}
 use Rattle.ext_model.proofs.IndexedNames.{id_plain, number_comma, number_bracket}
 use Rattle.element_index.specs.NameParts.{is_byte, IsIndexText}

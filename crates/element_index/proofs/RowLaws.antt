@@ -1,37 +1,16 @@
 -- Names that are asked for in a row, and strips.
-use Rattle.std.proofs.Common.{◌≡◌, ℕ, ◌<◌, ℤ, pos, ◌+ℤ◌, ◌-ℤ◌, ◌*ℤ◌, ◌≤ℤ◌, ◌<ℤ◌, Bool, true, false, List, [], ◌∷◌, ◌++◌, inl, inr, IsTrue, refl, sym}
-use Rattle.std.proofs.Common.{◌∙◌, subst, arith}
-use Rattle.std.specs.Prelude.{slice_get, Some, int_lt}
-use Rattle.std.specs.Int.{w32}
-use Rattle.std.specs.Int.RustNames.{FitsSigned}
-use Rattle.std.specs.List.{list_all, range_with_len}
-use Rattle.std.specs.Str.{bytes_eq}
-use Rattle.std.proofs.lemmas.Bool.{cases_Bool}
-use Rattle.std.proofs.lemmas.Int.{ints}
+use Rattle.element_index.proofs.Common.{◌≡◌, ℕ, ◌<◌, ℤ, pos, ◌+ℤ◌, ◌-ℤ◌, ◌*ℤ◌, ◌≤ℤ◌, ◌<ℤ◌, Bool, true, false, List, [], ◌∷◌, ◌++◌, inl, inr, IsTrue}
+use Rattle.element_index.proofs.Common.{refl, sym, ◌∙◌, subst, arith, slice_get, Some, int_lt, w32, FitsSigned, list_all, range_with_len, bytes_eq}
+use Rattle.element_index.proofs.Common.{cases_Bool, ints, bytes_eq-Decides, In, In-index, In-get_or, Rect, Square, common_rect, corner_of, Covers}
+use Rattle.element_index.proofs.Common.{indices, covers_first, covers_second, covers_both, covers_is_proper, corner_covered, square_is, IsMeeting}
+use Rattle.element_index.proofs.Common.{MissesAll, decimal, is_use_id, indexed_name, ROWS_OF_AN_ID, UseElements, names_in, is_among, ArePartsOf}
+use Rattle.element_index.proofs.Common.{one_square, raised, lowered, IsNameAt}
 use Rattle.std.proofs.lemmas.List.FromFn.{length-range_with_len, get_or-range_with_len}
-use Rattle.std.proofs.lemmas.Slice.Eq.{bytes_eq-Decides}
-use Rattle.finite_sets.specs.Lists.{In}
 use Rattle.finite_sets.specs.Range.{extent}
-use Rattle.finite_sets.proofs.Members.{In-index, In-get_or}
 use Rattle.finite_sets.proofs.Ranges.{extent_up}
 use Rattle.finite_sets.proofs.Searches.{list_all-from_In, list_all-In, list_any-of_In, In-from_list_any}
-use Rattle.geo_core.specs.declared.squares.Rect.{Rect}
-use Rattle.geo_core.specs.declared.squares.Square.{Square}
-use Rattle.geo_core.specs.Areas.{common_rect, corner_of}
-use Rattle.geo_core.specs.Covering.{Covers}
-use Rattle.geo_core.specs.Elements.{indices}
 use Rattle.geo_core.specs.Strips.{IsInUnion, IsStrips}
-use Rattle.geo_core.proofs.CoveringLaws.{covers_first, covers_second, covers_both, covers_is_proper, corner_covered}
-use Rattle.geo_core.proofs.SquareLaws.{square_is}
-use Rattle.rect_trees.specs.Meetings.{IsMeeting, MissesAll}
-use Rattle.text_scan.specs.Decimal.{decimal}
-use Rattle.ext_model.specs.ElementNames.{is_use_id, indexed_name}
 use Rattle.ext_model.proofs.IndexedNames.{id_plain}
-use Rattle.element_index.specs.declared.limits.TheConstants.{ROWS_OF_AN_ID}
-use Rattle.element_index.specs.declared.uses.UseElements.{UseElements}
-use Rattle.element_index.specs.GivenNames.{names_in, is_among}
-use Rattle.element_index.specs.NameParts.{ArePartsOf}
-use Rattle.element_index.specs.Squares.{one_square, raised, lowered, IsNameAt}
 use Rattle.element_index.specs.Holds.{IsSquareOf, Holds, HoldsStrips}
 use Rattle.element_index.proofs.IdLaws.{only_cut, indices_plain, there_In, whole_or_indexed}
 use Rattle.element_index.proofs.SquareLaws.{short_low, short_high, short_from, one_square_of}

@@ -1,22 +1,14 @@
 -- A name has one square, and a square one name.
-use Rattle.std.proofs.Common.{◌≡◌, ℕ, ℤ, pos, ◌-ℤ◌, ◌*ℤ◌, ◌≤ℤ◌, ◌<ℤ◌, List, [], ◌∷◌, ◌++◌, inl, inr, IsTrue, to_z, of_z, sym, ap, ◌∙◌, subst, arith}
-use Rattle.std.proofs.Common.{length-append}
-use Rattle.std.specs.Prelude.{slice_get, Some, neg_ℤ}
-use Rattle.std.specs.Int.{w32, w64}
-use Rattle.std.specs.Int.RustNames.{FitsSigned}
+use Rattle.element_index.proofs.Common.{◌≡◌, ℕ, ℤ, pos, ◌-ℤ◌, ◌*ℤ◌, ◌≤ℤ◌, ◌<ℤ◌, List, [], ◌∷◌, ◌++◌, inl, inr, IsTrue, to_z, of_z, sym, ap, ◌∙◌}
+use Rattle.element_index.proofs.Common.{subst, arith, length-append, slice_get, Some, w32, w64, FitsSigned, ints, slice_get-get_or, slice_get_within}
+use Rattle.element_index.proofs.Common.{get_or_from_slice_get, Square, square_is, is_use_id, ROWS_OF_AN_ID, lowered, IsNameAt}
+use Rattle.std.specs.Prelude.{neg_ℤ}
 use Rattle.std.proofs.lemmas.Bool.{cases_order}
-use Rattle.std.proofs.lemmas.Int.{ints}
 use Rattle.std.proofs.lemmas.List.{get_or_append_left}
-use Rattle.std.proofs.lemmas.Option.{slice_get-get_or, slice_get_within, get_or_from_slice_get}
 use Rattle.finite_sets.specs.Lists.{Distinct}
 use Rattle.finite_sets.proofs.Distincts.{Distinct-places}
-use Rattle.geo_core.specs.declared.squares.Square.{Square}
-use Rattle.geo_core.proofs.SquareLaws.{square_is}
-use Rattle.ext_model.specs.ElementNames.{is_use_id}
 use Rattle.ext_model.proofs.TextCuts.{front_of}
 use Rattle.ext_model.proofs.IndexedNames.{id_plain, id_of_indexed, id_of_whole, indexed_told}
-use Rattle.element_index.specs.declared.limits.TheConstants.{ROWS_OF_AN_ID}
-use Rattle.element_index.specs.Squares.{lowered, IsNameAt}
 use Rattle.element_index.specs.Holds.{IsSquareOf}
 use Rattle.element_index.proofs.IdLaws.{whole_or_indexed}
 

@@ -1,32 +1,21 @@
 -- The step down to an element, and the steps of a path.
-use Rattle.std.proofs.Common.{◌≡◌, ℕ, suc, ◌+◌, ◌-◌, ◌*◌, ◌/◌, ◌%◌, ◌<◌, ◌≤◌, List, [], ◌∷◌, ◌++◌, length, get_or, take, Some}
-use Rattle.std.proofs.Common.{inl, inr, refl, sym, ap, subst, ◌∙◌, arith}
-use Rattle.std.specs.Prelude.{slice_get}
+use Rattle.element_paths.proofs.Common.{◌≡◌, ℕ, suc, ◌+◌, ◌-◌, ◌*◌, ◌/◌, ◌%◌, ◌<◌, ◌≤◌, List, [], ◌∷◌, ◌++◌, length, get_or, take, Some, inl, inr}
+use Rattle.element_paths.proofs.Common.{refl, sym, ap, subst, ◌∙◌, arith, slice_get, append_assoc, take_all, get_or_from_slice_get, same_Some}
+use Rattle.element_paths.proofs.Common.{slice_get_within, CellTree, Standing, standings, under, MOST_ELEMENTS_BELOW, UseBody, displacements}
+use Rattle.element_paths.proofs.Common.{element_transform, tree_at, LibraryParts, IsLawfulLibrary, seen, element_count, LibraryView, view_at}
+use Rattle.element_paths.proofs.Common.{use_is_lawful, NamedTree, layouts_of, named_elements_in, UseElement, use_elements, UseStart, Step}
+use Rattle.element_paths.proofs.Common.{element_at, standing_below, HasBegun, HasNameAt, IsLastBegun}
 use Rattle.std.proofs.Math.Nat.{div-lt_iff_lt-mul}
 use Rattle.std.proofs.lemmas.Bool.{cases_lt}
-use Rattle.std.proofs.lemmas.List.{append-nil, append_assoc, take_all}
-use Rattle.std.proofs.lemmas.Option.{get_or_from_slice_get, same_Some, slice_get_within}
+use Rattle.std.proofs.lemmas.List.{append-nil}
 use Rattle.finite_sets.proofs.Places.{slice_get-below}
-use Rattle.library_trees.specs.LayoutModel.CellTrees.{CellTree, Standing, standings, under}
 use Rattle.library_trees.specs.LayoutModel.CellTrees.CellTree.{cell_tree}
-use Rattle.cell_tree.specs.declared.limits.TheConstants.{MOST_ELEMENTS_BELOW}
-use Rattle.cell_tree.specs.declared.use_tables.UseBody.{UseBody}
-use Rattle.cell_tree.specs.Uses.{displacements}
-use Rattle.library_trees.specs.CellLibrary.LayoutTrees.{element_transform, tree_at}
-use Rattle.library_trees.specs.CellLibrary.Libraries.{LibraryParts, IsLawfulLibrary, seen}
-use Rattle.library_trees.specs.CellLibrary.PartCounts.{element_count}
-use Rattle.library_trees.specs.CellLibrary.Views.{LibraryView, view_at}
-use Rattle.library_trees.proofs.CellLibrary.ElementCounts.{use_is_lawful}
-use Rattle.library_trees.specs.TreeRecords.NamedTrees.{NamedTree, layouts_of, named_elements_in}
 use Rattle.library_trees.specs.TreeRecords.NamedTrees.NamedTree.{named_tree}
-use Rattle.library_trees.specs.ElementNames.{UseElement, use_elements}
 use Rattle.library_trees.specs.NamedCells.{named_elements_from, named_tree_at, own_body_of}
 use Rattle.library_trees.proofs.LayoutLaws.{layouts_of_cell}
 use Rattle.library_trees.proofs.WholeTrees.{named_tree_unfolds}
-use Rattle.element_paths.specs.declared.starts.UseStart.{UseStart}
-use Rattle.element_paths.specs.declared.steps.Step.{Step}
-use Rattle.element_paths.specs.ElementPaths.{element_at, AreStepsTo, LeadsDown}
-use Rattle.element_paths.specs.UseStarts.{standing_below, start_of, AreStartsIn, HasBegun, HasNameAt, IsLastBegun, IsStepDown}
+use Rattle.element_paths.specs.ElementPaths.{AreStepsTo, LeadsDown}
+use Rattle.element_paths.specs.UseStarts.{start_of, AreStartsIn, IsStepDown}
 use Rattle.element_paths.proofs.ElementLaws.{below_element, standing_before}
 use Rattle.element_paths.proofs.StartLaws.{below_next, ends_within, standing_of}
 use Rattle.element_paths.proofs.UseLaws.{before_in_uses, element_made, element_of_uses, standing_all}

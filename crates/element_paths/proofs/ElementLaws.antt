@@ -1,18 +1,12 @@
 -- Elements one after another: which stands at a position, and where what stands below it stands in the cell above.
-use Rattle.std.proofs.Common.{◌≡◌, ℕ, zero, suc, ◌+◌, ◌*◌, List, [], ◌∷◌, ◌++◌, length, map, Some, refl, ap, subst, ◌∙◌, arith}
-use Rattle.std.specs.Prelude.{slice_get}
-use Rattle.std.specs.Option.{option_map}
-use Rattle.std.proofs.lemmas.List.{length-map}
-use Rattle.std.proofs.lemmas.Option.{same_Some, slice_get-map}
+use Rattle.element_paths.proofs.Common.{◌≡◌, ℕ, zero, suc, ◌+◌, ◌*◌, List, [], ◌∷◌, ◌++◌, length, map, Some, refl, ap, subst, ◌∙◌, arith, slice_get}
+use Rattle.element_paths.proofs.Common.{option_map, length-map, same_Some, slice_get-map, Transform, Standing, standings, under, element_transform}
+use Rattle.element_paths.proofs.Common.{NamedTree, layouts_of, UseElement, NamedElement, element_at}
 use Rattle.finite_sets.proofs.Places.{slice_get-append_left, slice_get-append_right}
-use Rattle.geo_core.specs.declared.transforms.Transform.{Transform}
-use Rattle.library_trees.specs.LayoutModel.CellTrees.{Standing, standings, standings_from, under}
-use Rattle.library_trees.specs.CellLibrary.LayoutTrees.{element_transform}
-use Rattle.library_trees.specs.TreeRecords.NamedTrees.{NamedTree, NamedElements, layouts_below, layouts_of}
+use Rattle.library_trees.specs.LayoutModel.CellTrees.{standings_from}
+use Rattle.library_trees.specs.TreeRecords.NamedTrees.{NamedElements, layouts_below}
 use Rattle.library_trees.specs.TreeRecords.NamedTrees.NamedElements.{no_more, element_then}
-use Rattle.library_trees.specs.ElementNames.{UseElement}
 use Rattle.library_trees.specs.NamedCells.{named_elements_at}
-use Rattle.element_paths.specs.ElementPaths.{NamedElement, element_at}
 
 -- how many cells stand at and below the elements before this position
 abbrev pub standing_before : NamedElements → ℕ → ℕ

@@ -1,35 +1,25 @@
 -- The uses of a cell as its record has them, and their elements.
-use Rattle.std.proofs.Common.{◌≡◌, ℕ, ℤ, pos, zero, suc, ◌+◌, ◌<◌, ◌≤◌, List, [], ◌∷◌, ◌++◌, length, map, take, append_assoc, Some, None}
-use Rattle.std.proofs.Common.{◌+ℤ◌, ◌*ℤ◌, refl, sym, ap, ◌∙◌, arith}
-use Rattle.std.specs.Prelude.{Option, slice_get}
+use Rattle.element_paths.proofs.Common.{◌≡◌, ℕ, ℤ, pos, zero, suc, ◌+◌, ◌<◌, ◌≤◌, List, [], ◌∷◌, ◌++◌, length, map, take, Some, None, refl, sym, ap}
+use Rattle.element_paths.proofs.Common.{◌∙◌, arith, Option, slice_get, ints, length-map, get_or_from_slice_get, slice_get_within, Grid, Transform}
+use Rattle.element_paths.proofs.Common.{elements_of, six_of, MOST_ELEMENTS_BELOW, displacements, element_transform, IsLawfulLibrary, LibraryParts}
+use Rattle.element_paths.proofs.Common.{seen, element_count, LibraryView, view_at, few_elements, NamedTree, named_elements_in, UseElement}
+use Rattle.element_paths.proofs.Common.{array_element, use_elements, library_use, library_uses}
+use Rattle.std.proofs.Common.{append_assoc}
+use Rattle.std.proofs.Common.{◌+ℤ◌, ◌*ℤ◌}
 use Rattle.std.specs.List.{flat_map}
-use Rattle.std.proofs.lemmas.Int.{ints}
-use Rattle.std.proofs.lemmas.List.{length-map, take_more}
-use Rattle.std.proofs.lemmas.Option.{get_or_from_slice_get, slice_get_within}
+use Rattle.std.proofs.lemmas.List.{take_more}
 use Rattle.std.proofs.lemmas.Simd.{map-map}
-use Rattle.geo_core.specs.declared.grids.Grid.{Grid}
 use Rattle.geo_core.specs.declared.orients.Orient.{Orient}
 use Rattle.geo_core.specs.declared.orients.Orient.TheVariants.{R0}
-use Rattle.geo_core.specs.declared.transforms.Transform.{Transform}
-use Rattle.geo_core.specs.Elements.{elements_of}
-use Rattle.geo_core.specs.Images.{six_of}
 use Rattle.geo_core.specs.Orientation.{matrix}
 use Rattle.geo_core.proofs.ElementLaws.{length-elements_of}
 use Rattle.ext_model.specs.declared.records.UseRec.{UseRec}
 use Rattle.ext_model.specs.Plain.{plain_uses, uses_of_grid}
-use Rattle.cell_tree.specs.declared.limits.TheConstants.{MOST_DEPTH, MOST_ELEMENTS_BELOW}
-use Rattle.cell_tree.specs.Uses.{displacements}
-use Rattle.library_trees.specs.CellLibrary.LayoutTrees.{element_transform}
-use Rattle.library_trees.specs.CellLibrary.Libraries.{IsLawfulLibrary, LibraryParts, seen}
-use Rattle.library_trees.specs.CellLibrary.PartCounts.{element_count}
-use Rattle.library_trees.specs.CellLibrary.Views.{LibraryView, view_at}
-use Rattle.library_trees.proofs.CellLibrary.ElementCounts.{few_elements}
-use Rattle.library_trees.specs.TreeRecords.NamedTrees.{NamedElements, NamedTree, named_elements_in, own_body}
+use Rattle.cell_tree.specs.declared.limits.TheConstants.{MOST_DEPTH}
+use Rattle.library_trees.specs.TreeRecords.NamedTrees.{NamedElements, own_body}
 use Rattle.library_trees.specs.TreeRecords.TreeRecords.{use_records}
-use Rattle.library_trees.specs.ElementNames.{UseElement, array_element, use_elements}
 use Rattle.library_trees.specs.NamedCells.{named_elements_at, named_elements_from, named_tree_at, named_tree_to}
 use Rattle.library_trees.proofs.WholeTrees.{UsesWithIds, named_tree_unfolds}
-use Rattle.library_trees.specs.CellRecords.{library_use, library_uses}
 
 -- ---- the first uses
 

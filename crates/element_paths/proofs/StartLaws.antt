@@ -1,22 +1,14 @@
 -- Where the elements of uses begin, use by use.
-use Rattle.std.proofs.Common.{◌≡◌, ◌⊎◌, ℕ, zero, suc, ◌+◌, ◌*◌, ◌<◌, ◌≤◌, List, [], ◌∷◌, ◌++◌, length, get_or, take, Some, None, inl, inr, sym, ap, ◌∙◌, arith}
-use Rattle.std.specs.Prelude.{slice_get}
+use Rattle.element_paths.proofs.Common.{◌≡◌, ℕ, zero, suc, ◌+◌, ◌*◌, ◌<◌, ◌≤◌, List, [], ◌∷◌, ◌++◌, length, get_or, take, Some, None, inl, inr, sym}
+use Rattle.element_paths.proofs.Common.{ap, ◌∙◌, arith, slice_get, length-append, get_or_from_slice_get, same_Some, slice_get_within, CellTree}
+use Rattle.element_paths.proofs.Common.{standings, UseBody, displacements, MOST_ELEMENTS_BELOW, tree_at, LibraryParts, IsLawfulLibrary, seen}
+use Rattle.element_paths.proofs.Common.{element_count, view_at, few_elements, UseStart, standing_below}
+use Rattle.std.proofs.Common.{◌⊎◌}
 use Rattle.std.specs.List.Sorted.{IsNonDecreasingBy}
-use Rattle.std.proofs.lemmas.List.{length-append}
-use Rattle.std.proofs.lemmas.Option.{get_or_from_slice_get, same_Some, slice_get_cases, slice_get_within}
+use Rattle.std.proofs.lemmas.Option.{slice_get_cases}
 use Rattle.finite_sets.proofs.Places.{slice_get-append_front, slice_get-push_new}
-use Rattle.library_trees.specs.LayoutModel.CellTrees.{CellTree, standings}
-use Rattle.cell_tree.specs.declared.use_tables.UseBody.{UseBody}
-use Rattle.cell_tree.specs.Uses.{displacements}
-use Rattle.cell_tree.specs.declared.limits.TheConstants.{MOST_ELEMENTS_BELOW}
-use Rattle.library_trees.specs.CellLibrary.LayoutTrees.{tree_at}
-use Rattle.library_trees.specs.CellLibrary.Libraries.{LibraryParts, IsLawfulLibrary, seen}
-use Rattle.library_trees.specs.CellLibrary.PartCounts.{element_count}
-use Rattle.library_trees.specs.CellLibrary.Views.{view_at}
-use Rattle.library_trees.proofs.CellLibrary.ElementCounts.{few_elements}
 use Rattle.library_trees.proofs.CellLibrary.StandingCounts.{standings_few}
-use Rattle.element_paths.specs.declared.starts.UseStart.{UseStart}
-use Rattle.element_paths.specs.UseStarts.{standing_below, start_behind, start_of, AreStarts}
+use Rattle.element_paths.specs.UseStarts.{start_behind, start_of, AreStarts}
 use Rattle.element_paths.proofs.UseLaws.{UsesWithIds, standing_all}
 
 -- where nothing is, the list has ended

@@ -1,24 +1,13 @@
 -- The elements of the uses of a cell: at which position each stands, and how many cells stand before what stands below it.
-use Rattle.std.proofs.Common.{◌≡◌, ℕ, ℤ, zero, suc, ◌+◌, ◌*◌, ◌<◌, List, [], ◌∷◌, length, map, take, Some, None, refl, sym, ap, subst, ◌∙◌, arith}
-use Rattle.std.specs.Prelude.{Option, slice_get}
-use Rattle.std.proofs.lemmas.List.{length-append, length-map}
-use Rattle.std.proofs.lemmas.Option.{same_Some}
-use Rattle.geo_core.specs.declared.grids.Grid.{Grid}
-use Rattle.geo_core.specs.declared.transforms.Transform.{Transform}
-use Rattle.geo_core.specs.Elements.{elements_of}
-use Rattle.library_trees.specs.LayoutModel.CellTrees.{CellTree, Elements, standings, standings_from, under}
-use Rattle.cell_tree.specs.declared.use_tables.UseBody.{UseBody}
-use Rattle.cell_tree.specs.Uses.{displacements}
-use Rattle.library_trees.specs.CellLibrary.LayoutTrees.{element_transform, elements_at, elements_from, tree_at}
-use Rattle.library_trees.specs.CellLibrary.Libraries.{LibraryParts, IsLawfulLibrary, seen}
-use Rattle.library_trees.specs.CellLibrary.PartCounts.{element_count}
-use Rattle.library_trees.specs.CellLibrary.Views.{view_at}
+use Rattle.element_paths.proofs.Common.{◌≡◌, ℕ, ℤ, zero, suc, ◌+◌, ◌*◌, ◌<◌, List, [], ◌∷◌, length, map, take, Some, None, refl, sym, ap, subst, ◌∙◌}
+use Rattle.element_paths.proofs.Common.{arith, Option, slice_get, length-append, length-map, same_Some, Grid, Transform, elements_of, CellTree}
+use Rattle.element_paths.proofs.Common.{standings, under, UseBody, displacements, element_transform, tree_at, LibraryParts, IsLawfulLibrary, seen}
+use Rattle.element_paths.proofs.Common.{element_count, view_at, NamedTree, layouts_of, UseElement, array_element, use_elements, NamedElement}
+use Rattle.element_paths.proofs.Common.{element_at, standing_below}
+use Rattle.library_trees.specs.LayoutModel.CellTrees.{Elements, standings_from}
+use Rattle.library_trees.specs.CellLibrary.LayoutTrees.{elements_at, elements_from}
 use Rattle.library_trees.proofs.CellLibrary.LayoutTreeLaws.{tree_unfolds}
-use Rattle.library_trees.specs.TreeRecords.NamedTrees.{NamedTree, layouts_of}
-use Rattle.library_trees.specs.ElementNames.{UseElement, array_element, use_elements}
 use Rattle.library_trees.specs.NamedCells.{named_elements_from}
-use Rattle.element_paths.specs.ElementPaths.{NamedElement, element_at}
-use Rattle.element_paths.specs.UseStarts.{standing_below}
 use Rattle.element_paths.proofs.ElementLaws.{before_behind, before_element, element_behind, element_of_use, standing_before}
 
 -- uses of a cell, each with its id

@@ -1,23 +1,12 @@
 -- The elements of a tree are those along the chains of links, and so is what the tree has of them.
-use Rattle.std.proofs.Common.{◌≡◌, ℕ, zero, suc, ◌+◌, Some, List, [], ◌∷◌, ◌++◌, length, get_or, map, inl, inr, refl, sym, ◌∙◌, ap, subst, arith, append_assoc}
-use Rattle.std.specs.List.{flat_map}
-use Rattle.std.proofs.lemmas.List.{append-nil}
-use Rattle.std.proofs.lemmas.Option.{slice_get-get_or}
-use Rattle.name_index.specs.FiniteSets.Lists.{In}
+use Rattle.element_tree.proofs.Common.{◌≡◌, ℕ, zero, suc, ◌+◌, Some, List, [], ◌∷◌, ◌++◌, length, get_or, map, inl, inr, refl, sym, ◌∙◌, ap, subst}
+use Rattle.element_tree.proofs.Common.{arith, append_assoc, flat_map, append-nil, slice_get-get_or, In, Square, UseRec, CellExt, path_length, ext_of}
+use Rattle.element_tree.proofs.Common.{Branch, TreeElement, branches_of, Link, links_from, Fits, AreForest, MovesByAtMost}
 use Rattle.name_index.proofs.FiniteSets.Images.{map-same}
-use Rattle.geo_core.specs.declared.squares.Square.{Square}
 use Rattle.geo_core.specs.Images.{image}
 use Rattle.geo_core.proofs.ImageLaws.{image-composed}
-use Rattle.ext_model.specs.declared.records.UseRec.{UseRec}
-use Rattle.ext_model.specs.declared.records.CellExt.{CellExt}
-use Rattle.ext_model.specs.NameParts.{path_length}
-use Rattle.circuit_model.specs.Elements.{Element, ext_of, of_option, elements_below, transform_of, placed}
-use Rattle.element_tree.specs.declared.tree.Branch.{Branch}
-use Rattle.element_tree.specs.declared.tree.TreeElement.{TreeElement}
-use Rattle.element_tree.specs.Trees.{branches_of}
-use Rattle.element_tree.specs.steps.Links.{Link, links_from, links_of, chains_below, flat_below, flat_along}
-use Rattle.element_tree.specs.Sizes.{Fits}
-use Rattle.element_tree.specs.steps.Rooms.{AreForest, MovesByAtMost}
+use Rattle.circuit_model.specs.Elements.{Element, of_option, elements_below, transform_of, placed}
+use Rattle.element_tree.specs.steps.Links.{links_of, chains_below, flat_below, flat_along}
 use Rattle.element_tree.proofs.Transforms.{composed_moves, placement_moves}
 use Rattle.element_tree.proofs.Chains.{number_along, rank_along, end_of, IsChainFrom}
 use Rattle.element_tree.proofs.Ranks.{ids_along}

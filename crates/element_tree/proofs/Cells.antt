@@ -1,20 +1,15 @@
 -- The records of cells by numbers.
-use Rattle.std.proofs.Common.{◌≡◌, ◌⊎◌, ◌<◌, ◌+◌, ℕ, zero, suc, Bool, true, false, Option, Some, None, List, [], ◌∷◌, ◌++◌, length, take}
-use Rattle.std.proofs.Common.{get_or, inl, inr, refl, sym, ◌∙◌, ap, subst, arith, cond, not}
+use Rattle.element_tree.proofs.Common.{◌≡◌, ◌⊎◌, ◌<◌, ◌+◌, ℕ, zero, suc, Bool, true, false, Option, Some, None, List, [], ◌∷◌, ◌++◌, length, take}
+use Rattle.element_tree.proofs.Common.{get_or, inl, inr, refl, sym, ◌∙◌, ap, subst, arith, cond, list_any, position, bytes_eq, length-map}
+use Rattle.element_tree.proofs.Common.{map-append, bytes_eq-Decides, Distinct, Distinct-append_left, Distinct-append_apart, Distinct-places, CellExt}
+use Rattle.element_tree.proofs.Common.{ext_of, cells_of, found_goals}
+use Rattle.std.proofs.Common.{not}
 use Rattle.std.specs.Prelude.{slice_get, nat_lt}
-use Rattle.std.specs.List.{list_any, position, position_or_len}
-use Rattle.std.specs.Str.{bytes_eq}
+use Rattle.std.specs.List.{position_or_len}
 use Rattle.std.proofs.Math.Seq.{take-suc}
 use Rattle.std.proofs.lemmas.Bool.{ltb-false, ltb-true}
-use Rattle.std.proofs.lemmas.List.{length-map, map-append}
 use Rattle.std.proofs.lemmas.Option.{slice_get_past}
-use Rattle.std.proofs.lemmas.Slice.Eq.{bytes_eq-Decides}
-use Rattle.name_index.specs.FiniteSets.Lists.{Distinct}
 use Rattle.name_index.proofs.FiniteSets.Searches.{find-passes, list_any-of_absent}
-use Rattle.name_index.proofs.FiniteSets.Distincts.{Distinct-append_left, Distinct-append_apart, Distinct-places}
-use Rattle.ext_model.specs.declared.records.CellExt.{CellExt}
-use Rattle.circuit_model.specs.Elements.{ext_of}
-use Rattle.element_tree.specs.steps.Goals.{cells_of, found_goals}
 
 -- ---- tests of names
 

@@ -1,18 +1,9 @@
 -- Chains of links: which numbers and ranks the elements along them have.
-use Rattle.std.proofs.Common.{◌≡◌, ◌⊎◌, ℕ, zero, suc, ◌<◌, ◌≤◌, ◌+◌, ◌-◌, Some, List, [], ◌∷◌, ◌++◌, length, map, inl, inr, refl, sym, ◌∙◌, ap, subst}
-use Rattle.std.proofs.Common.{arith, length-append}
-use Rattle.std.specs.List.{sum_by, flat_map, slice_get}
-use Rattle.std.proofs.lemmas.Bool.{cases_lt}
-use Rattle.std.proofs.lemmas.Option.{slice_get_within}
-use Rattle.std.proofs.lemmas.List.{length-map}
-use Rattle.std.proofs.lemmas.List.Sums.{sum_by-cons}
-use Rattle.name_index.specs.FiniteSets.Lists.{In}
+use Rattle.element_tree.proofs.Common.{◌≡◌, ◌⊎◌, ℕ, zero, suc, ◌<◌, ◌≤◌, ◌+◌, ◌-◌, Some, List, [], ◌∷◌, ◌++◌, length, map, inl, inr, refl, sym, ◌∙◌}
+use Rattle.element_tree.proofs.Common.{ap, subst, arith, length-append, sum_by, flat_map, slice_get, cases_lt, slice_get_within, length-map}
+use Rattle.element_tree.proofs.Common.{sum_by-cons, In, CellExt, Branch, Link, Fits, value_at, AreInSteps, AreForest}
 use Rattle.name_index.proofs.FiniteSets.Places.{slice_get-append_front, slice_get-append_right, slice_get-map_source, slice_get-map_there}
-use Rattle.ext_model.specs.declared.records.CellExt.{CellExt}
-use Rattle.element_tree.specs.declared.tree.Branch.{Branch}
-use Rattle.element_tree.specs.steps.Links.{Link, links_of, chains_below}
-use Rattle.element_tree.specs.Sizes.{Fits, value_at}
-use Rattle.element_tree.specs.steps.Rooms.{AreInSteps, AreForest}
+use Rattle.element_tree.specs.steps.Links.{links_of, chains_below}
 
 -- the number of the element along a chain, less that of the one it starts at
 abbrev pub number_along : List Link → ℕ

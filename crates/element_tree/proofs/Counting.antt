@@ -1,30 +1,19 @@
 -- The numbers of records are those of the chains and elements below them.
-use Rattle.std.proofs.Common.{◌≡◌, ℕ, zero, suc, ◌<◌, ◌≤◌, ◌+◌, min, Option, Some, None, List, [], ◌∷◌, ◌++◌, length, get_or, map, reverse, inl, inr}
-use Rattle.std.proofs.Common.{refl, sym, ◌∙◌, ap, subst, arith, length-append}
-use Rattle.std.specs.List.{slice_get, flat_map, sum, range_with_len}
-use Rattle.std.specs.Option.{option_or}
+use Rattle.element_tree.proofs.Common.{◌≡◌, ℕ, zero, suc, ◌<◌, ◌≤◌, ◌+◌, Option, Some, None, List, [], ◌∷◌, ◌++◌, length, get_or, map, reverse, inl}
+use Rattle.element_tree.proofs.Common.{inr, refl, sym, ◌∙◌, ap, subst, arith, length-append, slice_get, flat_map, range_with_len, option_or}
+use Rattle.element_tree.proofs.Common.{length-reverse, get_or_read, length-range_with_len, get_or-range_with_len, sum_by-cons, In, In-get_or}
+use Rattle.element_tree.proofs.Common.{length-distinct, In-reverse, In-reverse_source, slice_get-below, All-In, UseRec, CellExt, LONGEST_CHAIN}
+use Rattle.element_tree.proofs.Common.{MOST_FLAT_ELEMENTS, ext_of, greatest, RecordGraph, LeadTo, AreDone, IsGraphOf, children_of, value_at}
+use Rattle.element_tree.proofs.Common.{chain_from, size_from, AreMeasured, AreMeasuredIn}
+use Rattle.std.proofs.Common.{min}
+use Rattle.std.specs.List.{sum}
 use Rattle.std.proofs.lemmas.Bool.{lt-ltb, le-ltb}
-use Rattle.std.proofs.lemmas.List.{length-reverse, get_or_read}
-use Rattle.std.proofs.lemmas.List.FromFn.{length-range_with_len, get_or-range_with_len}
-use Rattle.std.proofs.lemmas.List.Sums.{sum_by-cons}
-use Rattle.name_index.specs.FiniteSets.Lists.{In}
-use Rattle.name_index.proofs.FiniteSets.Members.{In-get_or}
-use Rattle.name_index.proofs.FiniteSets.Distincts.{length-distinct}
-use Rattle.name_index.proofs.FiniteSets.Images.{In-reverse, In-reverse_source}
-use Rattle.name_index.proofs.FiniteSets.Places.{slice_get-below}
-use Rattle.name_index.proofs.FiniteSets.Searches.{All-In}
-use Rattle.ext_model.specs.declared.records.UseRec.{UseRec}
-use Rattle.ext_model.specs.declared.records.CellExt.{CellExt}
 use Rattle.circuit_model.specs.declared.faults.FlatFault.TheVariants.{TooMany}
 use Rattle.circuit_model.specs.declared.limits.CircuitLimit.{CircuitLimit}
 use Rattle.circuit_model.specs.declared.limits.CircuitLimit.TheVariants.{Depth, Elements}
-use Rattle.circuit_model.specs.declared.limits.TheConstants.{LONGEST_CHAIN, MOST_FLAT_ELEMENTS}
-use Rattle.circuit_model.specs.Elements.{Element, ext_of, of_option, elements_below, elements_of}
-use Rattle.circuit_model.specs.Refusals.{greatest, chain_length, depth_of, past}
-use Rattle.element_tree.specs.declared.graph.RecordGraph.{RecordGraph}
-use Rattle.element_tree.specs.Graphs.{LeadTo, AreDone, IsGraphOf, children_of}
+use Rattle.circuit_model.specs.Elements.{Element, of_option, elements_below, elements_of}
+use Rattle.circuit_model.specs.Refusals.{chain_length, depth_of, past}
 use Rattle.element_tree.specs.Trees.{HasNoTreeFault, IsTreeFaultOf}
-use Rattle.element_tree.specs.Sizes.{value_at, chain_from, size_from, AreMeasured, AreMeasuredIn}
 use Rattle.element_tree.proofs.Measures.{chain_bound}
 
 LeadTo-more : (exts : List CellExt) (done others : List ℕ) (uses : List UseRec) (cells : List ℕ) → ((cell : ℕ) → In cell done → In cell others)

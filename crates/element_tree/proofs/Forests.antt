@@ -1,25 +1,13 @@
 -- The links of records that fit are those of a forest.
-use Rattle.std.proofs.Common.{◌≡◌, ℕ, suc, ◌<◌, ◌≤◌, ◌+◌, Some, List, [], ◌∷◌, length, map, reverse, All, inl, inr, refl, sym, ◌∙◌, ap, subst, arith}
-use Rattle.std.specs.List.{slice_get, sum_by}
-use Rattle.std.proofs.lemmas.List.Sums.{sum_by-cons, sum-map}
-use Rattle.name_index.specs.FiniteSets.Lists.{In, Distinct}
+use Rattle.element_tree.proofs.Common.{◌≡◌, ℕ, suc, ◌<◌, ◌≤◌, ◌+◌, Some, List, [], ◌∷◌, length, map, reverse, All, inl, inr, refl, sym, ◌∙◌, ap}
+use Rattle.element_tree.proofs.Common.{subst, arith, slice_get, sum_by, sum_by-cons, sum-map, In, Distinct, In-reverse, In-reverse_source, All-In}
+use Rattle.element_tree.proofs.Common.{slice_get-below, UseRec, CellExt, AreRecords, ext_of, greatest, RecordGraph, LeadTo, IsGraphOf, children_of}
+use Rattle.element_tree.proofs.Common.{Branch, branches_of, Link, links_from, value_at, chain_from, size_from, AreMeasuredIn, Fits, AreSteps}
+use Rattle.element_tree.proofs.Common.{AreBranchesOf, AreBranches, lesser, AreInSteps, AreForest}
 use Rattle.name_index.proofs.FiniteSets.Members.{In-index}
-use Rattle.name_index.proofs.FiniteSets.Images.{In-reverse, In-reverse_source}
-use Rattle.name_index.proofs.FiniteSets.Searches.{All-In}
-use Rattle.name_index.proofs.FiniteSets.Places.{slice_get-below, All-slice_get}
-use Rattle.ext_model.specs.declared.records.UseRec.{UseRec}
-use Rattle.ext_model.specs.declared.records.CellExt.{CellExt}
+use Rattle.name_index.proofs.FiniteSets.Places.{All-slice_get}
 use Rattle.ext_model.specs.Lawful.{IsLawful, IsLawfulUse}
-use Rattle.circuit_model.specs.Elements.{AreRecords, ext_of}
-use Rattle.circuit_model.specs.Refusals.{greatest}
-use Rattle.element_tree.specs.declared.graph.RecordGraph.{RecordGraph}
-use Rattle.element_tree.specs.Graphs.{LeadTo, IsGraphOf, children_of}
-use Rattle.element_tree.specs.declared.tree.Branch.{Branch}
-use Rattle.element_tree.specs.Trees.{branches_of}
-use Rattle.element_tree.specs.steps.Links.{Link, links_from, links_of}
-use Rattle.element_tree.specs.Sizes.{value_at, chain_from, size_from, AreMeasuredIn, Fits}
-use Rattle.element_tree.specs.steps.Forests.{AreSteps, AreBranchesOf, AreBranches, lesser}
-use Rattle.element_tree.specs.steps.Rooms.{AreInSteps, AreForest}
+use Rattle.element_tree.specs.steps.Links.{links_of}
 use Rattle.element_tree.proofs.Counting.{leads_at, measured_at}
 use Rattle.element_tree.proofs.Growth.{links_of-found}
 use Rattle.element_tree.proofs.Steps.{AreSteps-long}

@@ -1,21 +1,12 @@
 -- How the list of elements grows, and that there is room for it.
-use Rattle.std.proofs.Common.{◌≡◌, ℕ, zero, suc, ◌<◌, ◌≤◌, ◌+◌, ◌-◌, Some, List, [], ◌∷◌, ◌++◌, length, get_or, map, take, inl, inr, refl, sym, ◌∙◌}
-use Rattle.std.proofs.Common.{ap, arith, append_assoc}
-use Rattle.std.specs.List.{sum_by, flat_map, slice_get}
-use Rattle.std.proofs.lemmas.List.{append-nil, get_or_read, take_all, take_more, flat_map_more, map-append}
-use Rattle.std.proofs.lemmas.List.Sums.{sum_by-cons}
-use Rattle.std.proofs.lemmas.Option.{slice_get_read, slice_get-get_or, get_or_from_slice_get, slice_get_within}
-use Rattle.name_index.specs.FiniteSets.Lists.{In}
-use Rattle.name_index.proofs.FiniteSets.Places.{In-slice_get}
-use Rattle.ext_model.specs.declared.records.UseRec.{UseRec}
-use Rattle.ext_model.specs.declared.records.CellExt.{CellExt}
+use Rattle.element_tree.proofs.Common.{◌≡◌, ℕ, zero, suc, ◌<◌, ◌≤◌, ◌+◌, ◌-◌, Some, List, [], ◌∷◌, ◌++◌, length, get_or, map, take, inl, inr, refl}
+use Rattle.element_tree.proofs.Common.{sym, ◌∙◌, ap, arith, append_assoc, sum_by, flat_map, slice_get, append-nil, get_or_read, take_more}
+use Rattle.element_tree.proofs.Common.{map-append, sum_by-cons, slice_get_read, slice_get-get_or, get_or_from_slice_get, slice_get_within, In}
+use Rattle.element_tree.proofs.Common.{In-slice_get, UseRec, CellExt, Branch, TreeElement, branches_of, Link, links_from, flats_below, value_at}
+use Rattle.element_tree.proofs.Common.{AreInSteps, HasRoom}
+use Rattle.std.proofs.lemmas.List.{take_all, flat_map_more}
 use Rattle.circuit_model.specs.Elements.{of_option, transform_of}
-use Rattle.element_tree.specs.declared.tree.Branch.{Branch}
-use Rattle.element_tree.specs.declared.tree.TreeElement.{TreeElement}
-use Rattle.element_tree.specs.Trees.{branches_of}
-use Rattle.element_tree.specs.steps.Links.{Link, links_from, links_of, chains_below, flat_below, flat_along, flats_below}
-use Rattle.element_tree.specs.Sizes.{value_at}
-use Rattle.element_tree.specs.steps.Rooms.{AreInSteps, HasRoom}
+use Rattle.element_tree.specs.steps.Links.{links_of, chains_below, flat_below, flat_along}
 use Rattle.element_tree.proofs.Transforms.{placement_moves, composed_moves}
 use Rattle.element_tree.proofs.Ranks.{rank_step-size}
 

@@ -1,3 +1,4 @@
+mod Common
 mod WalkLaws
 mod Turns
 pub mod Cells

@@ -1,21 +1,12 @@
 -- The records in the order in which they are done, and the numbers that their children's make theirs.
-use Rattle.std.proofs.Common.{◌≡◌, ℕ, suc, ◌<◌, ◌≤◌, ◌+◌, max, List, [], ◌∷◌, ◌++◌, length, get_or, set, map, take, drop, reverse, All}
-use Rattle.std.proofs.Common.{inl, inr, refl, sym, ◌∙◌, ap, subst, arith}
-use Rattle.std.proofs.lemmas.List.{get_or_read, get_or-set_same, get_or-set_other, take_more, take-append-drop, reverse-append, length-reverse, length-take-le}
+use Rattle.element_tree.proofs.Common.{◌≡◌, ℕ, suc, ◌<◌, ◌≤◌, ◌+◌, max, List, [], ◌∷◌, ◌++◌, length, get_or, set, map, take, drop, reverse, All, inl}
+use Rattle.element_tree.proofs.Common.{inr, refl, sym, ◌∙◌, ap, subst, arith, get_or_read, get_or-set_same, get_or-set_other, take_more}
+use Rattle.element_tree.proofs.Common.{reverse-append, length-reverse, In, Distinct, In-get_or, Distinct-append_left, Distinct-append_apart}
+use Rattle.element_tree.proofs.Common.{In-reverse_source, All-In, slice_get-below, UseRec, CellExt, greatest, RecordGraph, LeadTo, AreDone}
+use Rattle.element_tree.proofs.Common.{IsGraphOf, children_of, value_at, chain_from, AreMeasured}
+use Rattle.std.proofs.lemmas.List.{take-append-drop, length-take-le}
 use Rattle.std.proofs.lemmas.List.Elements.{All-take}
 use Rattle.std.proofs.lemmas.List.Recursion.{max_push}
-use Rattle.name_index.specs.FiniteSets.Lists.{In, Distinct}
-use Rattle.name_index.proofs.FiniteSets.Members.{In-get_or}
-use Rattle.name_index.proofs.FiniteSets.Distincts.{Distinct-append_left, Distinct-append_apart}
-use Rattle.name_index.proofs.FiniteSets.Images.{In-reverse_source}
-use Rattle.name_index.proofs.FiniteSets.Searches.{All-In}
-use Rattle.name_index.proofs.FiniteSets.Places.{slice_get-below}
-use Rattle.ext_model.specs.declared.records.UseRec.{UseRec}
-use Rattle.ext_model.specs.declared.records.CellExt.{CellExt}
-use Rattle.circuit_model.specs.Refusals.{greatest}
-use Rattle.element_tree.specs.declared.graph.RecordGraph.{RecordGraph}
-use Rattle.element_tree.specs.Graphs.{LeadTo, AreDone, IsGraphOf, children_of}
-use Rattle.element_tree.specs.Sizes.{value_at, chain_from, AreMeasured}
 
 -- the last of the first so many stands first when they are reversed
 pub reverse_more : (xs : List ℕ) (i : ℕ) (d : ℕ) → i < length xs → reverse (take (i + 1) xs) ≡ get_or xs i d ∷ reverse (take i xs)

@@ -1,14 +1,10 @@
 -- The order of the names of elements within paths is total, and names that tie in it are one.
-use Rattle.std.proofs.Common.{◌≡◌, ℕ, ◌<◌, List, [], ◌∷◌, ◌++◌, refl}
+use Rattle.element_tree.proofs.Common.{◌≡◌, ℕ, ◌<◌, List, [], ◌∷◌, ◌++◌, refl, Ordering, Less, Equal, Greater, nat_cmp, ordering_then, slice_cmp}
+use Rattle.element_tree.proofs.Common.{SLASH, element_cmp}
 use Rattle.std.specs.Cmp.{IsTotalOrder}
-use Rattle.std.specs.declared.cmp.Ordering.{Ordering}
-use Rattle.std.specs.declared.cmp.Ordering.TheVariants.{Less, Equal, Greater}
-use Rattle.std.specs.Ordering.{nat_cmp, ordering_then, MatchOrdering}
-use Rattle.std.specs.Cmp.Lexicographic.{slice_cmp}
+use Rattle.std.specs.Ordering.{MatchOrdering}
 use Rattle.std.proofs.lemmas.Cmp.{ranked, on_total, nat_list_cmp_total}
 use Rattle.std.proofs.lemmas.List.{append_cancel_right}
-use Rattle.ext_model.specs.declared.names.TheConstants.{SLASH}
-use Rattle.ext_model.specs.NameParts.{element_cmp}
 
 -- the order is total
 pub element_cmp_total : IsTotalOrder element_cmp

@@ -1,27 +1,18 @@
 -- The order in which the walk is done with records, and the places of its faults.
-use Rattle.std.proofs.Common.{◌≡◌, ℕ, zero, suc, ◌<◌, ◌≤◌, ◌+◌, ◌==◌, Bool, true, false, cond, Option, Some, None, List, [], ◌∷◌, ◌++◌, length, map}
-use Rattle.std.proofs.Common.{inl, inr, refl, sym, ◌∙◌, ap, subst, arith, reverse}
+use Rattle.element_tree.proofs.Common.{◌≡◌, ℕ, zero, suc, ◌<◌, ◌≤◌, ◌+◌, ◌==◌, Bool, true, false, cond, Option, Some, None, List, [], ◌∷◌, ◌++◌}
+use Rattle.element_tree.proofs.Common.{length, map, inl, inr, refl, sym, ◌∙◌, ap, subst, arith, reverse, list_any, position, option_or, bytes_eq}
+use Rattle.element_tree.proofs.Common.{length-map, get_or-map, reverse-append, get_or_from_slice_get, In, Distinct, Distinct-append_left}
+use Rattle.element_tree.proofs.Common.{Distinct-append_apart, In-reverse, In-reverse_source, UsePlace, WalkFault, NoCellAt, CycleAt, NoMemory, Graph}
+use Rattle.element_tree.proofs.Common.{uses_of, IsGraph, IsOrder, number_fault, UseRec, CellExt, FlatFault, LeadTo, AreDone, IsGraphOf, children_of}
+use Rattle.element_tree.proofs.Common.{cells_of, goals_in, goal_graph, found_goals, IsUseOf, IsNamedFault}
 use Rattle.std.specs.Prelude.{slice_get}
-use Rattle.std.specs.List.{list_any, position}
-use Rattle.std.specs.Option.{option_or}
-use Rattle.std.specs.Str.{bytes_eq}
-use Rattle.std.proofs.lemmas.List.{length-map, get_or-map, get_or_past, reverse-append}
-use Rattle.std.proofs.lemmas.Option.{get_or_from_slice_get, slice_get_cases}
-use Rattle.name_index.specs.FiniteSets.Lists.{In, Distinct}
+use Rattle.std.proofs.lemmas.List.{get_or_past}
+use Rattle.std.proofs.lemmas.Option.{slice_get_cases}
 use Rattle.name_index.proofs.FiniteSets.Members.{In-map_source}
-use Rattle.name_index.proofs.FiniteSets.Distincts.{Distinct-append_left, Distinct-append_apart}
 use Rattle.name_index.proofs.FiniteSets.Searches.{All-from_In}
-use Rattle.name_index.proofs.FiniteSets.Images.{In-reverse, In-reverse_source}
-use Rattle.element_tree.specs.declared.faults.UsePlace.{UsePlace}
-use Rattle.element_tree.specs.declared.faults.WalkFault.{WalkFault}
-use Rattle.element_tree.specs.declared.faults.WalkFault.TheVariants.{NoCell as NoCellAt, Cycle as CycleAt, Memory as NoMemory}
-use Rattle.element_tree.specs.steps.Walks.{Graph, uses_of, IsGraph, IsDoneIn, IsClosed, IsOrder, fault_from, fault_below, walk_fault as number_fault}
-use Rattle.ext_model.specs.declared.records.UseRec.{UseRec}
-use Rattle.ext_model.specs.declared.records.CellExt.{CellExt}
-use Rattle.circuit_model.specs.declared.faults.FlatFault.{FlatFault}
+use Rattle.element_tree.specs.steps.Walks.{IsDoneIn, IsClosed, fault_from, fault_below}
 use Rattle.circuit_model.specs.declared.faults.FlatFault.TheVariants.{NoCell, Cycle}
-use Rattle.element_tree.specs.Graphs.{LeadTo, AreDone, IsGraphOf, children_of}
-use Rattle.element_tree.specs.steps.Goals.{cells_of, goals_in, goal_graph, found_goals, IsUseAt, IsUseOf, IsNamedFault}
+use Rattle.element_tree.specs.steps.Goals.{IsUseAt}
 use Rattle.element_tree.proofs.Cells.{numbered}
 use Rattle.element_tree.proofs.RecordWalks.{fault_named, cell_of_use}
 

@@ -1,27 +1,12 @@
 -- The sizes before a branch in the order of the names are those of the branches with lesser names.
-use Rattle.std.proofs.Common.{◌≡◌, ◌≢◌, ℕ, zero, suc, ◌<◌, ◌≤◌, ◌+◌, Bool, true, false, cond, Option, Some, None, ◌⊎◌, List, [], ◌∷◌, length, get_or}
-use Rattle.std.proofs.Common.{map, take, inl, inr, refl, sym, ◌∙◌, ap, arith}
-use Rattle.std.specs.List.{slice_get, sum_by, range_with_len}
-use Rattle.std.specs.List.Sorted.{IsSorted}
-use Rattle.std.proofs.lemmas.Bool.{cases_lt}
-use Rattle.std.proofs.lemmas.List.{get_or_default, length-map, get_or-map}
-use Rattle.std.proofs.lemmas.List.FromFn.{length-range_with_len, get_or-range_with_len, fill_by_all}
-use Rattle.std.proofs.lemmas.List.Sums.{sum_by-cons, sum-map}
+use Rattle.element_tree.proofs.Common.{◌≡◌, ◌≢◌, ℕ, zero, suc, ◌<◌, ◌≤◌, ◌+◌, Bool, true, false, cond, Option, Some, None, ◌⊎◌, List, [], ◌∷◌}
+use Rattle.element_tree.proofs.Common.{length, get_or, map, take, inl, inr, refl, sym, ◌∙◌, ap, arith, slice_get, sum_by, range_with_len, IsSorted}
+use Rattle.element_tree.proofs.Common.{cases_lt, get_or_default, length-map, get_or-map, length-range_with_len, get_or-range_with_len, fill_by_all}
+use Rattle.element_tree.proofs.Common.{sum_by-cons, sum-map, get_or_from_slice_get, slice_get_within, Ordering, Less, Equal, Greater, is_lt}
+use Rattle.element_tree.proofs.Common.{ordering_reverse, In, Distinct, Distinct-places, slice_get-below, UseRec, element_cmp, Branch, Link}
+use Rattle.element_tree.proofs.Common.{links_from, AreSteps, AreBranchesOf, lesser, size_at, HaveRankSteps}
 use Rattle.std.proofs.lemmas.List.Sorted.{sum_by-IsPermutation, Contains-permutation, ranks_by, sorted_far}
-use Rattle.std.proofs.lemmas.Option.{get_or_from_slice_get, slice_get_within}
-use Rattle.std.specs.declared.cmp.Ordering.{Ordering}
-use Rattle.std.specs.declared.cmp.Ordering.TheVariants.{Less, Equal, Greater}
-use Rattle.std.specs.Ordering.{is_lt, ordering_reverse}
-use Rattle.name_index.specs.FiniteSets.Lists.{In, Distinct}
-use Rattle.name_index.proofs.FiniteSets.Distincts.{Distinct-places}
-use Rattle.name_index.proofs.FiniteSets.Places.{slice_get-below}
-use Rattle.ext_model.specs.declared.records.UseRec.{UseRec}
-use Rattle.ext_model.specs.NameParts.{element_cmp}
-use Rattle.element_tree.specs.declared.tree.Branch.{Branch}
 use Rattle.element_tree.specs.steps.NameOrder.{id_at}
-use Rattle.element_tree.specs.steps.Links.{Link, links_from}
-use Rattle.element_tree.specs.steps.Forests.{AreSteps, AreBranchesOf, lesser}
-use Rattle.element_tree.specs.steps.RankSteps.{size_at, HaveRankSteps}
 use Rattle.element_tree.proofs.NameOrders.{element_cmp_total, element_cmp-Equal}
 use Rattle.element_tree.proofs.Growth.{link_at, length-links_from}
 use Rattle.element_tree.proofs.Steps.{AreSteps-long, AreSteps-child, AreNumbers, number_within, numbers_long, numbers_apart}

@@ -1,22 +1,12 @@
 -- The ranks of elements are in the order of their paths.
-use Rattle.std.proofs.Common.{◌≡◌, ℕ, ◌<◌, ◌≤◌, ◌+◌, Bool, true, false, cond, List, [], ◌∷◌, length, map, inl, inr, refl, sym, ◌∙◌, ap, subst, arith}
-use Rattle.std.specs.List.{sum_by}
-use Rattle.std.proofs.lemmas.Grind.{common_steps}
-use Rattle.std.proofs.lemmas.List.Sums.{sum_by-cons, sum_by-le-sum_by}
+use Rattle.element_tree.proofs.Common.{◌≡◌, ℕ, ◌<◌, ◌≤◌, ◌+◌, Bool, true, false, cond, List, [], ◌∷◌, length, map, inl, inr, refl, sym, ◌∙◌, ap}
+use Rattle.element_tree.proofs.Common.{subst, arith, sum_by, common_steps, sum_by-cons, Ordering, Less, Equal, Greater, nat_cmp, is_lt}
+use Rattle.element_tree.proofs.Common.{ordering_then, ordering_reverse, slice_cmp, In, CellExt, element_cmp, Branch, Link, Fits, value_at, AreForest}
+use Rattle.std.proofs.lemmas.List.Sums.{sum_by-le-sum_by}
 use Rattle.std.proofs.lemmas.Cmp.{tied_itself}
-use Rattle.std.specs.declared.cmp.Ordering.{Ordering}
-use Rattle.std.specs.declared.cmp.Ordering.TheVariants.{Less, Equal, Greater}
-use Rattle.std.specs.Ordering.{nat_cmp, is_lt, ordering_then, ordering_reverse}
-use Rattle.std.specs.Cmp.Lexicographic.{slice_cmp}
-use Rattle.name_index.specs.FiniteSets.Lists.{In}
 use Rattle.name_index.proofs.FiniteSets.Orders.{nat_cmp-add}
 use Rattle.name_index.proofs.FiniteSets.Images.{one_from_Distinct}
-use Rattle.ext_model.specs.declared.records.CellExt.{CellExt}
-use Rattle.ext_model.specs.NameParts.{element_cmp}
-use Rattle.element_tree.specs.declared.tree.Branch.{Branch}
-use Rattle.element_tree.specs.steps.Links.{Link, links_of}
-use Rattle.element_tree.specs.Sizes.{Fits, value_at}
-use Rattle.element_tree.specs.steps.Rooms.{AreForest}
+use Rattle.element_tree.specs.steps.Links.{links_of}
 use Rattle.element_tree.proofs.NameOrders.{element_cmp_total, element_cmp-Equal}
 use Rattle.element_tree.proofs.Chains.{rank_along, IsChainFrom}
 

@@ -1,28 +1,15 @@
 -- The walk over numbers finds the first fault of the records.
-use Rattle.std.proofs.Common.{◌≡◌, ℕ, zero, suc, ◌<◌, ◌+◌, ◌==◌, Bool, true, false, cond, ◌||◌, Option, Some, None, List, [], ◌∷◌, length, map, get_or}
-use Rattle.std.proofs.Common.{inl, inr, refl, sym, ◌∙◌, ap, subst, arith}
+use Rattle.element_tree.proofs.Common.{◌≡◌, ℕ, zero, suc, ◌<◌, ◌+◌, ◌==◌, Bool, true, false, cond, Option, Some, None, List, [], ◌∷◌, length, map}
+use Rattle.element_tree.proofs.Common.{get_or, inl, inr, refl, sym, ◌∙◌, ap, subst, arith, common_steps, eqb-true, length-map, get_or-map}
+use Rattle.element_tree.proofs.Common.{slice_get-get_or, bytes_eq-Decides, list_any, position, option_map, option_or, bytes_eq, In, Distinct}
+use Rattle.element_tree.proofs.Common.{UsePlace, WalkFault, NoCellAt, CycleAt, NoMemory, uses_of, number_fault, UseRec, CellExt, FlatFault, ext_of}
+use Rattle.element_tree.proofs.Common.{cells_of, goals_in, goal_graph}
+use Rattle.std.proofs.Common.{◌||◌}
 use Rattle.std.specs.Prelude.{slice_get}
-use Rattle.std.proofs.lemmas.Grind.{common_steps}
-use Rattle.std.proofs.lemmas.Bool.{eqb-true}
-use Rattle.std.proofs.lemmas.List.{length-map, get_or-map}
-use Rattle.std.proofs.lemmas.Option.{slice_get-get_or}
-use Rattle.std.proofs.lemmas.Slice.Eq.{bytes_eq-Decides}
-use Rattle.std.specs.List.{list_any, position}
-use Rattle.std.specs.Option.{option_map, option_or}
-use Rattle.std.specs.Str.{bytes_eq}
-use Rattle.name_index.specs.FiniteSets.Lists.{In, Distinct}
-use Rattle.element_tree.specs.declared.faults.UsePlace.{UsePlace}
-use Rattle.element_tree.specs.declared.faults.WalkFault.{WalkFault}
-use Rattle.element_tree.specs.declared.faults.WalkFault.TheVariants.{NoCell as NoCellAt, Cycle as CycleAt, Memory as NoMemory}
-use Rattle.element_tree.specs.steps.Walks.{uses_of, fault_from, fault_below, walk_fault as number_fault}
-use Rattle.ext_model.specs.declared.records.UseRec.{UseRec}
-use Rattle.ext_model.specs.declared.records.CellExt.{CellExt}
-use Rattle.circuit_model.specs.declared.faults.FlatFault.{FlatFault}
+use Rattle.element_tree.specs.steps.Walks.{fault_from, fault_below}
 use Rattle.circuit_model.specs.declared.faults.FlatFault.TheVariants.{NoCell, Cycle, Memory}
-use Rattle.circuit_model.specs.Elements.{ext_of}
 use Rattle.circuit_model.specs.FlatNodes.{is_among}
 use Rattle.circuit_model.specs.Refusals.{first_fault, use_fault, walk_fault}
-use Rattle.element_tree.specs.steps.Goals.{cells_of, goals_in, goal_graph}
 use Rattle.element_tree.proofs.Cells.{no_number, numbered, one_number, found_cell}
 
 -- the cell that a use names

@@ -1,21 +1,9 @@
 -- The branches of one record after the other.
-use Rattle.std.proofs.Common.{◌≡◌, ℕ, ◌<◌, ◌≤◌, ◌+◌, Some, ◌⊎◌, List, [], ◌∷◌, length, get_or, set, map, take, reverse, inl, inr, refl, sym, ◌∙◌, ap}
-use Rattle.std.proofs.Common.{subst, arith}
-use Rattle.std.specs.List.{slice_get}
-use Rattle.std.proofs.lemmas.List.{take_more, length-set, get_or-set_same, get_or-set_other, get_or_default}
-use Rattle.std.proofs.lemmas.Option.{slice_get_read}
-use Rattle.name_index.specs.FiniteSets.Lists.{In}
-use Rattle.name_index.proofs.FiniteSets.Members.{In-get_or, In-push_cases}
-use Rattle.name_index.proofs.FiniteSets.Images.{In-reverse}
-use Rattle.ext_model.specs.declared.records.UseRec.{UseRec}
-use Rattle.ext_model.specs.declared.records.CellExt.{CellExt}
-use Rattle.circuit_model.specs.declared.limits.TheConstants.{MOST_FLAT_ELEMENTS}
-use Rattle.element_tree.specs.declared.graph.RecordGraph.{RecordGraph}
-use Rattle.element_tree.specs.Graphs.{LeadTo, children_of}
-use Rattle.element_tree.specs.declared.tree.Branch.{Branch}
-use Rattle.element_tree.specs.Trees.{branches_of}
-use Rattle.element_tree.specs.Sizes.{value_at, size_from, AreMeasuredIn, Fits}
-use Rattle.element_tree.specs.steps.Forests.{AreBranchesOf, AreBranches}
+use Rattle.element_tree.proofs.Common.{◌≡◌, ℕ, ◌<◌, ◌≤◌, ◌+◌, Some, ◌⊎◌, List, [], ◌∷◌, length, get_or, set, map, take, reverse, inl, inr, refl, sym}
+use Rattle.element_tree.proofs.Common.{◌∙◌, ap, subst, arith, slice_get, take_more, length-set, get_or-set_same, get_or-set_other, get_or_default}
+use Rattle.element_tree.proofs.Common.{slice_get_read, In, In-get_or, In-reverse, UseRec, CellExt, MOST_FLAT_ELEMENTS, RecordGraph, LeadTo}
+use Rattle.element_tree.proofs.Common.{children_of, Branch, branches_of, value_at, size_from, AreMeasuredIn, Fits, AreBranchesOf, AreBranches}
+use Rattle.name_index.proofs.FiniteSets.Members.{In-push_cases}
 use Rattle.element_tree.proofs.Measures.{IsRead, next_in_order}
 use Rattle.element_tree.proofs.Counting.{measured_at}
 

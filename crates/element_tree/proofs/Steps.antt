@@ -1,18 +1,13 @@
 -- Branches that lead to children, one behind the other.
-use Rattle.std.proofs.Common.{◌≡◌, ◌≢◌, ℕ, zero, suc, ◌<◌, ◌≤◌, ◌+◌, Some, ◌⊎◌, List, [], ◌∷◌, ◌++◌, length, get_or, set, take, All, inl, inr}
-use Rattle.std.proofs.Common.{refl, sym, ◌∙◌, ap, subst, arith}
-use Rattle.std.specs.Prelude.{IsPermutation}
-use Rattle.std.specs.List.{slice_get, sum_by, range_with_len, AllPairs}
-use Rattle.std.proofs.lemmas.Bool.{cases_lt}
-use Rattle.std.proofs.lemmas.List.{get_or-set_same, get_or-set_other}
-use Rattle.std.proofs.lemmas.List.FromFn.{length-range_with_len, get_or-range_with_len, fill_by_all}
-use Rattle.std.proofs.lemmas.List.Sums.{sum_by-cons, sum_by_more_le}
+use Rattle.element_tree.proofs.Common.{◌≡◌, ◌≢◌, ℕ, zero, suc, ◌<◌, ◌≤◌, ◌+◌, Some, ◌⊎◌, List, [], ◌∷◌, ◌++◌, length, get_or, set, take, All, inl}
+use Rattle.element_tree.proofs.Common.{inr, refl, sym, ◌∙◌, ap, subst, arith, IsPermutation, slice_get, sum_by, range_with_len, cases_lt}
+use Rattle.element_tree.proofs.Common.{get_or-set_same, get_or-set_other, length-range_with_len, get_or-range_with_len, fill_by_all, sum_by-cons}
+use Rattle.element_tree.proofs.Common.{Branch, AreSteps, size_at, HaveRankSteps}
+use Rattle.std.specs.List.{AllPairs}
+use Rattle.std.proofs.lemmas.List.Sums.{sum_by_more_le}
 use Rattle.std.proofs.lemmas.List.Sorted.{sum_by-IsPermutation, All-permutation, length_permutation}
 use Rattle.name_index.proofs.FiniteSets.Pairs.{AllPairs-permutation}
 use Rattle.name_index.proofs.FiniteSets.Sums.{sum_by-map}
-use Rattle.element_tree.specs.declared.tree.Branch.{Branch}
-use Rattle.element_tree.specs.steps.Forests.{AreSteps}
-use Rattle.element_tree.specs.steps.RankSteps.{size_at, HaveRankSteps}
 
 -- one more branch
 pub AreSteps-push : (size : ℕ → ℕ) (start : ℕ) (children : List ℕ) (branches : List Branch) (child : ℕ) (branch : Branch)

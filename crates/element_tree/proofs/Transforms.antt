@@ -1,11 +1,11 @@
 -- The transforms of uses: what their six numbers make them, and how far they move.
-use Rattle.std.proofs.Common.{◌≡◌, ℕ, ◌<◌, ◌≤◌, ◌+◌, ◌*◌, ℤ, pos, neg_ℤ, ◌≤ℤ◌, List, refl, sym, ◌∙◌, ap, subst, arith}
+use Rattle.element_tree.proofs.Common.{◌≡◌, ℕ, ◌<◌, ◌≤◌, ◌+◌, List, refl, sym, ◌∙◌, ap, subst, arith, Square, LONGEST_CHAIN, MovesByAtMost}
+use Rattle.std.proofs.Common.{◌*◌, ℤ, pos, neg_ℤ, ◌≤ℤ◌}
 use Rattle.std.specs.Int.RustNames.{unsigned_abs}
 use Rattle.std.proofs.lemmas.Cmp.{int_eq_equiv}
 use Rattle.std.proofs.lemmas.Int.{ints}
 use Rattle.geo_core.specs.declared.orients.Orient.{Orient}
 use Rattle.geo_core.specs.declared.orients.Orient.TheVariants.{R0}
-use Rattle.geo_core.specs.declared.squares.Square.{Square}
 use Rattle.geo_core.specs.declared.transforms.Transform.{Transform}
 use Rattle.geo_core.specs.Images.{image, six_of, composed, identity}
 use Rattle.geo_core.specs.Reach.{MovesInReach}
@@ -13,9 +13,7 @@ use Rattle.geo_core.proofs.SquareLaws.{square_is}
 use Rattle.geo_core.proofs.ImageLaws.{image-moved}
 use Rattle.ext_model.specs.declared.limits.TheConstants.{ELEMENT_EDGE}
 use Rattle.ext_model.specs.Lawful.{IsPlacement}
-use Rattle.circuit_model.specs.declared.limits.TheConstants.{LONGEST_CHAIN}
 use Rattle.circuit_model.specs.Elements.{transform_of}
-use Rattle.element_tree.specs.steps.Rooms.{MovesByAtMost}
 
 -- the transform of these parts
 abbrev transform : Orient → ℤ → ℤ → Transform

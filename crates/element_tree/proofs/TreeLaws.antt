@@ -1,26 +1,14 @@
 -- What the tree has of its elements is true of them.
-use Rattle.std.proofs.Common.{◌≡◌, ℕ, ◌≤◌, ◌+◌, Some, ◌⊎◌, List, [], ◌∷◌, ◌++◌, length, get_or, map, inl, inr, refl, sym, ◌∙◌, ap, subst, arith}
-use Rattle.std.specs.List.{slice_get}
-use Rattle.std.specs.Ordering.{nat_cmp}
-use Rattle.std.specs.Cmp.Lexicographic.{slice_cmp}
-use Rattle.std.proofs.lemmas.List.{length-map, map-append}
-use Rattle.std.proofs.lemmas.Option.{slice_get-get_or, get_or_from_slice_get, slice_get_within}
-use Rattle.name_index.specs.FiniteSets.Lists.{In}
-use Rattle.name_index.proofs.FiniteSets.Places.{slice_get-below, In-slice_get, slice_get-map_source, slice_get-map_there}
-use Rattle.ext_model.specs.declared.records.UseRec.{UseRec}
-use Rattle.ext_model.specs.declared.records.CellExt.{CellExt}
-use Rattle.ext_model.specs.NameParts.{element_cmp, path_length}
-use Rattle.circuit_model.specs.declared.limits.TheConstants.{LONGEST_CHAIN}
-use Rattle.element_tree.specs.declared.graph.RecordGraph.{RecordGraph}
-use Rattle.element_tree.specs.Graphs.{IsGraphOf}
-use Rattle.circuit_model.specs.Elements.{AreRecords, Element, ids_of, elements_of, elements_below, placed}
-use Rattle.element_tree.specs.declared.tree.Branch.{Branch}
-use Rattle.element_tree.specs.declared.tree.TreeElement.{TreeElement}
-use Rattle.element_tree.specs.Trees.{branches_of, StandsFor, StandsIn, LeadsTo, AreAt, IsTreeOfElements, IsTreeOf}
-use Rattle.element_tree.specs.steps.Links.{Link, links_of, chains_below, flat_along, flats_below, top_flat}
-use Rattle.element_tree.specs.Sizes.{Fits, value_at, AreSizes}
-use Rattle.element_tree.specs.steps.Forests.{AreBranches}
-use Rattle.element_tree.specs.steps.Rooms.{AreForest, HasRoom}
+use Rattle.element_tree.proofs.Common.{◌≡◌, ℕ, ◌≤◌, ◌+◌, Some, ◌⊎◌, List, [], ◌∷◌, ◌++◌, length, get_or, map, inl, inr, refl, sym, ◌∙◌, ap, subst}
+use Rattle.element_tree.proofs.Common.{arith, slice_get, nat_cmp, slice_cmp, length-map, map-append, slice_get-get_or, get_or_from_slice_get}
+use Rattle.element_tree.proofs.Common.{slice_get_within, In, slice_get-below, In-slice_get, UseRec, CellExt, element_cmp, path_length, LONGEST_CHAIN}
+use Rattle.element_tree.proofs.Common.{RecordGraph, IsGraphOf, AreRecords, Branch, TreeElement, branches_of, IsTreeOf, Link, flats_below, Fits}
+use Rattle.element_tree.proofs.Common.{value_at, AreBranches, AreForest, HasRoom}
+use Rattle.name_index.proofs.FiniteSets.Places.{slice_get-map_source, slice_get-map_there}
+use Rattle.circuit_model.specs.Elements.{Element, ids_of, elements_of, elements_below, placed}
+use Rattle.element_tree.specs.Trees.{StandsFor, StandsIn, LeadsTo, AreAt, IsTreeOfElements}
+use Rattle.element_tree.specs.steps.Links.{links_of, chains_below, flat_along, top_flat}
+use Rattle.element_tree.specs.Sizes.{AreSizes}
 use Rattle.element_tree.proofs.Forests.{forest_of}
 use Rattle.element_tree.proofs.Transforms.{reach_from_count, image-identity, identity_moves}
 use Rattle.element_tree.proofs.Chains.{number_along, rank_along, end_of, IsChainFrom, step_behind}

@@ -1,18 +1,11 @@
 -- One turn of the walk, over the lists that it keeps.
-use Rattle.std.proofs.Common.{◌≡◌, ℕ, zero, suc, ◌<◌, ◌≤◌, ◌+◌, ◌-◌, Option, Some, None, List, [], ◌∷◌, ◌++◌, length, get_or, set, refl, sym, ◌∙◌, ap, subst}
-use Rattle.std.proofs.Common.{arith, reverse, inl, inr, length-append}
-use Rattle.std.proofs.lemmas.List.{reverse-append, length-reverse}
-use Rattle.std.specs.List.{slice_get}
+use Rattle.element_tree.proofs.Common.{◌≡◌, ℕ, zero, suc, ◌<◌, ◌≤◌, ◌+◌, ◌-◌, Option, Some, None, List, [], ◌∷◌, ◌++◌, length, get_or, set, refl}
+use Rattle.element_tree.proofs.Common.{sym, ◌∙◌, ap, subst, arith, reverse, inl, inr, length-append, reverse-append, length-reverse, slice_get, In}
+use Rattle.element_tree.proofs.Common.{In-get_or, NoCell, Cycle, Mark, New, Open, Done, Graph, uses_of, IsGraph, mark_of, uses_left, IsUnderWay}
 use lib.ListN.{replicate}
-use Rattle.name_index.specs.FiniteSets.Lists.{In}
-use Rattle.name_index.proofs.FiniteSets.Members.{In-get_or}
-use Rattle.element_tree.specs.declared.faults.WalkFault.TheVariants.{NoCell, Cycle}
-use Rattle.element_tree.specs.declared.walks.Mark.{Mark}
-use Rattle.element_tree.specs.declared.walks.Mark.TheVariants.{New, Open, Done}
 use Rattle.element_tree.specs.declared.walks.Step.TheVariants.{Over, Nowhere, To}
 use Rattle.element_tree.specs.steps.Steps.{step_of}
-use Rattle.element_tree.specs.steps.Walks.{Graph, uses_of, IsGraph, walk_fault}
-use Rattle.element_tree.specs.steps.UnderWay.{mark_of, uses_left, IsUnderWay}
+use Rattle.element_tree.specs.steps.Walks.{walk_fault}
 use Rattle.element_tree.proofs.WalkLaws.{few, uses_left-set, fault_no_cell, fault_cycle, past_done, past_new, finished}
 
 -- ---- what a step says of the uses

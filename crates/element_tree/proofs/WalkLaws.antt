@@ -1,22 +1,14 @@
 -- What a walk under way keeps.
-use Rattle.std.proofs.Common.{◌≡◌, ◌⊎◌, ℕ, zero, suc, ◌<◌, ◌≤◌, ◌-◌, ◌==◌, true, false, cond, Option, Some, None, List, [], ◌∷◌, ◌++◌, length, get_or}
-use Rattle.std.proofs.Common.{set, take, drop, inl, inr, refl, sym, ◌∙◌, ap, subst, arith}
-use Rattle.std.proofs.lemmas.Grind.{common_steps}
-use Rattle.std.proofs.lemmas.List.{get_or-set_same, get_or-set_other}
+use Rattle.element_tree.proofs.Common.{◌≡◌, ◌⊎◌, ℕ, zero, suc, ◌<◌, ◌≤◌, ◌-◌, ◌==◌, true, false, cond, Option, Some, None, List, [], ◌∷◌, ◌++◌}
+use Rattle.element_tree.proofs.Common.{length, get_or, set, take, drop, inl, inr, refl, sym, ◌∙◌, ap, subst, arith, common_steps, get_or-set_same}
+use Rattle.element_tree.proofs.Common.{get_or-set_other, list_any, option_or, eqb-true, cases_lt, In, Distinct, length-distinct, WalkFault, NoCell}
+use Rattle.element_tree.proofs.Common.{Cycle, Mark, New, Open, Done, Graph, uses_of, uses_left, mark_of, IsUnderWay}
 use Rattle.std.proofs.Math.Seq.{drop-cons, take-suc}
 use Rattle.std.proofs.Math.ListN.{length-set}
-use Rattle.std.specs.List.{list_any}
-use Rattle.std.specs.Option.{option_or}
-use Rattle.std.proofs.lemmas.Bool.{eqb-true, cases_lt, cases_Bool}
-use Rattle.name_index.specs.FiniteSets.Lists.{In, Distinct}
-use Rattle.name_index.proofs.FiniteSets.Distincts.{length-distinct}
+use Rattle.std.proofs.lemmas.Bool.{cases_Bool}
 use Rattle.name_index.proofs.FiniteSets.Searches.{list_any-fails, list_any-passes}
-use Rattle.element_tree.specs.declared.faults.WalkFault.{WalkFault}
-use Rattle.element_tree.specs.declared.faults.WalkFault.TheVariants.{NoCell, Cycle}
-use Rattle.element_tree.specs.declared.walks.Mark.{Mark}
-use Rattle.element_tree.specs.declared.walks.Mark.TheVariants.{New, Open, Done}
-use Rattle.element_tree.specs.steps.Walks.{Graph, uses_of, fault_from, fault_below, walk_fault, IsDoneIn, IsClosed}
-use Rattle.element_tree.specs.steps.UnderWay.{fault_left, IsWaiting, IsOpen, uses_left, mark_of, IsUnderWay}
+use Rattle.element_tree.specs.steps.Walks.{fault_from, fault_below, walk_fault, IsDoneIn, IsClosed}
+use Rattle.element_tree.specs.steps.UnderWay.{fault_left, IsWaiting, IsOpen}
 
 -- ---- tests of a list
 

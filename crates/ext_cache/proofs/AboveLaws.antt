@@ -1,14 +1,9 @@
 -- The cells at and above a cell, as the tree has them and as they are seen.
-use Rattle.std.proofs.Common.{◌≡◌, ℕ, List, sym, subst}
+use Rattle.ext_cache.proofs.Common.{◌≡◌, ℕ, List, sym, subst, stay, go, IsAtOrBelow, IsAbove, children_in, LibraryParts, IsLawfulLibrary, seen}
 use Rattle.finite_sets.specs.Chain.{Chain}
-use Rattle.finite_sets.specs.Chain.Chain.{stay, go}
 use Rattle.finite_sets.proofs.Chains.{Chain-push}
-use Rattle.use_orders.specs.Uses.{IsAtOrBelow}
 use Rattle.tree_merges.specs.CellTree.Additions.{children_of}
-use Rattle.tree_merges.specs.CellTree.Cells.{IsAbove}
 use Rattle.tree_merges.proofs.CellTree.GraphLaws.{graph_uses, uses_graph}
-use Rattle.tree_merges.specs.CellLibrary.Additions.{children_in}
-use Rattle.tree_merges.specs.CellLibrary.Libraries.{LibraryParts, IsLawfulLibrary, seen}
 use Rattle.tree_merges.proofs.CellLibrary.AddedCells.{children_seen}
 
 -- a chain read backward, each step of which goes over to one of the other relation

@@ -1,9 +1,6 @@
 -- Records agree with a library after each edit of it.
-use Rattle.std.proofs.Common.{◌≡◌, [], ◌∷◌, ◌++◌, ◌∙◌, length, arith, length-append}
-use Rattle.std.proofs.lemmas.List.{get_or_append_left}
+use Rattle.ext_cache.proofs.Common.{◌≡◌, [], ◌∷◌, ◌++◌, ◌∙◌, length, arith, length-append, get_or_append_left, seen, no_cell, view_at}
 use Rattle.tree_merges.specs.CellLibrary.Edits.{empty_cell}
-use Rattle.tree_merges.specs.CellLibrary.Libraries.{seen}
-use Rattle.tree_merges.specs.CellLibrary.Views.{no_cell, view_at}
 use Rattle.tree_merges.proofs.CellLibrary.ViewLaws.{length-changed_at}
 use Rattle.ext_cache.specs.Laws.{AddedCellsKeepAgreement, EditsKeepAgreement, NewCellsKeepAgreement}
 use Rattle.ext_cache.proofs.ArrivalLaws.{agrees_all, agrees_cell, dirty_cell, dirty_cells}

@@ -1,15 +1,12 @@
 -- Records after cells came: those of the cells that were there stay as they are, and a cell that came has none.
-use Rattle.std.proofs.Common.{◌≡◌, ◌<◌, ◌≤◌, ℕ, List, [], ◌∷◌, ◌++◌, length, map, Option, Some, None, refl, sym, ap, ◌∙◌, arith, length-append}
-use Rattle.std.proofs.lemmas.List.{get_or_append_left}
-use Rattle.ext_model.specs.declared.tables.ExtEntry.{ExtEntry}
+use Rattle.ext_cache.proofs.Common.{◌≡◌, ◌<◌, ◌≤◌, ℕ, List, [], ◌∷◌, ◌++◌, length, map, Option, Some, None, refl, sym, ap, ◌∙◌, arith, length-append}
+use Rattle.ext_cache.proofs.Common.{get_or_append_left, ExtEntry, stamp_at, LibraryParts, IsLawfulLibrary, seen, no_cell, view_at, Agrees, Records}
+use Rattle.ext_cache.proofs.Common.{entry_in, is_dirty, is_stale, stamp_in}
 use Rattle.tree_merges.specs.CellLibrary.CellBodies.declared.bodies.CellBody.{CellBody}
-use Rattle.tree_merges.specs.CellTree.Trees.{stamp_at}
 use Rattle.tree_merges.specs.CellLibrary.Additions.{AreNextCells, kept_cell, names_with, with_all}
-use Rattle.tree_merges.specs.CellLibrary.Libraries.{LibraryParts, IsLawfulLibrary, IsNextCell, edits_of, seen}
-use Rattle.tree_merges.specs.CellLibrary.Views.{no_cell, view_at}
+use Rattle.tree_merges.specs.CellLibrary.Libraries.{IsNextCell, edits_of}
 use Rattle.tree_merges.proofs.CellLibrary.ViewLaws.{count_seen}
 use Rattle.tree_merges.proofs.ElementPaths.LibraryTrees.EditedTrees.{below_is_cell}
-use Rattle.ext_cache.specs.Caches.{Agrees, Records, entry_in, is_dirty, is_stale, stamp_in}
 use Rattle.ext_cache.proofs.RecordLaws.{StaysBelow, agrees_with}
 
 module _ (old new : LibraryParts) (records : Records) (more : List ℕ) (lawful : IsLawfulLibrary old)

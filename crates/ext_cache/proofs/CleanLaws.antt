@@ -1,17 +1,9 @@
 -- Where an extraction is done, its root is clean.
-use Rattle.std.proofs.Common.{◌≡◌, ℕ, inl, inr, List, [], ◌∷◌, refl, subst}
+use Rattle.ext_cache.proofs.Common.{◌≡◌, ℕ, inl, inr, List, [], ◌∷◌, refl, subst, In, stay, IsLibraryOrder, IsClean, children_in, tree_at}
+use Rattle.ext_cache.proofs.Common.{LibraryParts, seen, Extracted, Agrees, MakesRecords, Records, dirty_cells, is_dirty, stamp_in, with_record}
 use Rattle.std.specs.Prelude.{Bool, true, false}
-use Rattle.finite_sets.specs.Lists.{In}
-use Rattle.finite_sets.specs.Chain.Chain.{stay}
 use Rattle.finite_sets.proofs.Members.{In-filter}
-use Rattle.use_orders.specs.LibraryOrder.{IsLibraryOrder}
 use Rattle.use_orders.proofs.Visiting.{library_order-lists}
-use Rattle.hierarchy_model.specs.CleanCells.{IsClean}
-use Rattle.tree_merges.specs.CellLibrary.Additions.{children_in}
-use Rattle.tree_merges.specs.CellLibrary.LayoutTrees.{tree_at}
-use Rattle.tree_merges.specs.CellLibrary.Libraries.{LibraryParts, seen}
-use Rattle.ext_cache.specs.declared.extraction.Extracted.{Extracted}
-use Rattle.ext_cache.specs.Caches.{Agrees, MakesRecords, Records, dirty_cells, is_dirty, stamp_in, with_record}
 use Rattle.ext_cache.proofs.RecordLaws.{kept_clean}
 
 module _ (library : LibraryParts) where

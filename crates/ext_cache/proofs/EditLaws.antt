@@ -1,14 +1,10 @@
 -- Records after an edit of a cell: the cell and those above it are dirty, and the others are as before.
-use Rattle.std.proofs.Common.{◌≡◌, ◌≤◌, ℕ, true, length, Some, ap, inl, inr, arith}
+use Rattle.ext_cache.proofs.Common.{◌≡◌, ◌≤◌, ℕ, true, length, Some, ap, inl, inr, arith, IsAtOrBelow, ExtEntry, IsAbove, children_in, LibraryParts}
+use Rattle.ext_cache.proofs.Common.{IsLawfulLibrary, seen, CellView, Agrees, Records, entry_in, is_dirty, is_stale, stamp_in}
 use Rattle.std.proofs.lemmas.Bool.{cases_lt}
-use Rattle.use_orders.specs.Uses.{IsAtOrBelow}
-use Rattle.ext_model.specs.declared.tables.ExtEntry.{ExtEntry}
-use Rattle.tree_merges.specs.CellTree.Cells.{IsAbove}
-use Rattle.tree_merges.specs.CellLibrary.Additions.{children_in}
-use Rattle.tree_merges.specs.CellLibrary.Libraries.{LibraryParts, IsLawfulLibrary, IsNextEdit, seen}
-use Rattle.tree_merges.specs.CellLibrary.Views.{CellView, with_cell_changed}
+use Rattle.tree_merges.specs.CellLibrary.Libraries.{IsNextEdit}
+use Rattle.tree_merges.specs.CellLibrary.Views.{with_cell_changed}
 use Rattle.tree_merges.proofs.ElementPaths.LibraryTrees.StampedTrees.{stamps_keep_views}
-use Rattle.ext_cache.specs.Caches.{Agrees, Records, entry_in, is_dirty, is_stale, stamp_in}
 use Rattle.ext_cache.proofs.AboveLaws.{above_leads_down, leads_down_from_above}
 use Rattle.ext_cache.proofs.RecordLaws.{agrees_with, stale_if}
 

@@ -1,21 +1,10 @@
 -- Records that were lent and are taken back.
-use Rattle.std.proofs.Common.{◌≡◌, ◌<◌, ◌+◌, ◌==◌, ℕ, Bool, cond, List, [], ◌∷◌, ◌++◌, get_or, length, map, take}
-use Rattle.std.proofs.Common.{Option, Some, inl, inr, refl, sym, ap, subst, ◌∙◌}
-use Rattle.std.specs.Prelude.{IsSome, is_some, option_map}
-use Rattle.std.specs.Cmp.{unsigned_tied}
+use Rattle.ext_cache.proofs.Common.{◌≡◌, ◌<◌, ◌+◌, ◌==◌, ℕ, Bool, cond, List, [], ◌∷◌, ◌++◌, get_or, length, map, take, Option, Some, inl, inr, refl}
+use Rattle.ext_cache.proofs.Common.{sym, ap, subst, ◌∙◌, IsSome, is_some, option_map, unsigned_tied, eqb_tells, nat_cmp_total, Distinct, In}
+use Rattle.ext_cache.proofs.Common.{map-same, ArrayExt, CellKey, ExtEntry, LentNote, Records, entry_in, record_in, AreLent, with_entry}
 use Rattle.std.specs.FinMap as fin_map
-use Rattle.std.proofs.lemmas.Bool.Decides.{eqb_tells}
-use Rattle.std.proofs.lemmas.Cmp.{nat_cmp_total}
 use Rattle.std.proofs.lemmas.List.{map-append, take_more}
-use Rattle.finite_sets.specs.Lists.{Distinct, In}
-use Rattle.finite_sets.proofs.Images.{map-same}
-use Rattle.ext_model.specs.declared.arrays.ArrayExt.{ArrayExt}
-use Rattle.ext_model.specs.declared.tables.CellKey.{CellKey}
-use Rattle.ext_model.specs.declared.tables.ExtEntry.{ExtEntry}
-use Rattle.ext_cache.specs.declared.lending.LentNote.{LentNote}
-use Rattle.ext_cache.specs.Caches.{Records, entry_in, record_in}
-use Rattle.ext_cache.specs.Lending.{AreLent, LendsOne, entry_with, replaced}
-use Rattle.ext_cache.specs.steps.Undoing.{with_entry}
+use Rattle.ext_cache.specs.Lending.{LendsOne, entry_with, replaced}
 use Rattle.ext_cache.proofs.UndoingLaws.{put_back_same}
 
 -- the numbers of the cells of lent records

@@ -5,6 +5,7 @@ mod AboveLaws
 mod AgreementLaws
 pub mod ArrivalLaws
 mod CleanLaws
+mod Common
 pub mod EditLaws
 mod LendingLaws
 mod LoopLaws

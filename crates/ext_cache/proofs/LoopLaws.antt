@@ -1,26 +1,15 @@
 -- What an extraction has made at a place of the order, and how it goes on with the cell there.
-use Rattle.std.proofs.Common.{◌≡◌, ◌⊎◌, ◌<◌, ◌≤◌, ◌+◌, ◌*◌, ◌∙◌, ℕ, Bool, true, false, cond, List, [], ◌∷◌, ◌++◌, length, take, drop, get_or}
-use Rattle.std.proofs.Common.{append-nil, inl, inr, refl, sym, ap, subst, true≢false}
-use Rattle.std.specs.Prelude.{All}
+use Rattle.ext_cache.proofs.Common.{◌≡◌, ◌⊎◌, ◌<◌, ◌≤◌, ◌+◌, ◌*◌, ◌∙◌, ℕ, Bool, true, false, cond, List, [], ◌∷◌, ◌++◌, length, take, get_or, inl}
+use Rattle.ext_cache.proofs.Common.{inr, refl, sym, ap, subst, All, Distinct, In, ArrayExt, AreUnattached, AreBehindChildren, UsesCell, children_in}
+use Rattle.ext_cache.proofs.Common.{LibraryParts, seen, view_at, IsWork, IsCleanCell, HaveKeptRecordsBelow, IsBelow, Extracted, Undo, Agrees}
+use Rattle.ext_cache.proofs.Common.{IsRecordNow, IsWorkOfAll, MakesRecords, Records, dirty_cells, entry_in, is_dirty, is_stale, record_in, stamp_in}
+use Rattle.ext_cache.proofs.Common.{with_record, IsLogOf, undo_of}
+use Rattle.std.proofs.Common.{drop}
+use Rattle.std.proofs.Common.{append-nil, true≢false}
 use Rattle.std.proofs.lemmas.List.{drop_more, take-append-drop}
 use Rattle.std.proofs.lemmas.List.Elements.{All-more, filter-append, filter_more}
-use Rattle.finite_sets.specs.Lists.{Distinct, In}
 use Rattle.finite_sets.proofs.Distincts.{Distinct-places}
 use Rattle.finite_sets.proofs.Members.{In-filter, In-filter_passes, In-filter_source}
-use Rattle.ext_model.specs.declared.arrays.ArrayExt.{ArrayExt}
-use Rattle.tree_merges.specs.Names.Attachments.{AreUnattached}
-use Rattle.use_orders.specs.Uses.{AreBehindChildren, UsesCell}
-use Rattle.tree_merges.specs.CellLibrary.Additions.{children_in}
-use Rattle.tree_merges.specs.CellLibrary.Libraries.{LibraryParts, seen}
-use Rattle.tree_merges.specs.CellLibrary.Views.{view_at}
-use Rattle.tree_merges.specs.HierMerge.Interactions.{IsWork}
-use Rattle.tree_merges.specs.HierMerge.UncleanCells.{IsCleanCell}
-use Rattle.tree_merges.specs.ElementPaths.LibraryTrees.KeptRecords.{HaveKeptRecordsBelow, IsBelow}
-use Rattle.ext_cache.specs.declared.extraction.Extracted.{Extracted}
-use Rattle.ext_cache.specs.declared.undo.Undo.{Undo}
-use Rattle.ext_cache.specs.Caches.{Agrees, IsRecordNow, IsWorkOfAll, MakesRecords, Records, dirty_cells, entry_in, is_dirty}
-use Rattle.ext_cache.specs.Caches.{is_stale, record_in, stamp_in, with_record}
-use Rattle.ext_cache.specs.steps.Undoing.{IsLogOf, undo_of}
 use Rattle.ext_cache.proofs.MakingLaws.{clean_making, dirty_unmade, makes_more}
 use Rattle.ext_cache.proofs.OrderLaws.{below_is_before, place_of}
 use Rattle.ext_cache.proofs.RecordLaws.{agrees_made, kept_clean}

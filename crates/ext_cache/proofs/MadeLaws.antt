@@ -1,21 +1,16 @@
 -- A record that is put together of a cell's own paint, its uses and its merges is the cell's.
-use Rattle.std.proofs.Common.{◌≡◌, ◌==◌, ◌∙◌, ℕ, ◌<◌, Bool, true, List, [], ◌∷◌, length, refl, sym, ap, subst, arith}
+use Rattle.ext_cache.proofs.Common.{◌≡◌, ◌==◌, ◌∙◌, ℕ, ◌<◌, Bool, true, List, [], ◌∷◌, length, refl, sym, ap, subst, arith, nat_tests, RawTech}
+use Rattle.ext_cache.proofs.Common.{IsOwnRecord, IsLawfulLibrary, LibraryParts, seen, LibraryView, view_at, IsCleanCell, MadeRecord, IsRecordNow}
 use Rattle.std.specs.List.{flat_map}
-use Rattle.std.proofs.lemmas.Bool.Decides.{nat_tests}
 use Rattle.geo_core.specs.declared.squares.Rect.{Rect}
 use Rattle.tech_model.specs.declared.raw.Label.{Label}
-use Rattle.tech_model.specs.declared.raw.RawTech.{RawTech}
 use Rattle.tree_merges.specs.LayoutModel.Layouts.{Layout}
-use Rattle.cell_records.specs.TreeRecords.OwnRecords.{IsOwnRecord}
 use Rattle.cell_records.specs.TreeRecords.FetRecords.{AreFetRecords, IsNodeBefore}
 use Rattle.cell_records.specs.CellNodes.NodeRecords.{AreNodeRecords}
 use Rattle.tree_merges.specs.TreeRecords.NamedTrees.{OwnBody, named_elements_in, own_body}
 use Rattle.tree_merges.specs.TreeRecords.Merges.{AreGroupMerges}
 use Rattle.tree_merges.specs.TreeRecords.TreeRecords.{use_records}
-use Rattle.tree_merges.specs.CellLibrary.Libraries.{IsLawfulLibrary, LibraryParts, seen}
-use Rattle.tree_merges.specs.CellLibrary.Views.{LibraryView, view_at}
 use Rattle.tree_merges.specs.ElementPaths.LibraryTrees.NamedCells.{named_tree_at, own_body_of}
-use Rattle.tree_merges.specs.HierMerge.UncleanCells.{IsCleanCell}
 use Rattle.lawful_trees.specs.Laws.{RecordIsLawful}
 use Rattle.ext_model.specs.declared.records.CellExt.{CellExt}
 use Rattle.ext_model.specs.declared.records.MergeRec.{MergeRec}
@@ -26,8 +21,6 @@ use Rattle.tree_merges.proofs.ElementPaths.RecordLaws.{uses_are_elements}
 use Rattle.cell_records.specs.declared.records.CellRecord.{CellRecord}
 use Rattle.tree_merges.specs.declared.relating.Related.{Related}
 use Rattle.tree_merges.proofs.CellMerges.{body_at}
-use Rattle.ext_cache.specs.declared.extraction.MadeRecord.{MadeRecord}
-use Rattle.ext_cache.specs.Caches.{IsRecordNow}
 use Rattle.ext_cache.specs.steps.MadeRecords.{IsMadeOf}
 
 -- an own record stays one, along equations

@@ -1,14 +1,7 @@
 -- Records that are made one after another, and which cells are dirty then.
-use Rattle.std.proofs.Common.{◌≡◌, ◌⊎◌, ◌<◌, ℕ, false, List, [], ◌∷◌, ◌++◌, length, Option, inl, inr, refl, sym, ap, subst, ◌∙◌}
-use Rattle.std.proofs.lemmas.Bool.Decides.{eqb_tells}
-use Rattle.finite_sets.specs.Lists.{In}
-use Rattle.ext_model.specs.declared.arrays.ArrayExt.{ArrayExt}
-use Rattle.ext_model.specs.declared.tables.ExtEntry.{ExtEntry}
-use Rattle.tree_merges.specs.Names.Attachments.{AreUnattached}
-use Rattle.tree_merges.specs.CellLibrary.Libraries.{LibraryParts, seen}
-use Rattle.tree_merges.specs.CellLibrary.Views.{view_at}
-use Rattle.ext_cache.specs.declared.extraction.Extracted.{Extracted}
-use Rattle.ext_cache.specs.Caches.{Agrees, IsRecordNow, MakesRecords, Records, entry_in, is_dirty, is_stale, stamp_in, with_record}
+use Rattle.ext_cache.proofs.Common.{◌≡◌, ◌⊎◌, ◌<◌, ℕ, false, List, [], ◌∷◌, ◌++◌, length, Option, inl, inr, refl, sym, ap, subst, ◌∙◌, eqb_tells, In}
+use Rattle.ext_cache.proofs.Common.{ArrayExt, ExtEntry, AreUnattached, LibraryParts, seen, view_at, Extracted, Agrees, IsRecordNow, MakesRecords}
+use Rattle.ext_cache.proofs.Common.{Records, entry_in, is_dirty, is_stale, stamp_in, with_record}
 use Rattle.ext_cache.proofs.RecordLaws.{agrees_made, clean_made, found_there}
 
 -- the cell is listed, or it is none of the list

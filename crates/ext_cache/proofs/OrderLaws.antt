@@ -1,18 +1,10 @@
 -- Library orders: what stands below a cell is listed before it.
-use Rattle.std.proofs.Common.{◌≡◌, ◌<◌, ◌∙◌, ℕ, sym, subst, arith}
-use Rattle.std.proofs.Common.{List, length, take, get_or}
+use Rattle.ext_cache.proofs.Common.{◌≡◌, ◌<◌, ◌∙◌, ℕ, sym, subst, arith, List, length, take, get_or, stay, go, In, AreBehindChildren, UsesCell}
+use Rattle.ext_cache.proofs.Common.{HasChild, children_in, LibraryParts, seen, LibraryView, view_at, IsBelow}
 use Rattle.std.proofs.lemmas.List.{get_or-take, length-take-le}
-use Rattle.finite_sets.specs.Chain.Chain.{stay, go}
-use Rattle.finite_sets.specs.Lists.{In}
 use Rattle.finite_sets.proofs.Members.{In-get_or, In-index}
-use Rattle.use_orders.specs.Uses.{AreBehindChildren, UsesCell}
-use Rattle.tree_merges.specs.CellTree.Uses.{HasChild}
-use Rattle.tree_merges.specs.CellLibrary.Additions.{children_in}
-use Rattle.tree_merges.specs.CellLibrary.Libraries.{LibraryParts, seen}
-use Rattle.tree_merges.specs.CellLibrary.Views.{LibraryView, view_at}
 use Rattle.tree_merges.proofs.CellLibrary.ChildLaws.{child_used}
 use Rattle.tree_merges.specs.ElementPaths.LibraryTrees.NamedCells.{IsAtOrBelow as IsSeenAtOrBelow}
-use Rattle.tree_merges.specs.ElementPaths.LibraryTrees.KeptRecords.{IsBelow}
 
 -- ---- what stands below
 

@@ -1,39 +1,27 @@
 -- Records that are kept, one more of them, and which cells are dirty then.
-use Rattle.std.proofs.Common.{◌≡◌, ◌≢◌, ◌⊎◌, ◌<◌, ◌≤◌, ◌==◌, not, ℕ, Bool, true, false, cond, length, map, Option, Some, None}
-use Rattle.std.proofs.Common.{refl, sym, ap, subst, ◌∙◌, inl, inr, arith}
-use Rattle.std.specs.Prelude.{nat_lt, option_map, suc}
-use Rattle.std.specs.Cmp.{unsigned_tied}
+use Rattle.ext_cache.proofs.Common.{◌≡◌, ◌⊎◌, ◌<◌, ◌≤◌, ◌==◌, ℕ, Bool, true, false, cond, length, map, Option, Some, None, refl, sym, ap, subst, ◌∙◌}
+use Rattle.ext_cache.proofs.Common.{inl, inr, arith, option_map, unsigned_tied, nat_cmp, eqb_tells, nat_tests, nat_cmp_total, ArrayExt, ExtEntry}
+use Rattle.ext_cache.proofs.Common.{RawTech, IsClean, tree_at, stay, go, map-same, stamp_at, HasChild, LibraryParts, seen, CellView, LibraryView}
+use Rattle.ext_cache.proofs.Common.{view_at, Agrees, IsRecordNow, Records, entry_in, is_dirty, is_stale, record_in, stamp_in, with_record}
+use Rattle.std.proofs.Common.{◌≢◌, not}
+use Rattle.std.specs.Prelude.{nat_lt, suc}
 use Rattle.std.specs.FinMap as fin_map
-use Rattle.std.specs.Ordering.{nat_cmp}
 use Rattle.std.proofs.lemmas.Bool.{cases_lt, eq-eqb, ne_eqb}
-use Rattle.std.proofs.lemmas.Bool.Decides.{eqb_tells, nat_tests}
-use Rattle.std.proofs.lemmas.Cmp.{nat_cmp_total}
-use Rattle.ext_model.specs.declared.arrays.ArrayExt.{ArrayExt}
-use Rattle.ext_model.specs.declared.tables.ExtEntry.{ExtEntry}
-use Rattle.tech_model.specs.declared.raw.RawTech.{RawTech}
 use Rattle.tree_merges.specs.LayoutModel.CellTrees.{CellTree}
-use Rattle.hierarchy_model.specs.CleanCells.{IsClean}
-use Rattle.tree_merges.specs.CellLibrary.LayoutTrees.{tree_at}
 use Rattle.tree_merges.specs.TreeRecords.NamedTrees.{NamedTree, layouts_of}
 use Rattle.tree_merges.specs.TreeRecords.TreeRecords.{IsTreeRecord}
 use Rattle.tree_merges.specs.ElementPaths.LibraryTrees.NamedCells.{IsAtOrBelow, named_tree_at}
 use Rattle.tree_merges.proofs.ElementPaths.LibraryTrees.AgreeingViews.{agreeing_views}
 use Rattle.tree_merges.proofs.ElementPaths.LibraryTrees.LayoutLaws.{layouts_of_cell}
-use Rattle.finite_sets.specs.Chain.Chain.{stay, go}
-use Rattle.finite_sets.proofs.Images.{map-same}
 use Rattle.finite_sets.proofs.Places.{slice_get-In}
 use Rattle.geo_core.specs.Images.{six_of}
 use Rattle.ext_model.specs.declared.arrays.ArrayUse.{ArrayUse}
 use Rattle.ext_model.specs.Plain.{plain}
 use Rattle.tree_merges.specs.ElementPaths.LibraryTrees.CellRecords.{library_use, library_uses}
-use Rattle.tree_merges.specs.CellTree.Trees.{stamp_at}
-use Rattle.tree_merges.specs.CellTree.Uses.{HasChild}
-use Rattle.tree_merges.specs.CellLibrary.Libraries.{LibraryParts, IsSame, seen}
-use Rattle.tree_merges.specs.CellLibrary.Views.{CellView, LibraryView, view_at}
+use Rattle.tree_merges.specs.CellLibrary.Libraries.{IsSame}
 use Rattle.tree_merges.proofs.CellLibrary.ViewLaws.{count_seen}
 use Rattle.ext_cache.specs.declared.limits.TheConstants.{LAST_SERIAL}
-use Rattle.ext_cache.specs.Caches.{Agrees, IsRecordNow, Records, entry_in, is_dirty, is_stale, next_serial, no_records}
-use Rattle.ext_cache.specs.Caches.{record_in, stamp_in, with_record}
+use Rattle.ext_cache.specs.Caches.{next_serial, no_records}
 
 -- ---- without records
 

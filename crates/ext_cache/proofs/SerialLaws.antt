@@ -1,15 +1,13 @@
 -- Records that are made one after another: how far they are counted, and which serials they have.
-use Rattle.std.proofs.Common.{◌≡◌, ◌⊎◌, ◌<◌, ◌+◌, ℕ, suc, List, [], ◌∷◌, length, map, Some, inl, inr, sym, ap, ◌∙◌, arith}
+use Rattle.ext_cache.proofs.Common.{◌≡◌, ◌⊎◌, ◌<◌, ◌+◌, ℕ, List, [], ◌∷◌, length, map, Some, inl, inr, sym, ap, ◌∙◌, arith, option_map, Distinct}
+use Rattle.ext_cache.proofs.Common.{ArrayExt, ExtEntry, LibraryParts, Extracted, MakesRecords, Records, dirty_cells, entry_in, is_dirty, stamp_in}
+use Rattle.ext_cache.proofs.Common.{with_record}
+use Rattle.std.proofs.Common.{suc}
 use Rattle.std.specs.List.{range_with_len}
-use Rattle.std.specs.Prelude.{Option, option_map}
-use Rattle.finite_sets.specs.Lists.{Distinct}
+use Rattle.std.specs.Prelude.{Option}
 use Rattle.finite_sets.proofs.Distincts.{Distinct-filter}
-use Rattle.ext_model.specs.declared.arrays.ArrayExt.{ArrayExt}
-use Rattle.ext_model.specs.declared.tables.ExtEntry.{ExtEntry}
-use Rattle.tree_merges.specs.CellLibrary.Libraries.{LibraryParts}
-use Rattle.ext_cache.specs.declared.extraction.Extracted.{Extracted}
-use Rattle.ext_cache.specs.Caches.{Extracts, HasNewSerials, HasSerialsFor, IsCounted, MakesRecords, Records, dirty_cells, entry_in, is_dirty}
-use Rattle.ext_cache.specs.Caches.{next_serial, serial_in, stamp_in, with_record}
+use Rattle.ext_cache.specs.Caches.{Extracts, HasNewSerials, HasSerialsFor, IsCounted}
+use Rattle.ext_cache.specs.Caches.{next_serial, serial_in}
 use Rattle.ext_cache.proofs.MakingLaws.{kept_unmade}
 use Rattle.ext_cache.proofs.RecordLaws.{found_as, found_here, serial_rises}
 

@@ -1,7 +1,7 @@
 -- Why an extraction is refused: by one cell, and by an order.
-use Rattle.std.proofs.Common.{◌≡◌, ℕ, List, Result, Ok, Err, IfErr, IsErrAnd, sym, subst}
-use Rattle.tree_merges.specs.CellLibrary.Views.{LibraryView}
-use Rattle.tree_merges.specs.HierMerge.UncleanCells.{AreOffendingOf, IsCleanCell, IsFirstUnclean}
+use Rattle.ext_cache.proofs.Common.{◌≡◌, ℕ, List, sym, subst, LibraryView, IsCleanCell}
+use Rattle.std.proofs.Common.{Result, Ok, Err, IfErr, IsErrAnd}
+use Rattle.tree_merges.specs.HierMerge.UncleanCells.{AreOffendingOf, IsFirstUnclean}
 use Rattle.ext_cache.specs.declared.faults.ExtractFault.{ExtractFault}
 use Rattle.ext_cache.specs.declared.faults.ExtractFault.TheVariants.{Memory, Unclean}
 use Rattle.ext_cache.specs.Refusals.{IsUncleanCell, IsUncleanIn}

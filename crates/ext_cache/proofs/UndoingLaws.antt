@@ -1,16 +1,9 @@
 -- New records that are put back: the records are then what they were.
-use Rattle.std.proofs.Common.{◌≡◌, ◌==◌, ℕ, Bool, cond, List, [], ◌∷◌, ◌++◌, Option, Some, None, inl, inr, refl, sym, ap, subst, ◌∙◌}
-use Rattle.std.specs.Prelude.{IsSome, is_some}
-use Rattle.std.specs.Cmp.{unsigned_tied}
+use Rattle.ext_cache.proofs.Common.{◌≡◌, ◌==◌, ℕ, Bool, cond, List, [], ◌∷◌, ◌++◌, Option, Some, None, inl, inr, refl, sym, ap, subst, ◌∙◌, IsSome}
+use Rattle.ext_cache.proofs.Common.{is_some, unsigned_tied, nat_cmp, eqb_tells, nat_cmp_total, ArrayExt, ExtEntry, Undo, Records, entry_in}
+use Rattle.ext_cache.proofs.Common.{with_record, IsLogOf, undo_of, with_entry}
 use Rattle.std.specs.FinMap as fin_map
-use Rattle.std.specs.Ordering.{nat_cmp}
-use Rattle.std.proofs.lemmas.Bool.Decides.{eqb_tells}
-use Rattle.std.proofs.lemmas.Cmp.{nat_cmp_total}
-use Rattle.ext_model.specs.declared.arrays.ArrayExt.{ArrayExt}
-use Rattle.ext_model.specs.declared.tables.ExtEntry.{ExtEntry}
-use Rattle.ext_cache.specs.declared.undo.Undo.{Undo}
-use Rattle.ext_cache.specs.Caches.{Records, entry_in, with_record}
-use Rattle.ext_cache.specs.steps.Undoing.{IsLogOf, undo_of, undone, with_entry}
+use Rattle.ext_cache.specs.steps.Undoing.{undone}
 use Rattle.ext_cache.proofs.RecordLaws.{found_here}
 
 -- the entries after one is put back

@@ -1,8 +1,5 @@
 -- The work of several cells.
-use Rattle.std.proofs.Common.{◌≡◌, ◌≤◌, ◌+◌, ◌*◌, ℕ, List, [], ◌∷◌, ◌++◌, refl, arith}
-use Rattle.tree_merges.specs.CellLibrary.Views.{LibraryView}
-use Rattle.tree_merges.specs.HierMerge.Interactions.{IsWork}
-use Rattle.ext_cache.specs.Caches.{IsWorkOfAll}
+use Rattle.ext_cache.proofs.Common.{◌≡◌, ◌≤◌, ◌+◌, ◌*◌, ℕ, List, [], ◌∷◌, ◌++◌, refl, arith, LibraryView, IsWork, IsWorkOfAll}
 
 -- The work of the first cells, and that of the others.
 pub record WorkSplits (view : LibraryView) (first rest : List ℕ) (work : ℕ) : Type 0 where

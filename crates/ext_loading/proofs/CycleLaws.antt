@@ -1,12 +1,11 @@
 -- Where no cell of a tree stands below itself, no use leads back.
-use Rattle.std.proofs.Common.{◌≡◌, ℕ, zero, suc, Bool, true, false, true≢false, List, [], ◌∷◌, length, inl, inr, refl, sym, ap, ◌∙◌, subst, arith}
-use Rattle.std.specs.Prelude.{Option, Some, None, if◌then◌else◌}
-use Rattle.std.specs.Str.{bytes_eq}
-use Rattle.std.proofs.lemmas.Slice.Eq.{bytes_eq-Decides}
+use Rattle.ext_loading.proofs.Common.{◌≡◌, ℕ, true, false, List, [], ◌∷◌, inl, inr, refl, sym, ap, ◌∙◌, subst, arith, Option, None, bytes_eq}
+use Rattle.ext_loading.proofs.Common.{bytes_eq-Decides, In, In-map, In-map_source, ArrayExt, ArrayUse, cells_read, CanBeFlattened, children_in}
+use Rattle.ext_loading.proofs.Common.{cells_used, IsTree}
+use Rattle.std.proofs.Common.{zero, suc, Bool, true≢false, length}
+use Rattle.std.specs.Prelude.{Some, if◌then◌else◌}
 use Rattle.finite_sets.specs.Chain.{Chain}
-use Rattle.finite_sets.specs.Lists.{In}
 use Rattle.finite_sets.proofs.Chains.{Chain-map, Chain-one, Chain-push, Chain-same}
-use Rattle.finite_sets.proofs.Members.{In-map, In-map_source}
 use Rattle.finite_sets.proofs.Searches.{find-In, find-none, find-passes, In-from_list_any}
 use Rattle.finite_sets.proofs.Firsts.{first_some-none}
 use Rattle.finite_sets.proofs.Images.{In-flat_map_source}
@@ -14,8 +13,6 @@ use Rattle.use_orders.specs.NewCells.{IsOwnDescendant}
 use Rattle.use_orders.specs.Uses.{used_by, UsesNewCell}
 use Rattle.ext_model.specs.declared.records.UseRec.{UseRec}
 use Rattle.ext_model.specs.declared.records.CellExt.{CellExt}
-use Rattle.ext_model.specs.declared.arrays.ArrayExt.{ArrayExt}
-use Rattle.ext_model.specs.declared.arrays.ArrayUse.{ArrayUse}
 use Rattle.ext_model.specs.Plain.{plain, plain_uses}
 use Rattle.plain_records.specs.CircuitModel.declared.faults.FlatFault.{FlatFault}
 use Rattle.plain_records.specs.CircuitModel.declared.faults.FlatFault.TheVariants.{NoCell, Cycle}
@@ -24,10 +21,6 @@ use Rattle.plain_records.specs.CircuitModel.FlatNodes.{is_among}
 use Rattle.plain_records.specs.CircuitModel.Refusals.{use_fault}
 use Rattle.plain_records.specs.Plains.{plains}
 use Rattle.plain_records.proofs.UseLaws.{uses_cell}
-use Rattle.ext_loading.specs.ExtFiles.{cells_read}
-use Rattle.ext_loading.specs.Loads.{CanBeFlattened, children_in}
-use Rattle.ext_loading.specs.Readings.{cells_used}
-use Rattle.ext_loading.specs.steps.Trees.{IsTree}
 use Rattle.ext_loading.proofs.Positions.{position_in, uses_by_position}
 
 -- a record of this cell

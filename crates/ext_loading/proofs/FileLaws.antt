@@ -1,22 +1,19 @@
 -- What a circuit file gives rests on that file alone, and so does what a tree of them comes to.
-use Rattle.std.proofs.Common.{◌≡◌, ℕ, Bool, true, false, List, Option, inl, inr, sym, ap, subst}
-use Rattle.std.specs.Prelude.{nat_le, if◌then◌else◌, length, Result, Ok, Err}
+use Rattle.ext_loading.proofs.Common.{◌≡◌, ℕ, true, false, List, inl, inr, sym, ap, subst, Err, Files, All, ArrayExt, ExtLoadFault, AreRead}
+use Rattle.ext_loading.proofs.Common.{LoadIsRefused, circuit_files}
+use Rattle.std.proofs.Common.{Bool, Option}
+use Rattle.std.specs.Prelude.{nat_le, if◌then◌else◌, length, Result, Ok}
 use Rattle.text_form.specs.declared.reading.At.{At}
-use Rattle.outside_io.specs.Files.{Files}
 use Rattle.session_model.specs.declared.fetching.FetchFault.{FetchFault}
 use Rattle.session_model.specs.Fetches.{AgreeOn, if_short, text_in}
-use Rattle.session_model.specs.FileTrees.{All, GivesByFile, fetched_by}
+use Rattle.session_model.specs.FileTrees.{GivesByFile, fetched_by}
 use Rattle.session_model.proofs.FileTreeLaws.{file_refused_rests, rests_on_fetched}
-use Rattle.ext_model.specs.declared.arrays.ArrayExt.{ArrayExt}
 use Rattle.ext_reading.specs.declared.faults.ExtReadFault.{ExtReadFault}
 use Rattle.ext_reading.specs.Drafts.{Draft}
 use Rattle.ext_reading.specs.ExtTexts.{draft_in, record_of}
-use Rattle.ext_loading.specs.declared.faults.ExtLoadFault.{ExtLoadFault}
 use Rattle.ext_loading.specs.declared.faults.ExtLoadFault.TheVariants.{TooManyCells}
 use Rattle.ext_loading.specs.declared.limits.TheConstants.{MOST_READ_CELLS}
 use Rattle.ext_loading.specs.ExtFiles.{ext_file, file_gives, read_gives, text_gives}
-use Rattle.ext_loading.specs.Loads.{AreRead, LoadIsRefused}
-use Rattle.ext_loading.specs.Readings.{circuit_files}
 use Rattle.text_form.specs.SaidLines.{and_then}
 
 -- what is given where there is room is the record that was read

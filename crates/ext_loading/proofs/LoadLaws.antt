@@ -1,18 +1,10 @@
 -- What is given at the end.
-use Rattle.std.proofs.Common.{ℕ, List, [], ◌∷◌, inl, inr, refl, sym, ap, subst}
-use Rattle.std.specs.Prelude.{Option}
-use Rattle.outside_io.specs.Files.{Files}
-use Rattle.outside_io.specs.CallPlans.{CallPlan}
-use Rattle.session_model.specs.Effects.{GivesFetching}
-use Rattle.session_model.specs.FileTrees.{All, Reads, StopsAsking, files_of}
+use Rattle.ext_loading.proofs.Common.{ℕ, List, [], ◌∷◌, inl, inr, refl, sym, ap, subst, Option, Files, CallPlan, GivesFetching, All, Reads}
+use Rattle.ext_loading.proofs.Common.{StopsAsking, files_of, ArrayExt, ExtLoadFault, AreRead, CanBeFlattened, IsFitTree, LoadGives, LoadIsRefused}
+use Rattle.ext_loading.proofs.Common.{circuit_files, GivesTree, IsTree}
 use Rattle.session_model.proofs.FileTreeLaws.{file_refused_asking}
-use Rattle.ext_model.specs.declared.arrays.ArrayExt.{ArrayExt}
-use Rattle.ext_loading.specs.declared.faults.ExtLoadFault.{ExtLoadFault}
 use Rattle.ext_loading.specs.declared.loading.LoadedExts.{LoadedExts}
 use Rattle.ext_loading.specs.declared.loading.LoadedExts.TheVariants as loaded
-use Rattle.ext_loading.specs.Loads.{AreRead, CanBeFlattened, IsFitTree, LoadGives, LoadIsRefused}
-use Rattle.ext_loading.specs.Readings.{circuit_files}
-use Rattle.ext_loading.specs.steps.Trees.{GivesTree, IsTree}
 use Rattle.ext_loading.proofs.CycleLaws.{may_be_flattened}
 
 -- what is given of a tree that was read is what the files say

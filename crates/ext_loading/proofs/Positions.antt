@@ -1,23 +1,18 @@
 -- The positions of records by the names of their cells, and the graph that they make.
-use Rattle.std.proofs.Common.{◌≡◌, ◌<◌, ℕ, Bool, true, false, List, [], length, get_or, refl, sym, ap, ◌∙◌, subst, arith, true≢false}
+use Rattle.ext_loading.proofs.Common.{◌≡◌, ℕ, true, false, List, [], get_or, refl, sym, ap, ◌∙◌, subst, arith, list_any, position_or_len, bytes_eq}
+use Rattle.ext_loading.proofs.Common.{bytes_eq-Decides, In, Distinct, In-map, In-map_source, ArrayExt, ArrayUse, cells_read, children_in, cells_used}
+use Rattle.std.proofs.Common.{◌<◌, Bool, length, true≢false}
 use Rattle.std.specs.Prelude.{nat_lt, slice_index}
-use Rattle.std.specs.List.{list_any, position, position_or_len}
-use Rattle.std.specs.Str.{bytes_eq}
+use Rattle.std.specs.List.{position}
 use Rattle.std.proofs.lemmas.Bool.{ltb-false, ltb-true}
 use Rattle.std.proofs.lemmas.List.{length-map, get_or-map, get_or_past}
 use Rattle.std.proofs.lemmas.List.Sums.{position_or_len_is}
-use Rattle.std.proofs.lemmas.Slice.Eq.{bytes_eq-Decides}
-use Rattle.finite_sets.specs.Lists.{In, Distinct}
 use Rattle.finite_sets.proofs.Distincts.{Distinct-places}
-use Rattle.finite_sets.proofs.Members.{In-get_or, In-index, In-map, In-map_source}
+use Rattle.finite_sets.proofs.Members.{In-get_or, In-index}
 use Rattle.finite_sets.proofs.Searches.{list_any-In}
 use Rattle.use_orders.specs.Uses.{used_by, AreCells}
-use Rattle.ext_model.specs.declared.arrays.ArrayExt.{ArrayExt}
-use Rattle.ext_model.specs.declared.arrays.ArrayUse.{ArrayUse}
 use Rattle.ext_reading.proofs.NameLaws.{place_found}
-use Rattle.ext_loading.specs.ExtFiles.{cells_read}
-use Rattle.ext_loading.specs.Loads.{children_in, positions_used}
-use Rattle.ext_loading.specs.Readings.{cells_used}
+use Rattle.ext_loading.specs.Loads.{positions_used}
 
 -- the position of the record of a cell
 abbrev pub position_in : List ArrayExt → List ℕ → ℕ

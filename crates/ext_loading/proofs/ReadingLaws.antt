@@ -1,22 +1,17 @@
 -- How reading goes on, by a name that is taken: where the files are told, and whatever they are.
-use Rattle.std.proofs.Common.{◌≡◌, ℕ, true, false, List, [], ◌∷◌, ◌++◌, inl, inr, refl, sym, ap, ◌∙◌, subst, append-nil}
-use Rattle.std.specs.Prelude.{map, reverse, All, Ok}
+use Rattle.ext_loading.proofs.Common.{◌≡◌, ℕ, true, false, List, [], ◌∷◌, ◌++◌, inl, inr, refl, sym, ap, ◌∙◌, subst, reverse, bytes_eq-Decides}
+use Rattle.ext_loading.proofs.Common.{bytes_eq, In, Distinct, Files, GoesOn, Reads, ArrayExt, cells_read, cells_used, circuit_files, IsTree}
+use Rattle.std.proofs.Common.{append-nil}
+use Rattle.std.specs.Prelude.{map, All, Ok}
 use Rattle.std.proofs.lemmas.List.{map-append, reverse-append, reverse-reverse}
 use Rattle.std.proofs.lemmas.List.Elements.{All-nil, All-push}
-use Rattle.std.proofs.lemmas.Slice.Eq.{bytes_eq-Decides}
-use Rattle.std.specs.Str.{bytes_eq}
-use Rattle.finite_sets.specs.Lists.{In, Distinct}
 use Rattle.finite_sets.proofs.Distincts.{Distinct-push}
 use Rattle.finite_sets.proofs.Members.{In-append_left, In-append_right, In-append_cases, In-push_cases}
 use Rattle.finite_sets.proofs.Searches.{In-from_list_any, absent-from_list_any}
-use Rattle.outside_io.specs.Files.{Files}
-use Rattle.session_model.specs.FileTrees.{GoesOn, Reads}
 use Rattle.session_model.proofs.FileTreeLaws.{goes_by}
-use Rattle.ext_model.specs.declared.arrays.ArrayExt.{ArrayExt}
 use Rattle.ext_model.specs.LawfulArrays.{IsLawfulArrayExt}
-use Rattle.ext_loading.specs.ExtFiles.{cells_read, file_gives, is_read}
-use Rattle.ext_loading.specs.Readings.{cells_used, circuit_files}
-use Rattle.ext_loading.specs.steps.Trees.{AreSoFar, IsTree, MayFollow}
+use Rattle.ext_loading.specs.ExtFiles.{file_gives, is_read}
+use Rattle.ext_loading.specs.steps.Trees.{AreSoFar, MayFollow}
 
 -- a list turned round, after a function or before it
 pub map-reverse : {X Y : Type 0} (f : X → Y) (xs : List X) → map f (reverse xs) ≡ reverse (map f xs)

@@ -1,7 +1,7 @@
 -- Texts cut at the first such byte.
-use Rattle.std.proofs.Common.{◌≡◌, ◌≢◌, ◌==◌, ◌+◌, ◌++◌, ℕ, suc, Bool, true, false, not, cond, List, [], ◌∷◌, refl, sym, ap, ◌∙◌, drop, take, arith}
+use Rattle.ext_model.proofs.Common.{◌≡◌, ◌≢◌, ◌==◌, ◌+◌, ◌++◌, ℕ, suc, Bool, true, false, cond, List, [], ◌∷◌, refl, sym, ap, ◌∙◌, arith, eqb-true}
+use Rattle.std.proofs.Common.{not, drop, take}
 use Rattle.std.specs.List.{after_first, position_or_len}
-use Rattle.std.proofs.lemmas.Bool.{eqb-true}
 use Rattle.ext_model.specs.Plain.{before, behind}
 use Rattle.ext_model.proofs.TextCuts.{Lacks, front_of, front_of-cut}
 pub use Rattle.ext_model.proofs.TextCuts.{behind-cut}

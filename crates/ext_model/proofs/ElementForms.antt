@@ -1,19 +1,13 @@
 -- The names of elements have the form of names of nodes.
-use Rattle.std.proofs.Common.{◌≡◌, ◌≤◌, ◌==◌, ℕ, suc, ℤ, pos, negsuc, true, List, [], ◌∷◌, ◌++◌, length, IsTrue}
-use Rattle.std.proofs.Common.{inl, inr, refl, sym, subst, arith, length-append}
+use Rattle.ext_model.proofs.Common.{◌≡◌, ◌≤◌, ◌==◌, ℕ, suc, ℤ, pos, negsuc, true, List, [], ◌∷◌, ◌++◌, length, IsTrue, inl, inr, refl, sym, subst}
+use Rattle.ext_model.proofs.Common.{arith, length-append, is_ascii_digit, list_all, all_ascii_digits, and_parts, eq-eqb, nat_tests, digit_is}
+use Rattle.ext_model.proofs.Common.{LONGEST_USE_ID, SLASH, is_node_name, is_word, slashes_in, is_use_id, is_use_id_byte, indexed_name}
 use Rattle.std.specs.Prelude.{nat_le, ◌&&◌, ◌⊎◌}
-use Rattle.std.specs.Char.{is_ascii_digit}
-use Rattle.std.specs.List.{list_all}
-use Rattle.std.specs.Str.{all_ascii_digits}
-use Rattle.std.proofs.lemmas.Bool.{and_parts, and_from, le-leb, leb-true, eq-eqb}
-use Rattle.std.proofs.lemmas.Bool.Decides.{nat_tests}
+use Rattle.std.proofs.lemmas.Bool.{and_from, le-leb, leb-true}
 use Rattle.text_scan.specs.Decimal.{decimal, natural_text}
 use Rattle.text_scan.proofs.DecimalLemmas.{all_ascii_digits-natural_text}
-use Rattle.text_scan.proofs.NumberLemmas.{digit_is}
-use Rattle.ext_model.specs.declared.limits.TheConstants.{LONGEST_USE_ID}
-use Rattle.ext_model.specs.declared.names.TheConstants.{SLASH}
-use Rattle.ext_model.specs.NodeNames.{is_node_name, is_word, is_word_byte, slashes_in}
-use Rattle.ext_model.specs.ElementNames.{is_use_id, is_use_id_byte, indexed_name, IsIndexed}
+use Rattle.ext_model.specs.NodeNames.{is_word_byte}
+use Rattle.ext_model.specs.ElementNames.{IsIndexed}
 use Rattle.ext_model.proofs.TextCuts.{Lacks, lacks-append, no_slashes}
 use Rattle.ext_model.proofs.IndexedNames.{id_whole, number_whole}
 

@@ -1,17 +1,17 @@
 -- The finite map of the entries of a hash table, and what a change of the table does to it.
-use Rattle.std.proofs.Common.{◌≡◌, ℕ, ◌<◌, ◌≤◌, inl, inr, Bool, true, false, cond, List, [], ◌∷◌, Option, Some, None, IsSome}
-use Rattle.std.proofs.Common.{refl, sym, ap, subst, ◌∙◌, arith}
-use Rattle.std.proofs.lemmas.Cmp.{nat_cmp_total, eq_by_cmp_equiv}
+use Rattle.ext_model.proofs.Common.{◌≡◌, ℕ, ◌<◌, ◌≤◌, inl, inr, Bool, true, false, cond, List, [], ◌∷◌, refl, sym, ap, subst, ◌∙◌, arith}
+use Rattle.ext_model.proofs.Common.{nat_cmp_total, nat_cmp, ExtEntry, Table}
+use Rattle.std.proofs.Common.{Option, Some, None, IsSome}
+use Rattle.std.proofs.lemmas.Cmp.{eq_by_cmp_equiv}
 use Rattle.std.specs.Cmp.{unsigned_tied}
-use Rattle.std.specs.Ordering.{nat_cmp, eq_by_cmp}
+use Rattle.std.specs.Ordering.{eq_by_cmp}
 use Rattle.std.specs.Prelude.{nat_eq}
 use Rattle.std.specs.Map.{lookup}
 use Rattle.std.specs.FinMap as fin_map
 use Rattle.std.specs.FinMap.{FinMap}
 use Rattle.std.specs.FinMap.Entries.{find}
 use Rattle.ext_model.specs.declared.tables.CellKey.{CellKey}
-use Rattle.ext_model.specs.declared.tables.ExtEntry.{ExtEntry}
-use Rattle.ext_model.specs.Tables.{Table, entry_of, HasRoomFor}
+use Rattle.ext_model.specs.Tables.{entry_of, HasRoomFor}
 
 module _ {X : Type 0} where
   find-lookup : (key : ℕ) (entries : List (ℕ × X)) → find nat_cmp key entries ≡ lookup (nat_eq key) entries

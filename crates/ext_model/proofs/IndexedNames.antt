@@ -1,19 +1,14 @@
 -- What the name of an element tells: the id of its use, and its two indices.
-use Rattle.std.proofs.Common.{◌≡◌, ◌==◌, ◌&&◌, not, ℕ, ℤ, true, false, List, [], ◌∷◌, ◌++◌, length}
-use Rattle.std.proofs.Common.{Result, Ok, refl, sym, ap, ◌∙◌, arith}
+use Rattle.ext_model.proofs.Common.{◌≡◌, ◌==◌, ◌&&◌, ℕ, ℤ, true, false, List, [], ◌∷◌, ◌++◌, length, refl, sym, ap, ◌∙◌, arith, is_ascii_digit}
+use Rattle.ext_model.proofs.Common.{list_all, and_parts, digit_is, LONGEST_USE_ID, SLASH, slashes_in, is_use_id, is_use_id_byte, indexed_name}
+use Rattle.std.proofs.Common.{not}
+use Rattle.std.proofs.Common.{Result, Ok}
 use Rattle.std.specs.Prelude.{nat_le}
-use Rattle.std.specs.Char.{is_ascii_digit}
-use Rattle.std.specs.List.{list_all}
-use Rattle.std.proofs.lemmas.Bool.{and_parts, ne_eqb, not-true}
+use Rattle.std.proofs.lemmas.Bool.{ne_eqb, not-true}
 use Rattle.text_scan.specs.declared.numeral.NumFault.{NumFault}
 use Rattle.text_scan.specs.Decimal.{decimal}
 use Rattle.text_scan.specs.Numbers.{integer_of}
 use Rattle.text_scan.proofs.DecimalLemmas.{integer_of-decimal}
-use Rattle.text_scan.proofs.NumberLemmas.{digit_is}
-use Rattle.ext_model.specs.declared.limits.TheConstants.{LONGEST_USE_ID}
-use Rattle.ext_model.specs.declared.names.TheConstants.{SLASH}
-use Rattle.ext_model.specs.NodeNames.{slashes_in}
-use Rattle.ext_model.specs.ElementNames.{is_use_id, is_use_id_byte, indexed_name}
 use Rattle.ext_model.proofs.TextCuts.{Lacks, front_of, front_of-cut, front_of-whole, lacks-append, lacks-decimal, lacks-passing, no_slashes, one_cut}
 
 -- ---- bytes of ids and of numbers

@@ -2,6 +2,7 @@
 pub use Rattle.text_scan.proofs as TextScan
 pub use Rattle.geo_core.proofs.FiniteSets as FiniteSets
 pub use Rattle.geo_core.proofs as GeoCore
+mod Common
 pub mod NameKinds
 pub mod NameOrders
 pub mod PathOrders

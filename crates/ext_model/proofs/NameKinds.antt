@@ -1,10 +1,9 @@
 -- The last byte of a name, and its kind.
-use Rattle.std.proofs.Common.{◌≡◌, ℕ, suc, ◌-◌, ◌==◌, Bool, true, false, cond, ◌&&◌, not, IsTrue, ◌↔◌, List, [], ◌∷◌, length}
-use Rattle.std.proofs.Common.{Option, Some, None, slice_get, refl, sym, ap, ◌∙◌, arith}
-use Rattle.std.proofs.lemmas.Bool.{eqb-true}
-use Rattle.ext_model.specs.declared.names.TheConstants.{GLOBAL_MARK, GENERATED_MARK}
+use Rattle.ext_model.proofs.Common.{◌≡◌, ℕ, suc, ◌==◌, Bool, true, false, cond, ◌&&◌, IsTrue, List, [], ◌∷◌, length, refl, sym, ap, ◌∙◌, arith}
+use Rattle.ext_model.proofs.Common.{eqb-true, GLOBAL_MARK, GENERATED_MARK, is_node_name, ends_in}
+use Rattle.std.proofs.Common.{◌-◌, not, ◌↔◌}
+use Rattle.std.proofs.Common.{Option, Some, None, slice_get}
 use Rattle.ext_model.specs.declared.names.NameKind.TheVariants.{Global, Label, Generated}
-use Rattle.ext_model.specs.NodeNames.{is_node_name, ends_in}
 use Rattle.ext_model.specs.NameLaws.{KindsTellGlobalNames}
 
 -- whether what may be the last byte is this one

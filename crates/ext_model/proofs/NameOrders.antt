@@ -1,13 +1,12 @@
 -- The name order is a total order, and tells names apart.
-use Rattle.std.proofs.Common.{◌≡◌, false, ◌⊎◌, inl, inr, refl, ap}
-use Rattle.std.proofs.lemmas.Cmp.{on_total, nat_list_cmp_total, tied_itself, upto}
+use Rattle.ext_model.proofs.Common.{◌≡◌, false, inl, inr, refl, ap, tied_itself, Ordering, Less, Equal, Greater, name_cmp}
+use Rattle.std.proofs.Common.{◌⊎◌}
+use Rattle.std.proofs.lemmas.Cmp.{on_total, nat_list_cmp_total, upto}
 use Rattle.std.specs.Cmp.{IsTotalOrder}
 use Rattle.std.specs.FinMap.{nat_cmp-IsAntisymmetric, slice_cmp-IsAntisymmetric}
 use Rattle.std.specs.Ordering.{is_gt, ordering_reverse}
-use Rattle.std.specs.declared.cmp.Ordering.{Ordering}
-use Rattle.std.specs.declared.cmp.Ordering.TheVariants.{Less, Equal, Greater}
 use Rattle.geo_core.specs.FiniteSets.Laws.{IsReflexive, IsTransitive}
-use Rattle.ext_model.specs.NameOrder.{name_rank, name_cmp, StandsNoLater}
+use Rattle.ext_model.specs.NameOrder.{name_rank, StandsNoLater}
 use Rattle.ext_model.specs.NameLaws.{NameOrderIsTotal, NameOrderIsAntisymmetric, NameOrderIsExact, RanksTellNamesApart}
 
 -- the laws of a comparison, as sorting asks for them

@@ -1,14 +1,13 @@
 -- How far the elements of lawful grids are displaced, and the uses that they are.
-use Rattle.std.proofs.Common.{◌≡◌, ℕ, suc, ◌*◌, ◌/◌, ◌%◌, ◌≤◌, ◌<◌, ◌^◌, ℤ, pos, negsuc, neg_ℤ}
-use Rattle.std.proofs.Common.{◌*ℤ◌, ◌≤ℤ◌, ◌<ℤ◌, List, w32, FitsSigned, refl, sym, ap, subst, ◌∙◌, arith}
+use Rattle.ext_model.proofs.Common.{◌≡◌, ℕ, suc, ◌≤◌, ◌<◌, ℤ, pos, negsuc, List, refl, sym, ap, subst, ◌∙◌, arith, In, Grid}
+use Rattle.std.proofs.Common.{◌*◌, ◌/◌, ◌%◌, ◌^◌, neg_ℤ}
+use Rattle.std.proofs.Common.{◌*ℤ◌, ◌≤ℤ◌, ◌<ℤ◌, w32, FitsSigned}
 use Rattle.std.specs.Prelude.{Some, slice_get}
 use Rattle.std.specs.Int.RustNames.{unsigned_abs}
 use Rattle.std.proofs.Math.Nat.{mul-le-mul_right}
 use Rattle.std.proofs.lemmas.Int.{ints}
 use Rattle.std.proofs.lemmas.Option.{same_Some, slice_get_within, slice_get-get_or}
-use Rattle.geo_core.specs.FiniteSets.Lists.{In}
 use Rattle.geo_core.proofs.FiniteSets.Members.{In-index}
-use Rattle.geo_core.specs.declared.grids.Grid.{Grid}
 use Rattle.geo_core.specs.declared.limits.TheConstants.{MOST_ELEMENTS}
 use Rattle.geo_core.specs.declared.orients.Orient.{Orient}
 use Rattle.geo_core.specs.declared.orients.Orient.TheVariants.{R0}

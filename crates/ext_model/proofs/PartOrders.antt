@@ -1,15 +1,9 @@
 -- The name order on paths is the order on their parts.
-use Rattle.std.proofs.Common.{◌≡◌, ◌≢◌, ℕ, ◌<◌, ◌+◌, ◌==◌, Bool, true, false, cond, List, [], ◌∷◌, ◌++◌, length, refl, sym, ◌∙◌, ap, arith}
+use Rattle.ext_model.proofs.Common.{◌≡◌, ◌≢◌, ℕ, ◌<◌, ◌+◌, ◌==◌, Bool, true, false, cond, List, [], ◌∷◌, ◌++◌, length, refl, sym, ◌∙◌, ap, arith}
+use Rattle.ext_model.proofs.Common.{sum_by-cons, Ordering, Less, Equal, Greater, nat_cmp, ordering_then, slice_cmp, SLASH, name_kind, slashes_in}
+use Rattle.ext_model.proofs.Common.{kind_rank, path_text}
 use Rattle.std.proofs.lemmas.Cmp.{ranked}
-use Rattle.std.proofs.lemmas.List.Sums.{sum_by-cons}
-use Rattle.std.specs.declared.cmp.Ordering.{Ordering}
-use Rattle.std.specs.declared.cmp.Ordering.TheVariants.{Less, Equal, Greater}
-use Rattle.std.specs.Ordering.{nat_cmp, ordering_then, MatchOrdering}
-use Rattle.std.specs.Cmp.Lexicographic.{slice_cmp}
-use Rattle.ext_model.specs.declared.names.TheConstants.{SLASH}
-use Rattle.ext_model.specs.NodeNames.{name_kind, slashes_in}
-use Rattle.ext_model.specs.NameOrder.{kind_rank}
-use Rattle.ext_model.specs.Paths.{path_text}
+use Rattle.std.specs.Ordering.{MatchOrdering}
 use Rattle.ext_model.specs.NameParts.{element_cmp, path_length, AreWhole, PathsCompareByParts}
 use Rattle.ext_model.proofs.PathOrders.{name_kind-behind, slashes_in-behind, length-behind, path_text_some}
 

@@ -1,9 +1,8 @@
 -- What paths name.
-use Rattle.std.proofs.Common.{◌≡◌, ℕ, ◌<◌, ◌==◌, Bool, false, cond, List, [], ◌∷◌, ◌++◌, refl, sym, ◌∙◌, ap, arith}
-use Rattle.std.proofs.lemmas.Bool.Decides.{nat_tests}
-use Rattle.ext_model.specs.declared.names.TheConstants.{SLASH}
-use Rattle.ext_model.specs.NodeNames.{is_global, slashes_in}
-use Rattle.ext_model.specs.Paths.{path_text, last_name, full_name}
+use Rattle.ext_model.proofs.Common.{◌≡◌, ℕ, ◌<◌, ◌==◌, Bool, false, cond, List, [], ◌∷◌, ◌++◌, refl, sym, ◌∙◌, ap, arith, nat_tests, SLASH}
+use Rattle.ext_model.proofs.Common.{slashes_in, path_text}
+use Rattle.ext_model.specs.NodeNames.{is_global}
+use Rattle.ext_model.specs.Paths.{last_name, full_name}
 use Rattle.ext_model.specs.NameLaws.{PathsNameBelow}
 use Rattle.ext_model.proofs.PathOrders.{slashes_in-slash, slashes_in-behind}
 

@@ -1,15 +1,9 @@
 -- Names with the same elements' names before them stand in the order of the names alone.
-use Rattle.std.proofs.Common.{◌≡◌, ◌≢◌, ℕ, ◌+◌, ◌==◌, cond, List, [], ◌∷◌, ◌++◌, length, refl, ap, ◌∙◌, arith, length-append}
-use Rattle.std.proofs.lemmas.List.Sums.{sum_by-append, sum_by-cons}
-use Rattle.std.proofs.lemmas.Cmp.{tied_itself, nat_cmp_total}
-use Rattle.std.specs.Cmp.Lexicographic.{slice_cmp}
-use Rattle.std.specs.Ordering.{nat_cmp, ordering_then}
-use Rattle.std.specs.declared.cmp.Ordering.{Ordering}
+use Rattle.ext_model.proofs.Common.{◌≡◌, ◌≢◌, ℕ, ◌+◌, ◌==◌, cond, List, [], ◌∷◌, ◌++◌, length, refl, ap, ◌∙◌, arith, length-append, sum_by-cons}
+use Rattle.ext_model.proofs.Common.{tied_itself, nat_cmp_total, slice_cmp, nat_cmp, ordering_then, Ordering, SLASH, GLOBAL_MARK, GENERATED_MARK}
+use Rattle.ext_model.proofs.Common.{slashes_in, ends_in, name_kind, kind_rank, name_cmp, path_text}
+use Rattle.std.proofs.lemmas.List.Sums.{sum_by-append}
 use Rattle.geo_core.proofs.FiniteSets.Orders.{nat_cmp-add}
-use Rattle.ext_model.specs.declared.names.TheConstants.{SLASH, GLOBAL_MARK, GENERATED_MARK}
-use Rattle.ext_model.specs.NodeNames.{slashes_in, ends_in, name_kind}
-use Rattle.ext_model.specs.NameOrder.{kind_rank, name_cmp}
-use Rattle.ext_model.specs.Paths.{path_text}
 use Rattle.ext_model.specs.NameLaws.{PathsKeepTheOrder}
 
 -- the last byte of a path is that of what follows its first slash

@@ -1,10 +1,8 @@
 -- The elements of a use of its form are lawful uses.
-use Rattle.std.proofs.Common.{inl, inr, subst, IsTrue}
+use Rattle.ext_model.proofs.Common.{inl, inr, subst, IsTrue, In, Grid}
 use Rattle.std.specs.Prelude.{Option, Some, None}
-use Rattle.geo_core.specs.FiniteSets.Lists.{In}
 use Rattle.geo_core.proofs.FiniteSets.Members.{In-map_source}
 use Rattle.text_scan.specs.PlainNames.{is_plain_name}
-use Rattle.geo_core.specs.declared.grids.Grid.{Grid}
 use Rattle.geo_core.specs.Elements.{elements_of}
 use Rattle.ext_model.specs.declared.records.UseRec.{UseRec}
 use Rattle.ext_model.specs.declared.arrays.ArrayUse.{ArrayUse}

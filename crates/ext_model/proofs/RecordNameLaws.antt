@@ -1,13 +1,10 @@
 -- The names of the nodes of a lawful record, and its paths.
-use Rattle.std.proofs.Common.{◌≡◌, ℕ, ◌==◌, Bool, true, false, ◌&&◌, IsTrue, inl, inr, List, length, ap, arith}
-use Rattle.std.proofs.lemmas.Bool.{eqb-true}
+use Rattle.ext_model.proofs.Common.{◌≡◌, ℕ, ◌==◌, Bool, true, false, ◌&&◌, IsTrue, inl, inr, List, length, ap, arith, eqb-true, In, slashes_in}
+use Rattle.ext_model.proofs.Common.{is_word, is_node_name, path_text}
 use Rattle.std.proofs.lemmas.List.Elements.{All-contains}
-use Rattle.geo_core.specs.FiniteSets.Lists.{In}
 use Rattle.geo_core.proofs.FiniteSets.Members.{Contains-from_In}
 use Rattle.geo_core.proofs.FiniteSets.Images.{In-flat_map_source}
 use Rattle.ext_model.specs.declared.records.CellExt.{CellExt}
-use Rattle.ext_model.specs.NodeNames.{slashes_in, is_word, is_node_name}
-use Rattle.ext_model.specs.Paths.{path_text}
 use Rattle.ext_model.specs.RecordNames.{names_of, node_names}
 use Rattle.ext_model.specs.Lawful.{IsLawful, IsLawfulNode}
 use Rattle.ext_model.specs.RecordLaws.{PathsWithoutSlashNameNodes, PathsWithSlashLeadIntoElements}

@@ -1,33 +1,16 @@
 -- The names of the elements of uses: they are those of the plain form, those of one use differ, and each is an id or has indices.
-use Rattle.std.proofs.Common.{◌≡◌, ◌⊎◌, ℕ, ℤ, pos, Bool, true, false, cond, Option, List, [], ◌∷◌, ◌++◌, map}
-use Rattle.std.proofs.Common.{FitsSigned, refl, sym, ap, ◌∙◌, subst, arith, inl, inr, IsTrue}
-use Rattle.std.specs.Prelude.{Some, None, ◌≤ℤ◌, ◌<ℤ◌, ◌+ℤ◌, ◌-ℤ◌, int_le}
-use Rattle.std.specs.Int.{w32}
-use Rattle.std.specs.List.{flat_map}
-use Rattle.std.specs.Str.{bytes_eq}
-use Rattle.std.proofs.lemmas.Int.{ints}
-use Rattle.std.proofs.lemmas.List.{map-append}
-use Rattle.std.proofs.lemmas.Slice.Eq.{bytes_eq-Decides}
-use Rattle.finite_sets.specs.Lists.{In, Distinct}
+use Rattle.ext_reading.proofs.Common.{◌≡◌, ◌⊎◌, ℕ, ℤ, pos, Bool, true, false, cond, Option, List, [], ◌∷◌, ◌++◌, map, FitsSigned, refl, sym, ap, ◌∙◌}
+use Rattle.ext_reading.proofs.Common.{subst, arith, inl, inr, IsTrue, Some, None, ◌<ℤ◌, ◌+ℤ◌, ◌-ℤ◌, w32, flat_map, bytes_eq, ints, map-append}
+use Rattle.ext_reading.proofs.Common.{bytes_eq-Decides, In, Distinct, In-flat_map_source, In-append_left, In-map_source, list_any-of_absent, Grid}
+use Rattle.ext_reading.proofs.Common.{indices, IsLawful, UseRec, ArrayUse, is_use_id, indexed_name, IsIndexed, HasIdForm, plain_uses, uses_of_grid}
+use Rattle.ext_reading.proofs.Common.{element_use, indexed_told, UseElements, element_ids, names_in, is_among, gives_again, names_more, elements_of}
+use Rattle.std.specs.Prelude.{◌≤ℤ◌, int_le}
 use Rattle.finite_sets.specs.Range.{integer_range, pairs_of}
 use Rattle.finite_sets.proofs.Distincts.{Distinct-append, Distinct-append_apart, Distinct-map}
-use Rattle.finite_sets.proofs.Images.{In-flat_map_source}
-use Rattle.finite_sets.proofs.Members.{In-append_left, In-map_source}
 use Rattle.finite_sets.proofs.Ranges.{In-pairs_of_first, In-pairs_of_second, Lists-integer_range}
-use Rattle.finite_sets.proofs.Searches.{list_any-fails, list_any-In, absent-from_list_any, list_any-of_absent}
-use Rattle.geo_core.specs.declared.grids.Grid.{Grid}
-use Rattle.geo_core.specs.Elements.{indices, nth_index, element_of, elements_of as elements_of_grid, IsLawful}
+use Rattle.finite_sets.proofs.Searches.{list_any-fails, list_any-In, absent-from_list_any}
+use Rattle.geo_core.specs.Elements.{nth_index, element_of, elements_of as elements_of_grid}
 use Rattle.geo_core.proofs.ElementLaws.{nth_either, Distinct-elements_of}
-use Rattle.ext_model.specs.declared.records.UseRec.{UseRec}
-use Rattle.ext_model.specs.declared.arrays.ArrayUse.{ArrayUse}
-use Rattle.ext_model.specs.ElementNames.{is_use_id, indexed_name, IsIndexed}
-use Rattle.ext_model.specs.LawfulArrays.{HasIdForm}
-use Rattle.ext_model.specs.Plain.{plain_uses, uses_of_grid, element_use}
-use Rattle.ext_model.proofs.IndexedNames.{indexed_told}
-use Rattle.element_index.specs.declared.uses.UseElements.{UseElements}
-use Rattle.element_index.specs.GivenNames.{element_ids, names_in, is_among, gives_again}
-use Rattle.element_index.proofs.HoldLaws.{names_more}
-use Rattle.ext_reading.specs.Drafts.{elements_of}
 use Rattle.ext_reading.proofs.Outcomes.{Each}
 
 -- the names of one use

@@ -1,31 +1,14 @@
 -- What is read is lawful, line by line.
-use Rattle.std.proofs.Common.{◌≡◌, ◌≤◌, ◌<◌, ◌+◌, ◌*◌, ℕ, ℤ, pos, Bool, true, false, cond, Option, List, [], ◌∷◌, ◌++◌}
-use Rattle.std.proofs.Common.{length, Result, Ok, Err, refl, sym, ap, ◌∙◌, subst, arith, inl, inr, length-append}
-use Rattle.std.specs.Prelude.{Some, None, ◌+ℤ◌, ◌<ℤ◌, nat_lt, nat_le, sum_by}
-use Rattle.std.specs.Int.{w32}
-use Rattle.std.specs.Int.RustNames.{FitsSigned, unsigned_abs}
-use Rattle.std.proofs.lemmas.Bool.{and_parts, ltb-true, leb-true}
-use Rattle.std.proofs.lemmas.Bool.Decides.{Decides-int_eq, nat_tests}
-use Rattle.std.proofs.lemmas.Int.{ints}
-use Rattle.std.proofs.lemmas.List.Sums.{sum_by-cons}
-use Rattle.geo_core.specs.declared.grids.Grid.{Grid}
-use Rattle.geo_core.specs.declared.limits.TheConstants.{MOST_ELEMENTS}
-use Rattle.geo_core.specs.Elements.{indices}
-use Rattle.geo_core.specs.Images.{six_of}
-use Rattle.geo_core.specs.Orientation.{matrix, is_orientation}
-use Rattle.ext_model.specs.declared.limits.TheConstants.{MOST_CLASSES, MEASURE_EDGE, LENGTHS_EDGE, SHIFT_EDGE, FET_EDGE}
-use Rattle.ext_model.specs.declared.records.TermRec.{TermRec}
-use Rattle.ext_model.specs.Lawful.{IsMeasure, IsPlacement}
-use Rattle.ext_model.specs.LawfulArrays.{HasIdForm}
-use Rattle.ext_reading.specs.declared.faults.ExtReadFault.{ExtReadFault}
-use Rattle.ext_reading.specs.declared.faults.ExtReadFault.TheVariants.{Range, Transform as NoOrientation}
-use Rattle.ext_reading.specs.declared.limits.TheConstants.{LONGEST_READ_TEXT}
-use Rattle.ext_reading.specs.declared.lines.SideLine.{SideLine}
-use Rattle.ext_reading.specs.declared.lines.Corners.{Corners}
-use Rattle.ext_reading.specs.Parts.{is_short, is_next}
-use Rattle.ext_reading.specs.LineForms.{Six, HasNameForm, are_corners}
-use Rattle.ext_reading.specs.Ranges.{short_in, measure_in, pair_in, measures_from, class_value_in, class_values_from, class_values_in}
-use Rattle.ext_reading.specs.Ranges.{six_in, grid_in, point_in, term_in, terms_from}
+use Rattle.ext_reading.proofs.Common.{◌≡◌, ◌≤◌, ◌<◌, ◌+◌, ◌*◌, ℕ, ℤ, pos, Bool, true, false, cond, Option, List, [], ◌∷◌, ◌++◌, length, Result, Ok}
+use Rattle.ext_reading.proofs.Common.{Err, refl, sym, ap, ◌∙◌, subst, arith, inl, inr, length-append, Some, None, ◌+ℤ◌, ◌<ℤ◌, nat_lt, nat_le, sum_by}
+use Rattle.ext_reading.proofs.Common.{w32, unsigned_abs, and_parts, ltb-true, leb-true, Decides-int_eq, nat_tests, ints, sum_by-cons, Grid}
+use Rattle.ext_reading.proofs.Common.{MOST_ELEMENTS, indices, six_of, matrix, is_orientation, MOST_CLASSES, MEASURE_EDGE, LENGTHS_EDGE, SHIFT_EDGE}
+use Rattle.ext_reading.proofs.Common.{FET_EDGE, TermRec, IsMeasure, IsPlacement, HasIdForm, ExtReadFault, Range, LONGEST_READ_TEXT, SideLine}
+use Rattle.ext_reading.proofs.Common.{Corners, is_short, is_next, Six, HasNameForm, short_in, measure_in, pair_in, measures_from, class_value_in}
+use Rattle.ext_reading.proofs.Common.{class_values_from, class_values_in, six_in, grid_in, point_in, term_in, terms_from}
+use Rattle.std.specs.Int.RustNames.{FitsSigned}
+use Rattle.ext_reading.specs.declared.faults.ExtReadFault.TheVariants.{Transform as NoOrientation}
+use Rattle.ext_reading.specs.LineForms.{are_corners}
 use Rattle.geo_core.proofs.OrientationLaws.{six_of-is_orientation}
 use Rattle.ext_reading.proofs.Outcomes.{OkHas, next_has, given_has, passed_has, Each, each_none, each_push}
 use Rattle.ext_reading.proofs.UseNames.{short_fits}

@@ -1,27 +1,13 @@
 -- What a line of a circuit file says is of its form.
-use Rattle.std.proofs.Common.{◌≡◌, ◌≤◌, ◌+◌, ℕ, ℤ, Bool, true, false, cond, List, [], ◌∷◌, ◌++◌, length, Option, Result, Ok, Err, arith, length-append}
-use Rattle.std.specs.Prelude.{codes}
-use Rattle.std.specs.Str.{bytes_eq}
-use Rattle.text_scan.specs.PlainNames.{is_plain_name}
-use Rattle.text_scan.specs.Words.{words_of}
+use Rattle.ext_reading.proofs.Common.{◌≡◌, ◌≤◌, ◌+◌, ℕ, ℤ, Bool, true, false, cond, List, [], ◌∷◌, ◌++◌, length, Option, Result, Ok, Err, arith}
+use Rattle.ext_reading.proofs.Common.{length-append, codes, bytes_eq, is_plain_name, words_of, is_word, is_node_name, ExtReadFault, BadLine, Corners}
+use Rattle.ext_reading.proofs.Common.{UseLine, NodeLine, SideLine, FetLine, MergeLine, HeaderLine, Tech, Classes, ExtLine, Nothing, Header, Use}
+use Rattle.ext_reading.proofs.Common.{Node, Equiv, Fet, Merge, is_path, unquoted, if_formed, word_in, cell_in, substrate_in, node_name_in, path_in}
+use Rattle.ext_reading.proofs.Common.{numeral_in, numerals_in, use_name_in, use_line, side_in, sides_from, words_say, says}
 use Rattle.text_scan.proofs.WordLemmas.{length-words_of}
-use Rattle.ext_model.specs.NodeNames.{is_word, is_node_name}
-use Rattle.ext_reading.specs.declared.faults.ExtReadFault.{ExtReadFault}
-use Rattle.ext_reading.specs.declared.faults.ExtReadFault.TheVariants.{BadLine}
-use Rattle.ext_reading.specs.declared.lines.Corners.{Corners}
-use Rattle.ext_reading.specs.declared.lines.UseLine.{UseLine}
-use Rattle.ext_reading.specs.declared.lines.NodeLine.{NodeLine}
-use Rattle.ext_reading.specs.declared.lines.SideLine.{SideLine}
-use Rattle.ext_reading.specs.declared.lines.FetLine.{FetLine}
-use Rattle.ext_reading.specs.declared.lines.MergeLine.{MergeLine}
-use Rattle.ext_reading.specs.declared.lines.HeaderLine.{HeaderLine}
-use Rattle.ext_reading.specs.declared.lines.HeaderLine.TheVariants.{Tech, Classes}
-use Rattle.ext_reading.specs.declared.lines.ExtLine.{ExtLine}
-use Rattle.ext_reading.specs.declared.lines.ExtLine.TheVariants.{Nothing, Header, Use, Node, Equiv, Fet, Merge}
-use Rattle.ext_reading.specs.Parts.{is_path, unquoted, if_formed, word_in, cell_in, substrate_in, node_name_in, path_in, numeral_in, numerals_in}
-use Rattle.ext_reading.specs.LineForms.{tech_line, version_line, classes_line, six_numerals, use_name_in, NamesUse, use_line, node_of, node_line}
-use Rattle.ext_reading.specs.LineForms.{equiv_line, side_in, sides_from}
-use Rattle.ext_reading.specs.LineForms.{are_corners, corners_in, fet_at, fet_line, merge_line, header_line, body_line, line_by_key, words_say, says}
+use Rattle.ext_reading.specs.LineForms.{tech_line, version_line, classes_line, six_numerals, NamesUse, node_of, node_line}
+use Rattle.ext_reading.specs.LineForms.{equiv_line}
+use Rattle.ext_reading.specs.LineForms.{are_corners, corners_in, fet_at, fet_line, merge_line, header_line, body_line, line_by_key}
 use Rattle.ext_reading.proofs.Outcomes.{OkHas, next_has, given_has, passed_has, value_has}
 use Rattle.ext_reading.proofs.UseNames.{IsNamed, use_name-formed}
 

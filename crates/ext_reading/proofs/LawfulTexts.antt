@@ -1,60 +1,33 @@
 -- What a text without a fault says is lawful.
-use Rattle.std.proofs.Common.{◌≡◌, ◌≤◌, ◌<◌, ◌+◌, ◌-◌, ◌==◌, ◌&&◌, ℕ, zero, suc, Bool, true, false, not, cond, Option, List, [], ◌∷◌, ◌++◌}
-use Rattle.geo_core.specs.declared.grids.Grid.{Grid}
-use Rattle.std.proofs.Common.{length, take, Result, Ok, Err, refl, sym, ap, ◌∙◌, subst, arith, inl, inr}
-use Rattle.std.specs.Prelude.{codes, Some, None, fold, nat_lt, slice_index}
-use Rattle.std.specs.List.{list_all, list_any, range_with_len, position, position_or_len, slice_split, before_first, after_first, join_with_byte}
-use Rattle.std.specs.Str.{bytes_eq}
+use Rattle.ext_reading.proofs.Common.{◌≡◌, ◌≤◌, ◌<◌, ◌+◌, ◌-◌, ◌==◌, ◌&&◌, ℕ, zero, suc, Bool, true, false, not, cond, Option, List, [], ◌∷◌, ◌++◌}
+use Rattle.ext_reading.proofs.Common.{Grid, length, take, Result, Ok, Err, refl, sym, ap, ◌∙◌, subst, arith, inl, inr, codes, Some, None, fold}
+use Rattle.ext_reading.proofs.Common.{nat_lt, slice_index, list_all, list_any, range_with_len, position, position_or_len, before_first, bytes_eq}
+use Rattle.ext_reading.proofs.Common.{ltb-true, slice_split_first, bytes_eq-Decides, In, Distinct, In-flat_map_source, In-append_left, In-push}
+use Rattle.ext_reading.proofs.Common.{In-map_source, list_all-In, All-from_In, In-from_list_any, lines_of, words_of, first_fault_or, and_then, SLASH}
+use Rattle.ext_reading.proofs.Common.{UseRec, FetRec, CellExt, ArrayUse, MergeRow, is_node_name, node_names, element_names, path_text, IsArrayUse}
+use Rattle.ext_reading.proofs.Common.{IsMergeRow, IsLawfulArrayExt, plain, plain_uses, raised, UseElements, element_ids, names_in, is_among}
+use Rattle.ext_reading.proofs.Common.{gives_again, names_more, IsLawfulNode, ExtReadFault, BadLine, NoHeader, NameTwice, Range, UseTwice, NoName}
+use Rattle.ext_reading.proofs.Common.{LONGEST_READ_TEXT, MOST_USES, HeaderLine, Tech, Timestamp, Version, Style, Scale, Classes, One, Two, Other}
+use Rattle.ext_reading.proofs.Common.{UseLine, ExtLine, Nothing, Header, Use, Node, Equiv, Fet, Merge, Outline, is_slash, is_path, use_line}
+use Rattle.ext_reading.proofs.Common.{words_say, says, class_values_in, grid_in, six_in, Draft, nothing_yet, is_incomplete, was_seen, with_seen}
+use Rattle.ext_reading.proofs.Common.{is_other_version, with_header, takes_header, takes_use, node_from, takes_alias, fet_from, has_its_nodes, leads}
+use Rattle.ext_reading.proofs.Common.{all_lead, range_in, merge_from, elements_known, takes_record, fits_classes, fits_version, takes_body, takes}
+use Rattle.ext_reading.proofs.Common.{step, finish, with_use_said, with_words, with_line}
+use Rattle.std.specs.List.{slice_split, after_first, join_with_byte}
 use Rattle.std.specs.Str.Lines.{strip_carriage_return}
-use Rattle.std.proofs.lemmas.Bool.{ltb-true}
 use Rattle.std.proofs.lemmas.List.{length-take, length-drop}
-use Rattle.std.proofs.lemmas.List.Splits.{slice_split_first, length-slice_split, join_with_byte-slice_split}
-use Rattle.std.proofs.lemmas.Slice.Eq.{bytes_eq-Decides}
-use Rattle.finite_sets.specs.Lists.{In, Distinct}
-use Rattle.finite_sets.proofs.Images.{In-flat_map_source}
-use Rattle.finite_sets.proofs.Members.{In-append_left, In-append_right, In-push, In-map_source}
-use Rattle.finite_sets.proofs.Searches.{list_all-In, All-from_In, In-from_list_any}
-use Rattle.text_scan.specs.Lines.{lines_of, is_line_feed}
-use Rattle.text_scan.specs.Words.{words_of}
+use Rattle.std.proofs.lemmas.List.Splits.{length-slice_split, join_with_byte-slice_split}
+use Rattle.finite_sets.proofs.Members.{In-append_right}
+use Rattle.text_scan.specs.Lines.{is_line_feed}
 use Rattle.text_scan.proofs.LineLemmas.{lines_of-nil, lines_of-first}
-use Rattle.text_form.specs.Folds.{first_fault_or}
-use Rattle.text_form.specs.SaidLines.{and_then}
 use Rattle.text_form.proofs.FoldLaws.{passed, text_state-Ok}
-use Rattle.ext_model.specs.declared.names.TheConstants.{SLASH}
-use Rattle.ext_model.specs.declared.records.UseRec.{UseRec}
-use Rattle.ext_model.specs.declared.records.FetRec.{FetRec}
 use Rattle.ext_model.specs.declared.records.MergeRec.{MergeRec}
-use Rattle.ext_model.specs.declared.records.CellExt.{CellExt}
-use Rattle.ext_model.specs.declared.arrays.ArrayUse.{ArrayUse}
-use Rattle.ext_model.specs.declared.arrays.MergeRow.{MergeRow}
-use Rattle.ext_model.specs.NodeNames.{is_node_name}
-use Rattle.ext_model.specs.RecordNames.{node_names, element_names}
-use Rattle.ext_model.specs.Paths.{path_text}
-use Rattle.ext_model.specs.LawfulArrays.{IsArrayUse, IsMergeRow, IsLawfulArrayExt}
-use Rattle.ext_model.specs.Plain.{plain, plain_uses, plain_merge, plain_merges, raised}
+use Rattle.ext_model.specs.Plain.{plain_merge, plain_merges}
 use Rattle.ext_model.proofs.PlainUses.{elements_are_lawful}
-use Rattle.element_index.specs.declared.uses.UseElements.{UseElements}
-use Rattle.element_index.specs.GivenNames.{element_ids, names_in, is_among, gives_again}
-use Rattle.element_index.proofs.HoldLaws.{names_more}
-use Rattle.ext_model.specs.Lawful.{IsLawfulUse, IsLawfulNode, IsLawfulTerm, IsLawfulFet, IsLawfulMerge, LeadsIntoElement, IsPathIn}
-use Rattle.ext_reading.specs.declared.faults.ExtReadFault.{ExtReadFault}
-use Rattle.ext_reading.specs.declared.faults.ExtReadFault.TheVariants.{BadLine, NoHeader, Version as OtherVersion, NameTwice, Range, UseTwice, NoName}
-use Rattle.ext_reading.specs.declared.limits.TheConstants.{LONGEST_READ_TEXT, MOST_USES}
-use Rattle.ext_reading.specs.declared.lines.HeaderLine.{HeaderLine}
-use Rattle.ext_reading.specs.declared.lines.HeaderLine.TheVariants.{Tech, Timestamp, Version, Style, Scale, Classes}
+use Rattle.ext_model.specs.Lawful.{IsLawfulUse, IsLawfulTerm, IsLawfulFet, IsLawfulMerge, LeadsIntoElement, IsPathIn}
+use Rattle.ext_reading.specs.declared.faults.ExtReadFault.TheVariants.{Version as OtherVersion}
 use Rattle.ext_reading.specs.declared.lines.Version as lines
-use Rattle.ext_reading.specs.declared.lines.Version.TheVariants.{One, Two, Other}
-use Rattle.ext_reading.specs.declared.lines.UseLine.{UseLine}
-use Rattle.ext_reading.specs.declared.lines.ExtLine.{ExtLine}
-use Rattle.ext_reading.specs.declared.lines.ExtLine.TheVariants.{Nothing, Header, Use, Node, Equiv, Fet, Merge}
-use Rattle.ext_reading.specs.declared.outlines.Outline.{Outline}
-use Rattle.ext_reading.specs.Parts.{is_slash, is_path}
-use Rattle.ext_reading.specs.LineForms.{use_line, words_say, says}
-use Rattle.ext_reading.specs.Ranges.{class_values_in, grid_in, six_in}
-use Rattle.ext_reading.specs.Drafts.{Draft, nothing_yet, is_incomplete, was_seen, with_seen, is_other_version, with_header, takes_header, takes_use}
-use Rattle.ext_reading.specs.Drafts.{node_from, takes_alias, fet_from, has_its_nodes, leads, all_lead, range_in, merge_from, elements_known}
-use Rattle.ext_reading.specs.Drafts.{takes_record, fits_classes, fits_version, takes_body, takes, step, finish}
-use Rattle.ext_reading.specs.ExtTexts.{with_use_said, with_words, with_line, outline_of, draft_in, record_of}
+use Rattle.ext_reading.specs.ExtTexts.{outline_of, draft_in, record_of}
 use Rattle.ext_reading.proofs.NameLaws.{place_found}
 use Rattle.ext_reading.proofs.ElementIds.{names_given}
 use Rattle.ext_reading.proofs.OutlineLaws.{kept_use, IsNameOf, use_cases}

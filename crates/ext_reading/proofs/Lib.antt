@@ -1,3 +1,4 @@
+mod Common
 mod LineSteps
 pub mod NameLaws
 mod PathLaws

@@ -1,9 +1,6 @@
 -- A terminal is read from its three words.
-use Rattle.std.proofs.Common.{◌≡◌, ℕ, ℤ, Option, List, [], ◌∷◌, ◌++◌, Ok, sym, ap, ◌∙◌}
-use Rattle.text_form.specs.SaidLines.{and_then}
-use Rattle.ext_reading.specs.declared.lines.SideLine.{SideLine}
-use Rattle.ext_reading.specs.LineForms.{side_in, sides_from}
-use Rattle.ext_reading.specs.Ranges.{pair_in, measures_from, measures_in}
+use Rattle.ext_reading.proofs.Common.{◌≡◌, ℕ, ℤ, Option, List, [], ◌∷◌, ◌++◌, Ok, sym, ap, ◌∙◌, and_then, SideLine, side_in, sides_from, pair_in}
+use Rattle.ext_reading.proofs.Common.{measures_from, measures_in}
 
 pub side_step : (sides new : List SideLine) (all before one two rest : List (List ℕ)) (node length word : List ℕ) (side : SideLine)
     → sides_from sides before ≡ sides_from [] all → before ≡ node ∷ one → one ≡ length ∷ two → two ≡ word ∷ rest → side_in node length ≡ Ok side

@@ -1,11 +1,9 @@
 -- What holds of the value of a result, where it has one.
-use Rattle.std.proofs.Common.{◌≡◌, ◌<◌, ◌+◌, ℕ, suc, get_or, arith, Bool, true, false, cond, List, [], ◌∷◌, ◌++◌, Result, Ok, Err, inl, inr, refl, subst}
-use Rattle.std.specs.Prelude.{All, IfOk}
-use Rattle.std.specs.List.{AllByRecursion, range_with_len}
-use Rattle.std.proofs.lemmas.List.FromFn.{length-range_with_len, get_or-range_with_len}
-use Rattle.finite_sets.specs.Lists.{In}
-use Rattle.finite_sets.proofs.Members.{In-push_cases, In-index}
-use Rattle.text_form.specs.SaidLines.{and_then}
+use Rattle.ext_reading.proofs.Common.{◌≡◌, ◌<◌, ◌+◌, ℕ, suc, get_or, arith, Bool, true, false, cond, List, [], ◌∷◌, ◌++◌, Result, Ok, Err, inl, inr}
+use Rattle.ext_reading.proofs.Common.{refl, subst, All, AllByRecursion, range_with_len, length-range_with_len, get_or-range_with_len, In}
+use Rattle.ext_reading.proofs.Common.{In-push_cases, and_then}
+use Rattle.std.specs.Prelude.{IfOk}
+use Rattle.finite_sets.proofs.Members.{In-index}
 
 -- where there is a value, it has the fact
 abbrev pub OkHas : {X F : Type 0} → (X → Type 0) → Result X F → Type 0

@@ -1,21 +1,9 @@
 -- What a line adds to the uses of the outline.
-use Rattle.std.proofs.Common.{◌≡◌, ◌⊎◌, ◌||◌, ℕ, Bool, true, false, not, cond, Option, List, [], ◌∷◌, ◌++◌, Result, Ok, Err, sym, subst, inl, inr, refl}
-use Rattle.std.specs.Prelude.{codes}
-use Rattle.std.specs.Option.{is_some}
-use Rattle.std.specs.Str.{bytes_eq}
-use Rattle.finite_sets.specs.Lists.{In}
-use Rattle.finite_sets.proofs.Members.{In-append_left, In-append_cases}
-use Rattle.geo_core.specs.declared.grids.Grid.{Grid}
-use Rattle.element_index.specs.declared.uses.UseElements.{UseElements}
-use Rattle.element_index.specs.GivenNames.{element_ids, names_in, gives_again}
-use Rattle.element_index.proofs.HoldLaws.{names_more}
-use Rattle.ext_reading.specs.declared.faults.ExtReadFault.{ExtReadFault}
-use Rattle.ext_reading.specs.declared.lines.UseName.{UseName}
-use Rattle.ext_reading.specs.declared.lines.ExtLine.{ExtLine}
-use Rattle.ext_reading.specs.declared.lines.ExtLine.TheVariants.{Use}
-use Rattle.ext_reading.specs.LineForms.{use_line}
-use Rattle.ext_reading.specs.Ranges.{grid_in}
-use Rattle.ext_reading.specs.ExtTexts.{with_elements, with_allowed, with_use_name, with_use_said, with_words}
+use Rattle.ext_reading.proofs.Common.{◌≡◌, ◌⊎◌, ◌||◌, ℕ, Bool, true, false, not, cond, Option, List, [], ◌∷◌, ◌++◌, Result, Ok, Err, sym, subst, inl}
+use Rattle.ext_reading.proofs.Common.{inr, refl, codes, is_some, bytes_eq, In, In-append_left, In-append_cases, Grid, UseElements, element_ids}
+use Rattle.ext_reading.proofs.Common.{names_in, gives_again, names_more, ExtReadFault, UseName, ExtLine, Use, use_line, grid_in, with_elements}
+use Rattle.ext_reading.proofs.Common.{with_allowed, with_use_said, with_words}
+use Rattle.ext_reading.specs.ExtTexts.{with_use_name}
 use Rattle.ext_reading.proofs.Outcomes.{Each}
 
 -- the names so far stay

@@ -1,12 +1,10 @@
 -- Paths by their names.
-use Rattle.std.proofs.Common.{◌≡◌, ◌<◌, ◌≤◌, ◌+◌, ◌-◌, ◌==◌, ℕ, Bool, true, false, cond, List, [], ◌∷◌, length, refl, sym, ap, ◌∙◌, arith, take, drop}
-use Rattle.std.specs.Prelude.{Some, None, nat_lt}
-use Rattle.std.specs.List.{position, position_or_len, slice_split, before_first, after_first}
-use Rattle.std.proofs.lemmas.Bool.Decides.{nat_tests}
+use Rattle.ext_reading.proofs.Common.{◌≡◌, ◌<◌, ◌≤◌, ◌+◌, ◌-◌, ◌==◌, ℕ, Bool, true, false, cond, List, [], ◌∷◌, length, refl, sym, ap, ◌∙◌, arith}
+use Rattle.ext_reading.proofs.Common.{take, drop, Some, None, nat_lt, position, position_or_len, before_first, nat_tests, slice_split_first}
+use Rattle.ext_reading.proofs.Common.{slice_split_none, before, behind}
+use Rattle.std.specs.List.{slice_split, after_first}
 use Rattle.std.proofs.lemmas.List.{take_all, take_rest, drop_all}
-use Rattle.std.proofs.lemmas.List.Splits.{slice_split_first, slice_split_none}
 use Rattle.std.proofs.lemmas.List.Sums.{fails_before_first}
-use Rattle.ext_model.specs.Plain.{before, behind}
 use Rattle.ext_model.proofs.CutLaws.{behind-after}
 
 place_is : (test : Bool) (k i : ℕ) → cond test (Some k) None ≡ Some i → (test ≡ true) × (k ≡ i)

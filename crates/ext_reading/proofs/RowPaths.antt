@@ -1,27 +1,17 @@
 -- The second paths of a row of merges: each is of its form, and where each leads.
-use Rattle.std.proofs.Common.{◌≡◌, ◌≤◌, ◌<◌, ◌&&◌, ◌==◌, ℕ, zero, suc, ℤ, pos, ◌+ℤ◌, Bool, true, false, cond, Option, List, [], ◌∷◌, ◌++◌}
-use Rattle.std.proofs.Common.{refl, sym, ap, ◌∙◌, subst, arith, inl, inr, append_assoc, IsTrue, length, length-append}
-use Rattle.std.specs.Prelude.{Some, None, All, nat_le}
-use Rattle.std.specs.List.{list_all, before_first, range_with_len}
-use Rattle.std.proofs.lemmas.Bool.{and_parts, and_from, le-leb, eq-eqb}
-use Rattle.std.proofs.lemmas.List.Folds.{list_all-append}
-use Rattle.std.proofs.lemmas.List.Splits.{slice_split_at}
-use Rattle.finite_sets.proofs.Searches.{All-from_In}
-use Rattle.geo_core.specs.Elements.{indices}
-use Rattle.text_scan.specs.Decimal.{decimal}
-use Rattle.ext_model.specs.declared.names.TheConstants.{SLASH}
-use Rattle.ext_model.specs.ElementNames.{is_use_id, indexed_name}
+use Rattle.ext_reading.proofs.Common.{◌≡◌, ◌≤◌, ◌<◌, ◌&&◌, ◌==◌, ℕ, zero, suc, ℤ, pos, Bool, true, false, cond, Option, List, [], ◌∷◌, ◌++◌, refl}
+use Rattle.ext_reading.proofs.Common.{sym, ap, ◌∙◌, subst, arith, inl, inr, append_assoc, IsTrue, length, length-append, Some, None, All, nat_le}
+use Rattle.ext_reading.proofs.Common.{list_all, before_first, range_with_len, and_parts, le-leb, list_all-append, slice_split_at, All-from_In}
+use Rattle.ext_reading.proofs.Common.{indices, decimal, SLASH, is_use_id, indexed_name, is_word_byte, is_word, slashes_in, is_node_name, raised}
+use Rattle.ext_reading.proofs.Common.{Lacks, is_among, ElementRange, is_slash, is_path, leads, all_lead, IsElementRange, range_path, range_in}
+use Rattle.ext_reading.proofs.Common.{second_of, count_of}
+use Rattle.std.proofs.Common.{◌+ℤ◌}
+use Rattle.std.proofs.lemmas.Bool.{and_from, eq-eqb}
 use Rattle.ext_model.specs.LawfulArrays.{BeginsIndexed}
-use Rattle.ext_model.specs.NodeNames.{is_word_byte, is_word, slashes_in, is_node_name}
-use Rattle.ext_model.specs.Plain.{raised}
 use Rattle.ext_model.proofs.ElementForms.{id_form, indexed_form}
 use Rattle.ext_model.proofs.IndexedNames.{id_whole, number_whole}
-use Rattle.ext_model.proofs.TextCuts.{Lacks, lacks-append, no_slashes}
-use Rattle.element_index.specs.GivenNames.{is_among}
+use Rattle.ext_model.proofs.TextCuts.{lacks-append, no_slashes}
 use Rattle.ext_reading.specs.declared.lines.Version as lines
-use Rattle.ext_reading.specs.declared.lines.ElementRange.{ElementRange}
-use Rattle.ext_reading.specs.Parts.{is_slash, is_path}
-use Rattle.ext_reading.specs.Drafts.{leads, all_lead, IsElementRange, range_path, range_in, second_of, count_of}
 use Rattle.ext_reading.proofs.Outcomes.{Each}
 use Rattle.ext_reading.proofs.UseNames.{range_in-is, raised-is}
 use Rattle.ext_reading.proofs.WrittenPaths.{no_slash, slashed, first_name_is}

@@ -1,37 +1,12 @@
 -- What a circuit file has said so far is sound: each line keeps it so.
-use Rattle.std.proofs.Common.{◌≡◌, ◌<◌, ◌+◌, ◌*◌, ◌==◌, ◌&&◌, ◌||◌, ℕ, ℤ, Bool, true, false, not, Option, List, [], ◌∷◌, ◌++◌}
-use Rattle.std.proofs.Common.{length, refl, arith}
-use Rattle.std.specs.Prelude.{sum_by}
-use Rattle.std.specs.Int.RustNames.{unsigned_abs}
-use Rattle.std.specs.List.{list_all}
-use Rattle.std.proofs.lemmas.Bool.{and_parts}
-use Rattle.std.proofs.lemmas.Bool.Decides.{nat_tests}
-use Rattle.std.proofs.lemmas.Slice.Eq.{bytes_eq-Decides}
-use Rattle.std.specs.Str.{bytes_eq}
-use Rattle.finite_sets.proofs.Searches.{list_all-In, In-from_list_any}
-use Rattle.ext_model.specs.declared.limits.TheConstants.{LENGTHS_EDGE}
-use Rattle.ext_model.specs.declared.records.TermRec.{TermRec}
-use Rattle.ext_model.specs.declared.records.FetRec.{FetRec}
-use Rattle.ext_model.specs.declared.arrays.MergeRow.{MergeRow}
-use Rattle.ext_model.specs.NodeNames.{is_word}
-use Rattle.ext_model.specs.Lawful.{IsMeasure, AreMeasures}
-use Rattle.ext_model.specs.LawfulArrays.{IsMergeRow}
-use Rattle.ext_model.specs.Plain.{raised}
-use Rattle.element_index.specs.GivenNames.{is_among}
-use Rattle.ext_reading.specs.declared.faults.ExtReadFault.TheVariants.{BadLine, NoHeader, NoName}
-use Rattle.ext_reading.specs.declared.limits.TheConstants.{LONGEST_READ_TEXT}
-use Rattle.ext_reading.specs.declared.lines.FetLine.{FetLine}
-use Rattle.ext_reading.specs.declared.lines.MergeLine.{MergeLine}
-use Rattle.ext_reading.specs.declared.lines.ElementRange.{ElementRange}
-use Rattle.ext_reading.specs.declared.lines.ExtLine.{ExtLine}
-use Rattle.ext_reading.specs.declared.lines.ExtLine.TheVariants.{Nothing, Header, Use, Node, Equiv, Fet, Merge}
-use Rattle.ext_reading.specs.Parts.{is_path}
-use Rattle.ext_reading.specs.Ranges.{measure_in, measures_in, point_in, term_in, terms_from}
-use Rattle.ext_reading.specs.declared.outlines.Outline.{Outline}
-use Rattle.ext_reading.specs.Drafts.{Draft, is_incomplete}
-use Rattle.ext_reading.specs.Drafts.{fet_from}
-use Rattle.ext_reading.specs.Drafts.{has_its_nodes, takes_fet, leads, all_lead, range_in, merge_from, elements_known, takes_merge, takes_record, has_measures}
-use Rattle.ext_reading.specs.Drafts.{fits_classes, fits_version, takes_body, takes}
+use Rattle.ext_reading.proofs.Common.{◌≡◌, ◌<◌, ◌+◌, ◌*◌, ◌==◌, ◌&&◌, ◌||◌, ℕ, ℤ, Bool, true, false, not, Option, List, [], ◌∷◌, ◌++◌, length, refl}
+use Rattle.ext_reading.proofs.Common.{arith, sum_by, unsigned_abs, list_all, and_parts, nat_tests, bytes_eq-Decides, bytes_eq, list_all-In}
+use Rattle.ext_reading.proofs.Common.{In-from_list_any, LENGTHS_EDGE, TermRec, FetRec, MergeRow, is_word, IsMeasure, AreMeasures, IsMergeRow, raised}
+use Rattle.ext_reading.proofs.Common.{is_among, BadLine, NoHeader, NoName, LONGEST_READ_TEXT, FetLine, MergeLine, ElementRange, ExtLine, Nothing}
+use Rattle.ext_reading.proofs.Common.{Header, Use, Node, Equiv, Fet, Merge, is_path, measure_in, measures_in, point_in, term_in, terms_from, Outline}
+use Rattle.ext_reading.proofs.Common.{Draft, is_incomplete, fet_from, has_its_nodes, leads, all_lead, range_in, merge_from, elements_known}
+use Rattle.ext_reading.proofs.Common.{takes_record, fits_classes, fits_version, takes_body, takes}
+use Rattle.ext_reading.specs.Drafts.{takes_fet, takes_merge, has_measures}
 use Rattle.ext_reading.proofs.Outcomes.{OkHas, next_has, passed_has, failed_has, Each, each_none, each_push}
 use Rattle.ext_reading.proofs.LawfulLines.{IsFormedFet, IsFormedMerge, IsFormed}
 use Rattle.ext_reading.proofs.LawfulDrafts.{measure_in-has, AreCounted, measures_in-has, IsPoint, point_in-has}

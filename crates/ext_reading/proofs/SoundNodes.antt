@@ -1,32 +1,15 @@
 -- Nodes and their other names keep what was read sound.
-use Rattle.std.proofs.Common.{◌≡◌, ◌<◌, ◌*◌, ◌||◌, ℕ, zero, suc, Bool, true, false, cond, Option, List, [], ◌∷◌, ◌++◌}
-use Rattle.std.proofs.Common.{length, refl, sym, ap, ◌∙◌, subst, arith, inl, inr, length-append, append_assoc}
-use Rattle.std.specs.Prelude.{Some, None, slice_index, All}
-use Rattle.std.specs.List.{list_any, position, before_first, range_with_len}
-use Rattle.std.specs.Str.{bytes_eq}
+use Rattle.ext_reading.proofs.Common.{◌≡◌, ◌<◌, ◌*◌, ◌||◌, ℕ, zero, suc, Bool, true, false, cond, Option, List, [], ◌∷◌, ◌++◌, length, refl, sym, ap}
+use Rattle.ext_reading.proofs.Common.{◌∙◌, subst, arith, inl, inr, length-append, append_assoc, Some, None, slice_index, All, list_any, position}
+use Rattle.ext_reading.proofs.Common.{before_first, range_with_len, bytes_eq, bytes_eq-Decides, In, Distinct, In-append_left, In-push, In-push_cases}
+use Rattle.ext_reading.proofs.Common.{In-get_or, All-from_In, list_all-In, list_all-from_In, NodeRec, FetRec, MergeRow, is_node_name, names_of}
+use Rattle.ext_reading.proofs.Common.{IsMeasure, IsLawfulNode, raised, is_among, NameTwice, NodeLine, is_slash, short_in, measure_in, measures_in}
+use Rattle.ext_reading.proofs.Common.{Outline, Draft, node_from, takes_alias, leads, all_lead, elements_known}
 use Rattle.std.proofs.lemmas.Grind.{flat_map-append}
 use Rattle.std.proofs.lemmas.List.Quantifiers.{position-Some}
-use Rattle.std.proofs.lemmas.Slice.Eq.{bytes_eq-Decides}
-use Rattle.finite_sets.specs.Lists.{In, Distinct}
-use Rattle.finite_sets.proofs.Members.{In-append_left, In-push, In-push_cases, In-get_or}
 use Rattle.finite_sets.proofs.Distincts.{Distinct-push, In-cut, In-cut_cases, In-cut_rest}
-use Rattle.finite_sets.proofs.Searches.{All-from_In, absent-from_list_any, list_all-In, list_all-from_In}
-use Rattle.ext_model.specs.declared.records.NodeRec.{NodeRec}
-use Rattle.ext_model.specs.declared.records.FetRec.{FetRec}
-use Rattle.ext_model.specs.declared.arrays.MergeRow.{MergeRow}
-use Rattle.ext_model.specs.NodeNames.{is_node_name}
-use Rattle.ext_model.specs.RecordNames.{names_of}
-use Rattle.ext_model.specs.Lawful.{IsMeasure, IsLawfulNode}
-use Rattle.ext_model.specs.Plain.{raised}
-use Rattle.element_index.specs.GivenNames.{is_among}
-use Rattle.ext_reading.specs.declared.faults.ExtReadFault.TheVariants.{NameTwice}
-use Rattle.ext_reading.specs.declared.lines.NodeLine.{NodeLine}
-use Rattle.ext_reading.specs.Parts.{is_slash}
-use Rattle.ext_reading.specs.Ranges.{short_in, measure_in, measures_in}
-use Rattle.ext_reading.specs.declared.outlines.Outline.{Outline}
-use Rattle.ext_reading.specs.Drafts.{Draft}
-use Rattle.ext_reading.specs.Drafts.{node_from, with_node, takes_node, named_too, with_alias_at, with_alias, takes_alias, takes_equiv}
-use Rattle.ext_reading.specs.Drafts.{leads, all_lead, elements_known}
+use Rattle.finite_sets.proofs.Searches.{absent-from_list_any}
+use Rattle.ext_reading.specs.Drafts.{with_node, takes_node, named_too, with_alias_at, with_alias, takes_equiv}
 use Rattle.ext_reading.proofs.Outcomes.{OkHas, next_has, given_has, failed_has, Each, each_push}
 use Rattle.ext_reading.proofs.LawfulLines.{IsFormedNode}
 use Rattle.ext_reading.proofs.LawfulDrafts.{short_in-Ok, measure_in-has, AreCounted, measures_in-has}

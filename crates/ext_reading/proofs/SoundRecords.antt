@@ -1,35 +1,14 @@
 -- When what a circuit file has said so far is sound; lines of the header and of uses keep it so.
-use Rattle.std.proofs.Common.{◌≡◌, ◌≤◌, ◌<◌, ◌&&◌, ℕ, ℤ, Bool, true, false, List, [], ◌∷◌, ◌++◌}
-use Rattle.std.proofs.Common.{length, map, sym, ap, ◌∙◌, subst}
-use Rattle.std.specs.Prelude.{nat_lt, sum_by, Some}
-use Rattle.std.specs.Int.RustNames.{unsigned_abs}
-use Rattle.std.specs.List.{flat_map}
-use Rattle.std.proofs.lemmas.List.{map-append}
-use Rattle.finite_sets.specs.Lists.{In, Distinct}
-use Rattle.finite_sets.proofs.Searches.{All-from_In}
-use Rattle.text_scan.specs.PlainNames.{is_plain_name}
-use Rattle.ext_model.specs.declared.limits.TheConstants.{MOST_CLASSES, LENGTHS_EDGE}
-use Rattle.ext_model.specs.declared.records.NodeRec.{NodeRec}
-use Rattle.ext_model.specs.declared.records.FetRec.{FetRec}
-use Rattle.ext_model.specs.declared.arrays.ArrayUse.{ArrayUse}
-use Rattle.ext_model.specs.declared.arrays.MergeRow.{MergeRow}
-use Rattle.ext_model.specs.NodeNames.{is_word}
-use Rattle.ext_model.specs.RecordNames.{names_of}
-use Rattle.ext_model.specs.Lawful.{IsMeasure, AreMeasures, IsLawfulNode}
-use Rattle.ext_model.specs.LawfulArrays.{HasIdForm, IsArrayUse, IsMergeRow}
-use Rattle.ext_model.specs.Plain.{raised}
+use Rattle.ext_reading.proofs.Common.{◌≡◌, ◌≤◌, ◌<◌, ◌&&◌, ℕ, ℤ, Bool, true, false, List, [], ◌∷◌, ◌++◌, length, map, sym, ap, ◌∙◌, subst, nat_lt}
+use Rattle.ext_reading.proofs.Common.{sum_by, Some, unsigned_abs, flat_map, map-append, In, Distinct, All-from_In, is_plain_name, MOST_CLASSES}
+use Rattle.ext_reading.proofs.Common.{LENGTHS_EDGE, NodeRec, FetRec, ArrayUse, MergeRow, is_word, names_of, IsMeasure, AreMeasures, IsLawfulNode}
+use Rattle.ext_reading.proofs.Common.{HasIdForm, IsArrayUse, IsMergeRow, raised, gives_again, BadLine, NoHeader, NameTwice, Range, UseTwice}
+use Rattle.ext_reading.proofs.Common.{MOST_USES, HeaderLine, Tech, Timestamp, Version, Style, Scale, Classes, UseLine, is_path, class_values_in}
+use Rattle.ext_reading.proofs.Common.{grid_in, six_in, Outline, Draft, is_incomplete, was_seen, with_seen, is_other_version, with_header}
+use Rattle.ext_reading.proofs.Common.{takes_header, takes_use, elements_of, leads, all_lead, elements_known}
 use Rattle.element_index.specs.GivenNames as given_names
-use Rattle.element_index.specs.GivenNames.{gives_again}
-use Rattle.ext_reading.specs.declared.faults.ExtReadFault.TheVariants.{BadLine, NoHeader, Version as OtherVersion, NameTwice, Range, UseTwice}
-use Rattle.ext_reading.specs.declared.limits.TheConstants.{MOST_USES}
-use Rattle.ext_reading.specs.declared.lines.HeaderLine.{HeaderLine}
-use Rattle.ext_reading.specs.declared.lines.HeaderLine.TheVariants.{Tech, Timestamp, Version, Style, Scale, Classes}
-use Rattle.ext_reading.specs.declared.lines.UseLine.{UseLine}
-use Rattle.ext_reading.specs.Parts.{is_path}
-use Rattle.ext_reading.specs.Ranges.{class_values_in, grid_in, six_in}
-use Rattle.ext_reading.specs.declared.outlines.Outline.{Outline}
-use Rattle.ext_reading.specs.Drafts.{Draft, is_incomplete, was_seen, with_seen, is_other_version, with_header, takes_header, with_use, takes_use}
-use Rattle.ext_reading.specs.Drafts.{elements_of, leads, all_lead, elements_known}
+use Rattle.ext_reading.specs.declared.faults.ExtReadFault.TheVariants.{Version as OtherVersion}
+use Rattle.ext_reading.specs.Drafts.{with_use}
 use Rattle.ext_reading.proofs.Outcomes.{OkHas, next_has, passed_has, failed_has, Each, each_none, each_push}
 use Rattle.ext_reading.proofs.ElementIds.{distinct_push}
 use Rattle.ext_reading.proofs.LawfulLines.{IsFormedHeader, IsFormedUse}

@@ -1,27 +1,14 @@
 -- What the name of a use and the path of a range tell, and the names of the elements of a range.
-use Rattle.std.proofs.Common.{◌≡◌, ◌&&◌, ◌||◌, ℕ, zero, suc, ℤ, pos, ◌+ℤ◌, Bool, true, false, cond, Option, List, [], ◌∷◌, ◌++◌, Result, Ok, Err}
-use Rattle.std.proofs.Common.{FitsSigned, refl, sym, ap, ◌∙◌, arith, inl, inr, append_assoc, IsTrue}
-use Rattle.std.specs.Prelude.{Some, None, int_lt, ◌<ℤ◌}
-use Rattle.std.specs.Int.{w32, w64}
-use Rattle.std.specs.Str.{bytes_eq}
-use Rattle.std.proofs.lemmas.Bool.{and_parts}
-use Rattle.std.proofs.lemmas.Int.{ints}
-use Rattle.std.proofs.lemmas.Slice.Eq.{bytes_eq-Decides}
-use Rattle.text_scan.specs.Decimal.{decimal}
+use Rattle.ext_reading.proofs.Common.{◌≡◌, ◌&&◌, ◌||◌, ℕ, zero, suc, ℤ, pos, Bool, true, false, cond, Option, List, [], ◌∷◌, ◌++◌, Result, Ok, Err}
+use Rattle.ext_reading.proofs.Common.{FitsSigned, refl, sym, ap, ◌∙◌, arith, inl, inr, append_assoc, IsTrue, Some, None, int_lt, ◌<ℤ◌, w32, bytes_eq}
+use Rattle.ext_reading.proofs.Common.{and_parts, ints, bytes_eq-Decides, decimal, is_use_id, indexed_name, IsIndexed, before, behind, index_of}
+use Rattle.ext_reading.proofs.Common.{first_index, raised, id_plain, number_comma, before-cut, behind-cut, ExtReadFault, BadLine, One, Two, Other}
+use Rattle.ext_reading.proofs.Common.{UseName, ElementRange, is_short, is_indexed, HasNameForm, span_in, array_in, use_name_in, IsElementRange}
+use Rattle.ext_reading.proofs.Common.{range_path, is_range, range_parts, range_of, range_in}
+use Rattle.std.proofs.Common.{◌+ℤ◌}
+use Rattle.std.specs.Int.{w64}
 use Rattle.text_scan.proofs.DecimalLemmas.{number_of-decimal}
-use Rattle.ext_model.specs.ElementNames.{is_use_id, indexed_name, IsIndexed}
-use Rattle.ext_model.specs.Plain.{before, behind, index_of, first_index, raised}
-use Rattle.ext_model.proofs.IndexedNames.{id_plain, number_comma}
-use Rattle.ext_model.proofs.CutLaws.{before-cut, behind-cut}
-use Rattle.ext_reading.specs.declared.faults.ExtReadFault.{ExtReadFault}
-use Rattle.ext_reading.specs.declared.faults.ExtReadFault.TheVariants.{BadLine}
 use Rattle.ext_reading.specs.declared.lines.Version as lines
-use Rattle.ext_reading.specs.declared.lines.Version.TheVariants.{One, Two, Other}
-use Rattle.ext_reading.specs.declared.lines.UseName.{UseName}
-use Rattle.ext_reading.specs.declared.lines.ElementRange.{ElementRange}
-use Rattle.ext_reading.specs.Parts.{is_short, is_indexed}
-use Rattle.ext_reading.specs.LineForms.{HasNameForm, span_in, array_in, use_name_in}
-use Rattle.ext_reading.specs.Drafts.{IsElementRange, range_path, is_range, range_parts, range_of, range_in}
 use Rattle.ext_reading.proofs.Outcomes.{OkHas, given_has, passed_has}
 
 -- a number in its range

@@ -1,33 +1,17 @@
 -- A record is read back from its written text.
-use Rattle.std.proofs.Common.{◌≡◌, ◌≤◌, ◌+◌, ℕ, Bool, true, false, List, [], ◌∷◌, ◌++◌, length, map, Ok, refl, sym, ap, ◌∙◌, subst, arith}
-use Rattle.std.proofs.Common.{length-append}
-use Rattle.std.specs.Prelude.{codes, fold}
-use Rattle.std.specs.List.{AllByRecursion, flat_map}
-use Rattle.std.proofs.lemmas.List.{map-append, length-map}
+use Rattle.ext_reading.proofs.Common.{◌≡◌, ◌≤◌, ◌+◌, ℕ, Bool, true, false, List, [], ◌∷◌, ◌++◌, length, map, Ok, refl, sym, ap, ◌∙◌, subst, arith}
+use Rattle.ext_reading.proofs.Common.{length-append, codes, fold, AllByRecursion, flat_map, map-append, length-map, In, Distinct, lines_of, IsWord}
+use Rattle.ext_reading.proofs.Common.{line_of, IsWord-test, first_fault_or, text_state, and_then, NodeRec, FetRec, ArrayExt, is_word, is_node_name}
+use Rattle.ext_reading.proofs.Common.{IsLawfulArrayExt, plain, node_names, element_names, UseElements, node_lines, GREATEST_CLASS_VALUE, Outline}
+use Rattle.ext_reading.proofs.Common.{elements_of, has_its_nodes, step, finish, nothing_yet, with_line, IsReadable}
 use Rattle.std.proofs.lemmas.List.Sums.{fold-append}
-use Rattle.finite_sets.specs.Lists.{In, Distinct}
 use Rattle.finite_sets.proofs.Searches.{AllByRecursion-append}
-use Rattle.text_scan.specs.Lines.{lines_of}
-use Rattle.text_scan.specs.Written.{IsWord, IsLine, line_of}
-use Rattle.text_scan.proofs.WrittenLemmas.{IsWord-test, lines_of-text_of, IsLine-line_of}
-use Rattle.text_form.specs.Folds.{first_fault_or, text_state}
-use Rattle.text_form.specs.SaidLines.{and_then}
+use Rattle.text_scan.specs.Written.{IsLine}
+use Rattle.text_scan.proofs.WrittenLemmas.{lines_of-text_of, IsLine-line_of}
 use Rattle.text_form.proofs.FoldLaws.{first_fault_or-append, text_state-ended}
-use Rattle.ext_model.specs.declared.records.NodeRec.{NodeRec}
-use Rattle.ext_model.specs.declared.records.FetRec.{FetRec}
-use Rattle.ext_model.specs.declared.arrays.ArrayExt.{ArrayExt}
-use Rattle.ext_model.specs.NodeNames.{is_word, is_node_name}
-use Rattle.ext_model.specs.LawfulArrays.{IsLawfulArrayExt}
-use Rattle.ext_model.specs.Plain.{plain}
-use Rattle.ext_model.specs.RecordNames.{node_names, element_names}
-use Rattle.element_index.specs.declared.uses.UseElements.{UseElements}
 use Rattle.element_index.specs.GivenNames as given_names
-use Rattle.ext_text.specs.WrittenTexts.{header_words, use_words, equiv_words, node_lines, fet_words, merge_words, ext_lines, lines_text, ext_text}
-use Rattle.ext_reading.specs.declared.limits.TheConstants.{GREATEST_CLASS_VALUE}
-use Rattle.ext_reading.specs.declared.outlines.Outline.{Outline}
-use Rattle.ext_reading.specs.Drafts.{elements_of, has_its_nodes, step, finish, nothing_yet}
-use Rattle.ext_reading.specs.ExtTexts.{with_line, outline_of, draft_in, record_of, ext_in}
-use Rattle.ext_reading.specs.ReadBack.{IsReadable}
+use Rattle.ext_text.specs.WrittenTexts.{header_words, use_words, equiv_words, fet_words, merge_words, ext_lines, lines_text, ext_text}
+use Rattle.ext_reading.specs.ExtTexts.{outline_of, draft_in, record_of, ext_in}
 use Rattle.ext_reading.proofs.Outcomes.{Each, each_of_All, by_recursion}
 use Rattle.ext_reading.proofs.WrittenWords.{IsWord-word, words-values}
 use Rattle.ext_reading.proofs.WrittenLines.{words_node, words_equiv, IsWrittenFet, words_fet, words_merge}

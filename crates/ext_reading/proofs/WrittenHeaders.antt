@@ -1,28 +1,12 @@
 -- A written header is read back.
-use Rattle.std.proofs.Common.{◌≡◌, ◌≤◌, ◌<◌, ◌==◌, ℕ, Bool, true, false, cond, List, [], ◌∷◌, length, map, Ok, Err, refl, ap, ◌∙◌, arith}
-use Rattle.std.specs.Prelude.{codes, pos, nat_le, Option, Some, None}
-use Rattle.std.specs.List.{AllByRecursion}
-use Rattle.std.proofs.lemmas.Bool.Decides.{nat_tests}
-use Rattle.std.proofs.lemmas.List.{length-map}
-use Rattle.text_scan.specs.Decimal.{decimal}
-use Rattle.text_scan.specs.Written.{IsWord, line_of}
-use Rattle.text_scan.proofs.WrittenLemmas.{IsWord-test}
-use Rattle.text_form.specs.Folds.{first_fault_or}
-use Rattle.ext_model.specs.declared.limits.TheConstants.{MOST_CLASSES}
-use Rattle.ext_model.specs.NodeNames.{is_word}
+use Rattle.ext_reading.proofs.Common.{◌≡◌, ◌≤◌, ◌<◌, ◌==◌, ℕ, Bool, true, false, cond, List, [], ◌∷◌, length, map, Ok, Err, refl, ap, ◌∙◌, arith}
+use Rattle.ext_reading.proofs.Common.{codes, nat_le, Some, None, AllByRecursion, nat_tests, length-map, decimal, IsWord, line_of, IsWord-test}
+use Rattle.ext_reading.proofs.Common.{first_fault_or, MOST_CLASSES, is_word, Range, GREATEST_CLASS_VALUE, Seen, Two, HeaderLine, Tech, Timestamp}
+use Rattle.ext_reading.proofs.Common.{Version, Style, Scale, Classes, Header, Outline, words_say, class_values_from, class_values_in, Draft}
+use Rattle.ext_reading.proofs.Common.{nothing_yet, takes, step}
+use Rattle.std.specs.Prelude.{pos, Option}
 use Rattle.ext_text.specs.WrittenTexts.{header_words}
-use Rattle.ext_reading.specs.declared.faults.ExtReadFault.TheVariants.{Range}
-use Rattle.ext_reading.specs.declared.limits.TheConstants.{GREATEST_CLASS_VALUE}
-use Rattle.ext_reading.specs.declared.lines.Seen.{Seen}
 use Rattle.ext_reading.specs.declared.lines.Version as lines
-use Rattle.ext_reading.specs.declared.lines.Version.TheVariants.{Two}
-use Rattle.ext_reading.specs.declared.lines.HeaderLine.{HeaderLine}
-use Rattle.ext_reading.specs.declared.lines.HeaderLine.TheVariants.{Tech, Timestamp, Version, Style, Scale, Classes}
-use Rattle.ext_reading.specs.declared.lines.ExtLine.TheVariants.{Header}
-use Rattle.ext_reading.specs.declared.outlines.Outline.{Outline}
-use Rattle.ext_reading.specs.LineForms.{words_say}
-use Rattle.ext_reading.specs.Ranges.{class_values_from, class_values_in}
-use Rattle.ext_reading.specs.Drafts.{Draft, nothing_yet, takes, step}
 use Rattle.ext_reading.proofs.WrittenWords.{IsWord-word, values_said, words-values, class_values_from-values}
 use Rattle.ext_reading.proofs.WrittenLines.{says_tech, says_classes}
 use Rattle.ext_reading.proofs.WrittenSteps.{made, step_is}

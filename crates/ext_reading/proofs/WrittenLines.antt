@@ -1,42 +1,17 @@
 -- Lines as they are written say what they were written from.
-use Rattle.std.proofs.Common.{◌≡◌, ◌≤◌, ◌&&◌, subst, inl, inr, length-append, ℕ, ℤ, Bool, true, false, cond, List, [], ◌∷◌, ◌++◌, map, Ok, Err}
-use Rattle.std.proofs.Common.{FitsSigned, refl, ap, ◌∙◌, arith}
-use Rattle.std.specs.Prelude.{Option, Some, None, pos, ◌+ℤ◌, ◌<ℤ◌, codes}
-use Rattle.std.specs.Int.{w32}
-use Rattle.std.specs.List.{AllByRecursion, flat_map, list_all}
-use Rattle.std.proofs.lemmas.Bool.Decides.{Decides-int_eq}
-use Rattle.std.proofs.lemmas.Int.{ints}
-use Rattle.finite_sets.proofs.Members.{In-append_cases}
-use Rattle.finite_sets.proofs.Searches.{All-from_In}
-use Rattle.text_scan.specs.Decimal.{decimal}
-use Rattle.text_scan.specs.PlainNames.{is_plain_name}
-use Rattle.text_scan.specs.Written.{is_separator, IsWord}
-use Rattle.text_scan.proofs.WrittenLemmas.{IsWord-decimal, IsWord-test}
-use Rattle.ext_model.specs.declared.limits.TheConstants.{FET_EDGE}
-use Rattle.ext_model.specs.declared.records.NodeRec.{NodeRec}
-use Rattle.ext_model.specs.declared.records.FetRec.{FetRec}
-use Rattle.ext_model.specs.declared.arrays.MergeRow.{MergeRow}
-use Rattle.ext_model.specs.NodeNames.{is_word_byte, is_word, is_node_name}
-use Rattle.ext_model.specs.Lawful.{IsMeasure}
-use Rattle.ext_model.specs.LawfulArrays.{HasIdForm}
+use Rattle.ext_reading.proofs.Common.{◌≡◌, ◌≤◌, ◌&&◌, subst, inl, inr, length-append, ℕ, ℤ, Bool, true, false, cond, List, [], ◌∷◌, ◌++◌, map, Ok}
+use Rattle.ext_reading.proofs.Common.{Err, FitsSigned, refl, ap, ◌∙◌, arith, Some, None, ◌+ℤ◌, ◌<ℤ◌, codes, w32, AllByRecursion, flat_map, list_all}
+use Rattle.ext_reading.proofs.Common.{Decides-int_eq, ints, In-append_cases, All-from_In, decimal, is_plain_name, is_separator, IsWord}
+use Rattle.ext_reading.proofs.Common.{IsWord-decimal, IsWord-test, FET_EDGE, NodeRec, FetRec, MergeRow, is_word_byte, is_word, is_node_name}
+use Rattle.ext_reading.proofs.Common.{IsMeasure, HasIdForm, Grid, and_then, quoted, measure_words, node_words, use_name, term_words, row_path}
+use Rattle.ext_reading.proofs.Common.{range_of, second_of, count_of, BadLine, GREATEST_CLASS_VALUE, Corners, UseLine, NodeLine, FetLine, MergeLine}
+use Rattle.ext_reading.proofs.Common.{Tech, Classes, Header, Use, Node, Equiv, Fet, Merge, is_path, is_next, if_formed, word_in, cell_in}
+use Rattle.ext_reading.proofs.Common.{substrate_in, node_name_in, path_in, numerals_in, use_name_in, side_in, sides_from, words_say}
+use Rattle.std.specs.Prelude.{Option, pos}
 use Rattle.ext_model.proofs.ElementForms.{id_form, whole_form}
-use Rattle.geo_core.specs.declared.grids.Grid.{Grid}
-use Rattle.text_form.specs.SaidLines.{and_then}
-use Rattle.ext_text.specs.NodeLines.{quoted, measure_words, node_words}
-use Rattle.ext_text.specs.WrittenTexts.{span_text, use_name, equiv_words, term_words, fet_words, row_path, merge_words}
-use Rattle.ext_reading.specs.Drafts.{range_of, second_of, count_of}
-use Rattle.ext_reading.specs.declared.faults.ExtReadFault.TheVariants.{BadLine}
-use Rattle.ext_reading.specs.declared.limits.TheConstants.{GREATEST_CLASS_VALUE}
-use Rattle.ext_reading.specs.declared.lines.Corners.{Corners}
-use Rattle.ext_reading.specs.declared.lines.UseLine.{UseLine}
-use Rattle.ext_reading.specs.declared.lines.NodeLine.{NodeLine}
-use Rattle.ext_reading.specs.declared.lines.FetLine.{FetLine}
-use Rattle.ext_reading.specs.declared.lines.MergeLine.{MergeLine}
-use Rattle.ext_reading.specs.declared.lines.HeaderLine.TheVariants.{Tech, Classes}
-use Rattle.ext_reading.specs.declared.lines.ExtLine.TheVariants.{Header, Use, Node, Equiv, Fet, Merge}
-use Rattle.ext_reading.specs.Parts.{is_path, is_next, if_formed, word_in, cell_in, substrate_in, node_name_in, path_in, numerals_in}
-use Rattle.ext_reading.specs.LineForms.{six_numerals, use_name_in, side_in, sides_from}
-use Rattle.ext_reading.specs.LineForms.{if_corners, corners_in, words_say}
+use Rattle.ext_text.specs.WrittenTexts.{span_text, equiv_words, fet_words, merge_words}
+use Rattle.ext_reading.specs.LineForms.{six_numerals}
+use Rattle.ext_reading.specs.LineForms.{if_corners, corners_in}
 use Rattle.ext_reading.proofs.WrittenWords.{IsWord-word, IsWord-plain, IsWord-quoted, node_name_word, word_bytes, unquoted-quoted, formed, node_name_in-quoted}
 use Rattle.ext_reading.proofs.WrittenWords.{numeral_in-measure, numeral_in-short, IsMeasured, numerals_of, numerals_from-measures, words-measures}
 use Rattle.ext_reading.proofs.WrittenWords.{values_said, numerals_from-values, IsWrittenTerm, side_said, side_in-term, sides_from-terms, words-term}

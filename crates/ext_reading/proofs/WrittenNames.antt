@@ -1,37 +1,17 @@
 -- Names of uses and ranges as they are written are read as what they were written from.
-use Rattle.std.proofs.Common.{◌≡◌, ◌⊎◌, ◌<◌, ◌&&◌, ◌||◌, ◌==◌, ℕ, ℤ, pos, ◌+ℤ◌, Bool, true, false, cond, Option, List, [], ◌∷◌}
-use Rattle.std.proofs.Common.{◌++◌, Result, Ok, Err, FitsSigned, refl, sym, ap, ◌∙◌, subst, arith, inl, inr, append_assoc, IsTrue}
-use Rattle.std.specs.Prelude.{Some, None, ◌-ℤ◌, ◌<ℤ◌, int_lt, nat_le}
-use Rattle.std.specs.Int.{w32}
-use Rattle.std.specs.Str.{bytes_eq}
-use Rattle.std.specs.List.{list_any}
-use Rattle.std.proofs.lemmas.Bool.{and_from, ne_eqb, true≢false, false_from_ne_true}
-use Rattle.std.proofs.lemmas.Bool.Decides.{nat_tests}
-use Rattle.std.proofs.lemmas.Int.{ints}
-use Rattle.std.proofs.lemmas.List.Folds.{list_any_none}
-use Rattle.std.proofs.lemmas.Slice.Eq.{bytes_eq-Decides}
-use Rattle.text_scan.specs.Decimal.{decimal}
+use Rattle.ext_reading.proofs.Common.{◌≡◌, ◌⊎◌, ◌<◌, ◌&&◌, ◌||◌, ◌==◌, ℕ, ℤ, pos, Bool, true, false, cond, Option, List, [], ◌∷◌, ◌++◌, Result, Ok}
+use Rattle.ext_reading.proofs.Common.{Err, FitsSigned, refl, sym, ap, ◌∙◌, subst, arith, inl, inr, append_assoc, IsTrue, Some, None, ◌-ℤ◌, ◌<ℤ◌}
+use Rattle.ext_reading.proofs.Common.{int_lt, nat_le, w32, bytes_eq, list_any, true≢false, nat_tests, ints, list_any_none, bytes_eq-Decides, decimal}
+use Rattle.ext_reading.proofs.Common.{and_then, Grid, IsLawful, SLASH, is_use_id, indexed_name, IsIndexed, HasIdForm, is_node_name, before, behind}
+use Rattle.ext_reading.proofs.Common.{index_of, first_index, id_plain, number_comma, Lacks, one_cut, before-cut, behind-cut, use_name, row_path}
+use Rattle.ext_reading.proofs.Common.{ranged, has_byte, ExtReadFault, BadLine, UseName, ElementRange, is_slash, is_short, is_indexed, numeral_in}
+use Rattle.ext_reading.proofs.Common.{Six, span_in, array_in, use_name_in, IsElementRange, range_path, is_range, range_parts, range_of}
+use Rattle.std.proofs.Common.{◌+ℤ◌}
+use Rattle.std.proofs.lemmas.Bool.{and_from, ne_eqb, false_from_ne_true}
 use Rattle.text_scan.proofs.NumberLemmas.{digit_is}
-use Rattle.text_form.specs.SaidLines.{and_then}
-use Rattle.geo_core.specs.declared.grids.Grid.{Grid}
-use Rattle.geo_core.specs.Elements.{IsLawful}
-use Rattle.ext_model.specs.declared.names.TheConstants.{SLASH}
-use Rattle.ext_model.specs.ElementNames.{is_use_id, indexed_name, IsIndexed}
-use Rattle.ext_model.specs.LawfulArrays.{HasIdForm}
-use Rattle.ext_model.specs.NodeNames.{is_node_name}
-use Rattle.ext_model.specs.Plain.{before, behind, index_of, first_index}
-use Rattle.ext_model.proofs.IndexedNames.{id_whole, id_plain, number_comma, number_bracket}
-use Rattle.ext_model.proofs.TextCuts.{Lacks, lacks-append, lacks-decimal, one_cut}
-use Rattle.ext_model.proofs.CutLaws.{before-cut, behind-cut}
-use Rattle.ext_text.specs.WrittenTexts.{use_name, row_path, ranged}
-use Rattle.element_index.proofs.IdLaws.{has_byte}
-use Rattle.ext_reading.specs.declared.faults.ExtReadFault.{ExtReadFault}
-use Rattle.ext_reading.specs.declared.faults.ExtReadFault.TheVariants.{BadLine}
-use Rattle.ext_reading.specs.declared.lines.UseName.{UseName}
-use Rattle.ext_reading.specs.declared.lines.ElementRange.{ElementRange}
-use Rattle.ext_reading.specs.Parts.{is_slash, is_short, is_indexed, numeral_in}
-use Rattle.ext_reading.specs.LineForms.{Six, Span, span_in, array_in, use_name_in}
-use Rattle.ext_reading.specs.Drafts.{IsElementRange, range_path, is_range, range_parts, range_of}
+use Rattle.ext_model.proofs.IndexedNames.{id_whole, number_bracket}
+use Rattle.ext_model.proofs.TextCuts.{lacks-append, lacks-decimal}
+use Rattle.ext_reading.specs.LineForms.{Span}
 use Rattle.ext_reading.proofs.ElementIds.{IsElementName}
 use Rattle.ext_reading.proofs.RowPaths.{indexed_lacks, range_name, range_path-name, range_name-whole}
 use Rattle.ext_reading.proofs.UseNames.{indexed_is, range_is, index_of-decimal, cut_path}

@@ -1,23 +1,9 @@
 -- The outline of a written text has the elements of all its uses.
-use Rattle.std.proofs.Common.{◌≡◌, ℕ, Bool, true, false, cond, Option, List, [], ◌∷◌, ◌++◌, map, Result, Ok, Err, refl, sym, ap, ◌∙◌, subst}
-use Rattle.std.proofs.Common.{append_assoc, append-nil}
-use Rattle.std.specs.Prelude.{fold}
-use Rattle.std.specs.List.{AllByRecursion}
-use Rattle.std.proofs.lemmas.List.{map-append}
-use Rattle.finite_sets.specs.Lists.{In, Distinct}
-use Rattle.text_scan.specs.Words.{words_of}
-use Rattle.text_scan.specs.Written.{IsWord, line_of}
-use Rattle.text_scan.proofs.WrittenLemmas.{words_of-line_of}
-use Rattle.geo_core.specs.declared.grids.Grid.{Grid}
-use Rattle.ext_model.specs.declared.arrays.ArrayUse.{ArrayUse}
+use Rattle.ext_reading.proofs.Common.{◌≡◌, ℕ, Bool, true, false, cond, Option, List, [], ◌∷◌, ◌++◌, map, Result, Ok, Err, refl, sym, ap, ◌∙◌, subst}
+use Rattle.ext_reading.proofs.Common.{append_assoc, append-nil, fold, AllByRecursion, map-append, In, Distinct, words_of, IsWord, line_of}
+use Rattle.ext_reading.proofs.Common.{words_of-line_of, Grid, ArrayUse, UseElements, names_in, gives_again, ExtReadFault, UseLine, Use, elements_of}
+use Rattle.ext_reading.proofs.Common.{with_elements, with_allowed, with_use_said, with_words, with_line}
 use Rattle.ext_text.specs.WrittenTexts.{use_words}
-use Rattle.element_index.specs.declared.uses.UseElements.{UseElements}
-use Rattle.element_index.specs.GivenNames.{names_in, gives_again}
-use Rattle.ext_reading.specs.declared.faults.ExtReadFault.{ExtReadFault}
-use Rattle.ext_reading.specs.declared.lines.UseLine.{UseLine}
-use Rattle.ext_reading.specs.declared.lines.ExtLine.TheVariants.{Use}
-use Rattle.ext_reading.specs.Drafts.{elements_of}
-use Rattle.ext_reading.specs.ExtTexts.{with_elements, with_allowed, with_use_said, with_words, with_line}
 use Rattle.ext_reading.proofs.Outcomes.{Each}
 use Rattle.ext_reading.proofs.OutlineLaws.{kept_words}
 use Rattle.ext_reading.proofs.WrittenParts.{IsWrittenUse, IsUseSaid, use_read, names_of_both, names_moved, new_here}

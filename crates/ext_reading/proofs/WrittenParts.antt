@@ -1,40 +1,15 @@
 -- The records of a written text are read back, kind by kind.
-use Rattle.std.proofs.Common.{◌≡◌, ◌≤◌, ◌<◌, ◌+◌, ◌==◌, ℕ, ℤ, Bool, true, false, List, [], ◌∷◌, ◌++◌, length, map, Ok, FitsSigned}
-use Rattle.std.proofs.Common.{refl, sym, ap, ◌∙◌, subst, arith, inl, inr, length-append, append_assoc, append-nil}
-use Rattle.std.specs.Prelude.{All}
-use Rattle.std.specs.Int.{w32}
-use Rattle.std.specs.List.{AllByRecursion, flat_map}
-use Rattle.std.proofs.lemmas.List.{map-append}
-use Rattle.finite_sets.specs.Lists.{In, Distinct}
-use Rattle.finite_sets.proofs.Members.{In-append_left}
+use Rattle.ext_reading.proofs.Common.{◌≡◌, ◌≤◌, ◌<◌, ◌+◌, ◌==◌, ℕ, ℤ, Bool, true, false, List, [], ◌∷◌, ◌++◌, length, map, Ok, FitsSigned, refl, sym}
+use Rattle.ext_reading.proofs.Common.{ap, ◌∙◌, subst, arith, inl, inr, length-append, append_assoc, append-nil, All, w32, AllByRecursion, flat_map}
+use Rattle.ext_reading.proofs.Common.{map-append, In, Distinct, In-append_left, is_plain_name, IsWord, line_of, first_fault_or, six_of, matrix}
+use Rattle.ext_reading.proofs.Common.{NodeRec, FetRec, ArrayUse, MergeRow, is_node_name, SHIFT_EDGE, IsPlacement, HasIdForm, node_words, node_lines}
+use Rattle.ext_reading.proofs.Common.{MOST_USES, UseLine, Use, Node, Equiv, Fet, Merge, Outline, words_say, grid_in, UseElements, element_ids}
+use Rattle.ext_reading.proofs.Common.{is_among, gives_again, names_more, Draft, elements_of, leads, all_lead, has_its_nodes, step}
 use Rattle.finite_sets.proofs.Distincts.{Distinct-cut, Distinct-append_left}
-use Rattle.text_scan.specs.PlainNames.{is_plain_name}
-use Rattle.text_scan.specs.Written.{IsWord, line_of}
-use Rattle.text_form.specs.Folds.{first_fault_or, unless_faulty}
+use Rattle.text_form.specs.Folds.{unless_faulty}
 use Rattle.text_form.proofs.FoldLaws.{first_fault_or-append}
-use Rattle.geo_core.specs.Images.{six_of}
-use Rattle.geo_core.specs.Orientation.{matrix}
-use Rattle.ext_model.specs.declared.records.NodeRec.{NodeRec}
-use Rattle.ext_model.specs.declared.records.FetRec.{FetRec}
-use Rattle.ext_model.specs.declared.arrays.ArrayUse.{ArrayUse}
-use Rattle.ext_model.specs.declared.arrays.MergeRow.{MergeRow}
-use Rattle.ext_model.specs.NodeNames.{is_node_name}
-use Rattle.ext_model.specs.declared.limits.TheConstants.{SHIFT_EDGE}
-use Rattle.ext_model.specs.Lawful.{IsPlacement}
-use Rattle.ext_model.specs.LawfulArrays.{HasIdForm}
-use Rattle.ext_text.specs.NodeLines.{node_words}
-use Rattle.ext_text.specs.WrittenTexts.{use_words, equiv_words, node_lines, fet_words, merge_words}
-use Rattle.ext_reading.specs.declared.limits.TheConstants.{MOST_USES}
-use Rattle.ext_reading.specs.declared.lines.UseLine.{UseLine}
-use Rattle.ext_reading.specs.declared.lines.ExtLine.TheVariants.{Use, Node, Equiv, Fet, Merge}
-use Rattle.ext_reading.specs.declared.outlines.Outline.{Outline}
-use Rattle.ext_reading.specs.LineForms.{words_say}
-use Rattle.ext_reading.specs.Ranges.{grid_in}
-use Rattle.element_index.specs.declared.uses.UseElements.{UseElements}
+use Rattle.ext_text.specs.WrittenTexts.{use_words, equiv_words, fet_words, merge_words}
 use Rattle.element_index.specs.GivenNames as given_names
-use Rattle.element_index.specs.GivenNames.{element_ids, is_among, gives_again}
-use Rattle.element_index.proofs.HoldLaws.{names_more}
-use Rattle.ext_reading.specs.Drafts.{Draft, elements_of, leads, all_lead, has_its_nodes, step}
 use Rattle.geo_core.proofs.OrientationLaws.{is_orientation-six_of}
 use Rattle.ext_reading.proofs.ElementIds.{new_use}
 use Rattle.ext_reading.proofs.Outcomes.{Each, each_of_All}

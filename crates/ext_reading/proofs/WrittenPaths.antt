@@ -1,26 +1,13 @@
 -- The paths of a lawful record are paths of its file.
-use Rattle.std.proofs.Common.{◌≡◌, ◌+◌, ◌==◌, ◌&&◌, ◌||◌, ℕ, Bool, true, false, cond, List, [], ◌∷◌, ◌++◌, length, take, refl, sym, ap, ◌∙◌, subst}
-use Rattle.std.proofs.Common.{arith, inl, inr}
-use Rattle.std.proofs.Common.{length-append}
-use Rattle.std.specs.Prelude.{All}
-use Rattle.std.specs.List.{list_all, list_any, count_by, slice_split, before_first, position_or_len}
-use Rattle.std.specs.Str.{bytes_eq}
+use Rattle.ext_reading.proofs.Common.{◌≡◌, ◌+◌, ◌==◌, ◌&&◌, ◌||◌, ℕ, Bool, true, false, cond, List, [], ◌∷◌, ◌++◌, length, take, refl, sym, ap, ◌∙◌}
+use Rattle.ext_reading.proofs.Common.{subst, arith, inl, inr, length-append, All, list_all, list_any, before_first, position_or_len, bytes_eq}
+use Rattle.ext_reading.proofs.Common.{and_parts, nat_tests, list_any_none, list_all-append, slice_split_none, slice_split_at, position_or_len_is}
+use Rattle.ext_reading.proofs.Common.{sum_by-cons, bytes_eq-Decides, In, All-from_In, list_any-of_absent, SLASH, is_word_byte, is_word, slashes_in}
+use Rattle.ext_reading.proofs.Common.{is_node_name, path_text, is_among, is_slash, is_path, leads}
+use Rattle.std.specs.List.{count_by, slice_split}
 use Rattle.std.proofs.Math.Seq.{take-append_seam, get_or-append_seam}
 use Rattle.std.proofs.Math.ListN.{get_or-append}
-use Rattle.std.proofs.lemmas.Bool.{and_parts}
-use Rattle.std.proofs.lemmas.Bool.Decides.{nat_tests}
-use Rattle.std.proofs.lemmas.List.Folds.{list_any_none, list_any-append, list_all-append}
-use Rattle.std.proofs.lemmas.List.Splits.{slice_split_none, slice_split_at}
-use Rattle.std.proofs.lemmas.List.Sums.{position_or_len_is, sum_by-cons}
-use Rattle.std.proofs.lemmas.Slice.Eq.{bytes_eq-Decides}
-use Rattle.finite_sets.specs.Lists.{In}
-use Rattle.finite_sets.proofs.Searches.{All-from_In, list_any-of_absent}
-use Rattle.ext_model.specs.declared.names.TheConstants.{SLASH}
-use Rattle.ext_model.specs.NodeNames.{is_word_byte, is_word, slashes_in, is_node_name}
-use Rattle.ext_model.specs.Paths.{path_text}
-use Rattle.element_index.specs.GivenNames.{is_among}
-use Rattle.ext_reading.specs.Parts.{is_slash, is_path}
-use Rattle.ext_reading.specs.Drafts.{leads}
+use Rattle.std.proofs.lemmas.List.Folds.{list_any-append}
 use Rattle.ext_reading.proofs.Outcomes.{Each}
 use Rattle.ext_reading.proofs.WrittenWords.{word_bytes, node_name_word}
 

@@ -1,51 +1,21 @@
 -- A lawful record within the limits of files that are read has what its lines need.
-use Rattle.std.proofs.Common.{◌≡◌, ◌⊎◌, ◌<◌, ◌+◌, ◌-◌, ◌*◌, ◌&&◌, ℕ, suc, ℤ, pos, ◌+ℤ◌, Bool, true, false, cond, Option, List, [], ◌∷◌, ◌++◌}
-use Rattle.std.proofs.Common.{length, map}
-use Rattle.std.proofs.Common.{get_or, refl, sym, ap, ◌∙◌, subst, FitsSigned, inl, inr, arith, IsTrue}
-use Rattle.std.specs.Prelude.{All, Some, None, ◌-ℤ◌, ◌<ℤ◌, nat_le}
-use Rattle.std.specs.Int.{w32}
-use Rattle.std.specs.Int.RustNames.{unsigned_abs}
-use Rattle.std.specs.List.{AllByRecursion, list_all, range_with_len}
-use Rattle.std.proofs.lemmas.Bool.{leb-true, true≢false}
-use Rattle.std.proofs.lemmas.Bool.Decides.{nat_tests}
-use Rattle.std.proofs.lemmas.Int.{ints}
-use Rattle.std.proofs.lemmas.List.Folds.{list_any_none}
-use Rattle.std.proofs.lemmas.List.FromFn.{length-range_with_len, get_or-range_with_len}
-use Rattle.finite_sets.specs.Lists.{In}
+use Rattle.ext_reading.proofs.Common.{◌≡◌, ◌⊎◌, ◌<◌, ◌+◌, ◌-◌, ◌*◌, ◌&&◌, ℕ, suc, ℤ, pos, Bool, true, false, cond, Option, List, [], ◌∷◌, ◌++◌}
+use Rattle.ext_reading.proofs.Common.{length, map, get_or, refl, sym, ap, ◌∙◌, subst, FitsSigned, inl, inr, arith, IsTrue, All, Some, None, ◌-ℤ◌}
+use Rattle.ext_reading.proofs.Common.{◌<ℤ◌, nat_le, w32, unsigned_abs, AllByRecursion, list_all, range_with_len, leb-true, true≢false, nat_tests}
+use Rattle.ext_reading.proofs.Common.{ints, list_any_none, length-range_with_len, get_or-range_with_len, In, In-append_cases, In-map_source}
+use Rattle.ext_reading.proofs.Common.{In-get_or, list_all-from_In, decimal, is_plain_name, Grid, SLASH, UseRec, NodeRec, TermRec, FetRec, CellExt}
+use Rattle.ext_reading.proofs.Common.{ArrayUse, MergeRow, ArrayExt, is_use_id, indexed_name, is_word_byte, is_node_name, names_of, node_names}
+use Rattle.ext_reading.proofs.Common.{element_names, path_text, IsMeasure, AreMeasures, IsLawfulNode, HasIdForm, IsArrayUse, IsMergeRow}
+use Rattle.ext_reading.proofs.Common.{IsLawfulArrayExt, plain, plain_uses, uses_of_grid, element_use, raised, first_index, id_plain, indexed_told}
+use Rattle.ext_reading.proofs.Common.{Lacks, one_cut, row_path, ranged, UseElements, is_among, has_byte, ElementRange, is_slash, is_path}
+use Rattle.ext_reading.proofs.Common.{elements_of, leads, has_its_nodes, IsElementRange, range_path, second_of, count_of, IsReadable}
+use Rattle.std.proofs.Common.{◌+ℤ◌}
 use Rattle.finite_sets.proofs.Images.{In-flat_map}
-use Rattle.finite_sets.proofs.Members.{In-append_cases, In-map, In-map_source, In-get_or}
-use Rattle.finite_sets.proofs.Searches.{list_all-from_In}
-use Rattle.text_scan.specs.Decimal.{decimal}
-use Rattle.text_scan.specs.PlainNames.{is_plain_name}
-use Rattle.geo_core.specs.declared.grids.Grid.{Grid}
+use Rattle.finite_sets.proofs.Members.{In-map}
 use Rattle.geo_core.specs.Elements.{elements_of as elements_of_grid}
 use Rattle.geo_core.proofs.ElementLaws.{length-elements_of}
-use Rattle.ext_model.specs.declared.names.TheConstants.{SLASH}
-use Rattle.ext_model.specs.declared.records.UseRec.{UseRec}
-use Rattle.ext_model.specs.declared.records.NodeRec.{NodeRec}
-use Rattle.ext_model.specs.declared.records.TermRec.{TermRec}
-use Rattle.ext_model.specs.declared.records.FetRec.{FetRec}
-use Rattle.ext_model.specs.declared.records.CellExt.{CellExt}
-use Rattle.ext_model.specs.declared.arrays.ArrayUse.{ArrayUse}
-use Rattle.ext_model.specs.declared.arrays.MergeRow.{MergeRow}
-use Rattle.ext_model.specs.declared.arrays.ArrayExt.{ArrayExt}
-use Rattle.ext_model.specs.ElementNames.{is_use_id, indexed_name}
-use Rattle.ext_model.specs.NodeNames.{is_word_byte, is_node_name}
-use Rattle.ext_model.specs.RecordNames.{names_of, node_names, element_names}
-use Rattle.ext_model.specs.Paths.{path_text}
-use Rattle.ext_model.specs.Lawful.{IsMeasure, AreMeasures, IsLawfulUse, IsLawfulNode, IsLawfulTerm, IsLawfulFet, IsLawfulMerge, IsPathIn, IsLawful}
-use Rattle.ext_model.specs.LawfulArrays.{HasIdForm, IsArrayUse, IsMergeRow, IsLawfulArrayExt}
-use Rattle.ext_model.specs.Plain.{plain, plain_uses, uses_of_grid, element_use, plain_merge, plain_merges, raised, first_index}
-use Rattle.ext_model.proofs.IndexedNames.{id_plain, indexed_told}
-use Rattle.ext_model.proofs.TextCuts.{Lacks, one_cut}
-use Rattle.ext_text.specs.WrittenTexts.{row_path, ranged}
-use Rattle.element_index.specs.declared.uses.UseElements.{UseElements}
-use Rattle.element_index.specs.GivenNames.{is_among}
-use Rattle.element_index.proofs.IdLaws.{has_byte}
-use Rattle.ext_reading.specs.declared.lines.ElementRange.{ElementRange}
-use Rattle.ext_reading.specs.Parts.{is_slash, is_path}
-use Rattle.ext_reading.specs.Drafts.{elements_of, leads, has_its_nodes, IsElementRange, range_path, second_of, count_of}
-use Rattle.ext_reading.specs.ReadBack.{IsReadable}
+use Rattle.ext_model.specs.Lawful.{IsLawfulUse, IsLawfulTerm, IsLawfulFet, IsLawfulMerge, IsPathIn, IsLawful}
+use Rattle.ext_model.specs.Plain.{plain_merge, plain_merges}
 use Rattle.ext_reading.proofs.Outcomes.{Each, each_of_All, by_recursion, range_in_bounds}
 use Rattle.ext_reading.proofs.ElementIds.{IsElementName, HaveForms, names_given, names_formed}
 use Rattle.ext_reading.proofs.RowPaths.{all_whole, indexed_lacks, split_bytes, joined_bytes, range_name, range_path-name, path_with}

@@ -1,47 +1,18 @@
 -- What a written line adds to what was read.
-use Rattle.std.proofs.Common.{◌≡◌, ◌<◌, ◌*◌, ◌==◌, ◌&&◌, not, ℕ, ℤ, Bool, true, false, cond, List, [], ◌∷◌, ◌++◌, length, map, Ok, FitsSigned}
-use Rattle.std.proofs.Common.{refl, sym, ap, ◌∙◌, subst, arith, length-append, append_assoc, get_or}
-use Rattle.std.specs.Prelude.{Option, Some, None, Result, Err, pos, ◌+ℤ◌, nat_le, nat_lt, slice_index, slice_set}
-use Rattle.std.specs.Int.{w32}
-use Rattle.std.specs.List.{AllByRecursion, position, position_or_len}
-use Rattle.std.specs.Str.{bytes_eq}
+use Rattle.ext_reading.proofs.Common.{◌≡◌, ◌<◌, ◌*◌, ◌==◌, ◌&&◌, not, ℕ, ℤ, Bool, true, false, cond, List, [], ◌∷◌, ◌++◌, length, map, Ok}
+use Rattle.ext_reading.proofs.Common.{FitsSigned, refl, sym, ap, ◌∙◌, subst, arith, length-append, append_assoc, get_or, Some, None, ◌+ℤ◌, nat_le}
+use Rattle.ext_reading.proofs.Common.{nat_lt, slice_index, w32, AllByRecursion, position, position_or_len, bytes_eq, le-leb, lt-ltb, nat_tests}
+use Rattle.ext_reading.proofs.Common.{map-append, position_or_len_is, bytes_eq-Decides, In, In-get_or, IsWord, line_of, words_of-line_of, and_then}
+use Rattle.ext_reading.proofs.Common.{NodeRec, FetRec, ArrayUse, MergeRow, Grid, MOST_ELEMENTS, indices, is_orientation, HasIdForm, row_path}
+use Rattle.ext_reading.proofs.Common.{UseElements, names_in, is_among, gives_again, ExtReadFault, BadLine, Range, UseTwice, NoName, Two, MOST_USES}
+use Rattle.ext_reading.proofs.Common.{Seen, ExtLine, Use, Node, Equiv, Fet, Merge, Outline, words_say, Six, grid_in, six_in, measures_in, point_in}
+use Rattle.ext_reading.proofs.Common.{terms_from, Draft, elements_of, takes, node_from, fet_from, has_its_nodes, leads, all_lead, range_of, range_in}
+use Rattle.ext_reading.proofs.Common.{second_of, count_of, merge_from, step}
+use Rattle.std.specs.Prelude.{Option, Result, Err, pos, slice_set}
 use Rattle.std.proofs.Math.Seq.{get_or-append_seam, set-append_seam}
 use Rattle.std.proofs.Math.ListN.{get_or-append}
-use Rattle.std.proofs.lemmas.Bool.{and_from, le-leb, lt-ltb}
-use Rattle.std.proofs.lemmas.Bool.Decides.{nat_tests}
-use Rattle.std.proofs.lemmas.List.{map-append}
-use Rattle.std.proofs.lemmas.List.Sums.{position_or_len_is}
-use Rattle.std.proofs.lemmas.Slice.Eq.{bytes_eq-Decides}
-use Rattle.finite_sets.specs.Lists.{In}
-use Rattle.finite_sets.proofs.Members.{In-get_or}
-use Rattle.text_scan.specs.Written.{IsWord, line_of}
-use Rattle.text_scan.proofs.WrittenLemmas.{words_of-line_of}
-use Rattle.text_form.specs.SaidLines.{and_then}
-use Rattle.ext_model.specs.declared.records.NodeRec.{NodeRec}
-use Rattle.ext_model.specs.declared.records.FetRec.{FetRec}
-use Rattle.ext_model.specs.declared.arrays.ArrayUse.{ArrayUse}
-use Rattle.ext_model.specs.declared.arrays.MergeRow.{MergeRow}
-use Rattle.geo_core.specs.declared.grids.Grid.{Grid}
-use Rattle.geo_core.specs.declared.limits.TheConstants.{MOST_ELEMENTS}
-use Rattle.geo_core.specs.Elements.{indices}
-use Rattle.geo_core.specs.Orientation.{is_orientation}
-use Rattle.ext_model.specs.LawfulArrays.{HasIdForm}
-use Rattle.ext_text.specs.WrittenTexts.{row_path}
-use Rattle.element_index.specs.declared.uses.UseElements.{UseElements}
-use Rattle.element_index.specs.GivenNames.{names_in, is_among, gives_again}
-use Rattle.ext_reading.specs.declared.faults.ExtReadFault.{ExtReadFault}
-use Rattle.ext_reading.specs.declared.faults.ExtReadFault.TheVariants.{BadLine, Range, UseTwice, NoName}
-use Rattle.ext_reading.specs.declared.lines.Version.TheVariants.{Two}
-use Rattle.ext_reading.specs.declared.limits.TheConstants.{MOST_USES}
-use Rattle.ext_reading.specs.declared.lines.Seen.{Seen}
-use Rattle.ext_reading.specs.declared.lines.ExtLine.{ExtLine}
-use Rattle.ext_reading.specs.declared.lines.ExtLine.TheVariants.{Use, Node, Equiv, Fet, Merge}
-use Rattle.ext_reading.specs.declared.outlines.Outline.{Outline}
-use Rattle.ext_reading.specs.LineForms.{words_say}
-use Rattle.ext_reading.specs.LineForms.{Six}
-use Rattle.ext_reading.specs.Ranges.{grid_in, six_in, measures_in, point_in, terms_from}
-use Rattle.ext_reading.specs.Drafts.{Draft, elements_of, with_use, takes_new_use, takes, node_from, named_too, no_node, with_alias_at, takes_equiv}
-use Rattle.ext_reading.specs.Drafts.{fet_from, has_its_nodes, leads, all_lead, range_of, range_in, second_of, count_of, merge_from, step}
+use Rattle.std.proofs.lemmas.Bool.{and_from}
+use Rattle.ext_reading.specs.Drafts.{with_use, takes_new_use, named_too, no_node, with_alias_at, takes_equiv}
 use Rattle.ext_reading.proofs.WrittenWords.{short_in-short, measure_in-measure, numerals_of, length-numerals_of, measures_from-numerals, side_said}
 use Rattle.ext_reading.proofs.WrittenWords.{term_in-term, terms_from-terms}
 use Rattle.ext_reading.proofs.WrittenNames.{grid_said}

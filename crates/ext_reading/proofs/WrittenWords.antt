@@ -1,35 +1,19 @@
 -- Words as they are written are read as what they were written from.
-use Rattle.std.proofs.Common.{◌≡◌, ◌≤◌, ◌+◌, ◌-◌, ◌==◌, ◌&&◌, ℕ, ℤ, Bool, true, false, cond, Option, List, [], ◌∷◌, ◌++◌, length, map, take, drop}
-use Rattle.std.proofs.Common.{Ok, Err, FitsSigned, refl, sym, ap, ◌∙◌, subst, arith, inl, inr, length-append, append_assoc, append-nil}
-use Rattle.std.specs.Prelude.{Some, pos, codes, nat_le, slice_index}
-use Rattle.std.specs.Int.{w32, w128}
-use Rattle.std.specs.Int.RustNames.{unsigned_abs}
-use Rattle.std.specs.List.{AllByRecursion, list_all, flat_map}
-use Rattle.std.proofs.lemmas.Bool.{and_parts, lt-ltb}
-use Rattle.std.proofs.lemmas.Bool.Decides.{nat_tests}
-use Rattle.std.proofs.lemmas.Int.{ints}
+use Rattle.ext_reading.proofs.Common.{◌≡◌, ◌≤◌, ◌+◌, ◌-◌, ◌==◌, ◌&&◌, ℕ, ℤ, Bool, true, false, cond, Option, List, [], ◌∷◌, ◌++◌, length, map, take}
+use Rattle.ext_reading.proofs.Common.{drop, Ok, Err, FitsSigned, refl, sym, ap, ◌∙◌, subst, arith, inl, inr, length-append, append_assoc, append-nil}
+use Rattle.ext_reading.proofs.Common.{Some, codes, nat_le, slice_index, w32, unsigned_abs, AllByRecursion, list_all, flat_map, and_parts, lt-ltb}
+use Rattle.ext_reading.proofs.Common.{nat_tests, ints, In-push_cases, list_all-In, All-from_In, decimal, is_plain_name, is_separator, IsWord}
+use Rattle.ext_reading.proofs.Common.{IsWord-decimal, IsWord-test, and_then, MEASURE_EDGE, TermRec, is_word_byte, is_word, is_node_name, IsMeasure}
+use Rattle.ext_reading.proofs.Common.{quoted, measure_words, term_words, BadLine, Range, GREATEST_CLASS_VALUE, SideLine, is_short, unquoted}
+use Rattle.ext_reading.proofs.Common.{if_formed, node_name_in, numeral_in, numerals_from, side_in, sides_from, short_in, measure_in, pair_in}
+use Rattle.ext_reading.proofs.Common.{measures_from, class_value_in, class_values_from, term_in, terms_from}
+use Rattle.std.specs.Prelude.{pos}
+use Rattle.std.specs.Int.{w128}
 use Rattle.std.proofs.Math.Seq.{take-append_seam, get_or-append_seam}
-use Rattle.finite_sets.proofs.Members.{In-push_cases}
-use Rattle.finite_sets.proofs.Searches.{list_all-In, All-from_In}
-use Rattle.text_scan.specs.Decimal.{decimal}
-use Rattle.text_scan.specs.PlainNames.{is_plain_byte, is_plain_name}
+use Rattle.text_scan.specs.PlainNames.{is_plain_byte}
 use Rattle.text_scan.specs.declared.plain_name.TheConstants.{LONGEST_NAME}
-use Rattle.text_scan.specs.Written.{is_separator, IsWord}
 use Rattle.text_scan.proofs.DecimalLemmas.{wide_of-decimal}
-use Rattle.text_scan.proofs.WrittenLemmas.{IsWord-decimal, IsWord-test}
-use Rattle.text_form.specs.SaidLines.{and_then}
-use Rattle.ext_model.specs.declared.limits.TheConstants.{MEASURE_EDGE}
-use Rattle.ext_model.specs.declared.records.TermRec.{TermRec}
-use Rattle.ext_model.specs.NodeNames.{is_word_byte, is_word, is_node_name}
-use Rattle.ext_model.specs.Lawful.{IsMeasure}
-use Rattle.ext_text.specs.NodeLines.{quoted, measure_words}
-use Rattle.ext_text.specs.WrittenTexts.{term_words}
-use Rattle.ext_reading.specs.declared.faults.ExtReadFault.TheVariants.{BadLine, Range}
-use Rattle.ext_reading.specs.declared.limits.TheConstants.{GREATEST_CLASS_VALUE}
-use Rattle.ext_reading.specs.declared.lines.SideLine.{SideLine}
-use Rattle.ext_reading.specs.Parts.{is_short, is_quoted, unquoted, if_formed, node_name_in, numeral_of, numeral_in, numerals_from}
-use Rattle.ext_reading.specs.LineForms.{side_in, sides_from}
-use Rattle.ext_reading.specs.Ranges.{short_in, measure_in, pair_in, measures_from, class_value_in, class_values_from, term_in, terms_from}
+use Rattle.ext_reading.specs.Parts.{is_quoted, numeral_of}
 
 -- words
 byte_plain : (byte : ℕ) → is_word_byte byte ≡ true → is_separator byte ≡ false

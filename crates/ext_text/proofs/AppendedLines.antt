@@ -1,25 +1,23 @@
 -- What is appended, one part behind the other, is the line or the text.
-use Rattle.std.proofs.Common.{◌≡◌, ◌≢◌, ◌+◌, ℕ, ℤ, pos, List, [], ◌∷◌, ◌++◌, length, map, refl, sym, ◌∙◌, ap, subst}
+use Rattle.ext_text.proofs.Common.{◌≡◌, ℕ, ℤ, pos, List, ◌++◌, map, sym, ◌∙◌, ap, subst, codes, flat_map, decimal, behind_blanks, FetRec, MergeRow}
+use Rattle.ext_text.proofs.Common.{nodes_text, use_words, term_words, fet_words, merge_words}
+use Rattle.std.proofs.Common.{◌≢◌, ◌+◌, [], ◌∷◌, length, refl}
 use Rattle.std.proofs.Common.{arith, append_assoc}
-use Rattle.std.specs.Prelude.{codes, Result, Err, IfErr}
-use Rattle.std.specs.List.{flat_map}
+use Rattle.std.specs.Prelude.{Result, Err, IfErr}
 use Rattle.std.proofs.lemmas.List.{length-append}
-use Rattle.text_scan.specs.Decimal.{decimal}
-use Rattle.text_scan.specs.Written.{line_of, behind_blanks}
+use Rattle.text_scan.specs.Written.{line_of}
 use Rattle.text_scan.proofs.WrittenLemmas.{blanks-append, line-words}
 use Rattle.ext_model.specs.declared.records.NodeRec.{NodeRec}
 use Rattle.ext_model.specs.declared.records.TermRec.{TermRec}
-use Rattle.ext_model.specs.declared.records.FetRec.{FetRec}
 use Rattle.ext_model.specs.declared.arrays.ArrayUse.{ArrayUse}
-use Rattle.ext_model.specs.declared.arrays.MergeRow.{MergeRow}
 use Rattle.ext_model.specs.declared.arrays.ArrayExt.{ArrayExt}
 use Rattle.ext_model.specs.declared.circuits.Circuit.{Circuit}
 use Rattle.ext_text.specs.declared.faults.ExtFault.{ExtFault}
 use Rattle.ext_text.specs.declared.faults.ExtFault.TheVariants.{Memory}
 use Rattle.ext_text.specs.NodeLines.{quoted, measure_words, node_line}
-use Rattle.ext_text.specs.steps.Appended.{whole_line, nodes_text}
-use Rattle.ext_text.specs.WrittenTexts.{header_words, use_name, use_words, node_lines, term_words, square_words, fet_words}
-use Rattle.ext_text.specs.WrittenTexts.{row_path, merge_words}
+use Rattle.ext_text.specs.steps.Appended.{whole_line}
+use Rattle.ext_text.specs.WrittenTexts.{header_words, use_name, node_lines, square_words}
+use Rattle.ext_text.specs.WrittenTexts.{row_path}
 use Rattle.ext_text.specs.WrittenTexts.{lines_text, ext_text, flat_text, IsTooLong}
 
 -- ---- words

@@ -1,2 +1,3 @@
 mod AppendedLines
+mod Common
 mod PathCuts

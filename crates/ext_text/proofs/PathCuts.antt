@@ -1,17 +1,15 @@
 -- Texts cut at a byte, and paths at the index of their first name.
-use Rattle.std.proofs.Common.{◌≡◌, ℕ, ℤ, List, [], ◌∷◌, ◌++◌, ap, ◌∙◌, append_assoc, arith, w32, w64, FitsSigned}
-use Rattle.std.proofs.Common.{pos, ◌<◌, ◌^◌, ◌+ℤ◌, ◌-ℤ◌, sym, subst}
-use Rattle.std.specs.Int.{w128}
+use Rattle.ext_text.proofs.Common.{◌≡◌, ℕ, ℤ, List, ◌++◌, ap, ◌∙◌, pos, ◌+ℤ◌, ◌-ℤ◌, sym, subst, w128, decimal, before, behind, first_index}
+use Rattle.std.proofs.Common.{[], ◌∷◌, append_assoc, arith, w32, w64, FitsSigned}
+use Rattle.std.proofs.Common.{◌<◌, ◌^◌}
 use mir.Val.{of_z, to_z}
 use Rattle.std.specs.Prelude.{Result, Ok, Err}
 use Rattle.std.proofs.lemmas.Int.{ints, to_z-of_z}
 use Rattle.text_scan.specs.declared.numeral.NumFault.{NumFault}
-use Rattle.text_scan.specs.Decimal.{decimal}
 use Rattle.text_scan.specs.Numbers.{number_of}
 use Rattle.text_scan.proofs.DecimalLemmas.{number_of-decimal}
 use Rattle.ext_model.specs.declared.names.TheConstants.{SLASH}
 use Rattle.ext_model.specs.LawfulArrays.{BeginsIndexed}
-use Rattle.ext_model.specs.Plain.{before, behind, first_index}
 use Rattle.ext_model.proofs.IndexedNames.{id_plain, number_comma}
 use Rattle.ext_model.proofs.CutLaws.{before-cut, behind-cut}
 

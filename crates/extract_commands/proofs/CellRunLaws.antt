@@ -1,22 +1,8 @@
 -- What the commands answer that run something on the network of a cell's circuit.
-use Rattle.std.proofs.Common.{◌≡◌, ℕ, List, [], ◌∷◌, ◌++◌, Some, refl, sym, subst}
-use Rattle.std.specs.Prelude.{Result, Ok, Err}
-use Rattle.session_model.specs.declared.answer.Answer.{Answer}
-use Rattle.session_model.specs.declared.answer.Store.{Store}
-use Rattle.session_model.specs.declared.fetching.FetchFault.{FetchFault}
-use Rattle.session_model.specs.declared.report.ReportLine.{ReportLine}
-use Rattle.session_model.specs.Effects.{AnswersFetching}
-use Rattle.line_answers.proofs.AnswerLaws.{answers_refusal}
-use Rattle.line_answers.specs.LineEffects.{refused}
-use Rattle.line_answers.specs.Refusals.{file_refusal, refusal_line}
-use Rattle.workspace.specs.NetworkRuns.declared.network_runs.NetworkRun.{NetworkRun}
-use Rattle.workspace.specs.declared.extractions.Extracting.TheVariants.{Done}
-use Rattle.workspace.specs.declared.extractions.Extraction.{Extraction}
-use Rattle.workspace.specs.Extracting.{IsExtracted}
-use Rattle.workspace.specs.States.{State, Workspace}
-use Rattle.extract_commands.specs.CellRuns.{RunsCell, TellsAt}
-use Rattle.extract_commands.specs.CommandVectors.{RunsFetched}
-use Rattle.extract_commands.specs.declared.command_vectors.VectorQuestion.{VectorQuestion}
+use Rattle.extract_commands.proofs.Common.{◌≡◌, ℕ, List, [], ◌∷◌, ◌++◌, Some, refl, sym, subst, Result, Ok, Err, Answer, Store, FetchFault}
+use Rattle.extract_commands.proofs.Common.{ReportLine, AnswersFetching, answers_refusal, refused, refusal_line, NetworkRun, Done, Extraction}
+use Rattle.extract_commands.proofs.Common.{IsExtracted, State, Workspace, RunsCell, TellsAt, RunsFetched, VectorQuestion}
+use Rattle.line_answers.specs.Refusals.{file_refusal}
 
 -- the cell was extracted, and lines behind those of the extraction answer what was run
 pub runs_cell : (run : NetworkRun) (budget number : ℕ) (fetched : List (List ℕ)) (work after : Workspace) (cell : ℕ) (extraction : Extraction)

@@ -1,25 +1,13 @@
 -- What `flat` and `sim` write of the circuit of a cell.
-use Rattle.std.proofs.Common.{◌≡◌, ◌<◌, ◌⊎◌, ◌++◌, ℕ, List, [], length, Some, inl, inr, refl, sym, ap, ◌∙◌, subst}
-use Rattle.session_model.specs.Effects.{Effect}
-use Rattle.ext_model.specs.declared.circuits.Circuit.{Circuit}
-use Rattle.circuit_model.specs.declared.limits.CircuitLimit.{CircuitLimit}
-use Rattle.layout_gen.specs.CellLibrary.Views.{LibraryView}
-use Rattle.workspace.specs.LibraryAnswers.HierMerge.UncleanCells.{IsCleanCell}
-use Rattle.uniqueness.specs.CircuitCommands.declared.circuits.CircuitFile.{CircuitFile}
-use Rattle.uniqueness.specs.CircuitCommands.declared.circuits.Written.{Written}
-use Rattle.uniqueness.specs.CircuitCommands.declared.circuits.Written.TheVariants.{Passed, Stored}
+use Rattle.extract_commands.proofs.Common.{◌≡◌, ◌<◌, ◌⊎◌, ◌++◌, ℕ, List, [], length, Some, inl, inr, refl, sym, ap, ◌∙◌, subst, Effect, Circuit}
+use Rattle.extract_commands.proofs.Common.{CircuitLimit, LibraryView, IsCleanCell, CircuitFile, Written, Passed, Stored, IsWritten, lines_of}
+use Rattle.extract_commands.proofs.Common.{stores_of, Extraction, IsCircuitAt, RefusesUnclean, with_clean, State, IsWrittenAt, WritesCircuit}
+use Rattle.extract_commands.proofs.Common.{CellCircuitsAreUnique, CellCircuitsPassNoLimit, CellLimitsAreUnique, ExtractedCellsAreNotRefused}
+use Rattle.extract_commands.proofs.Common.{ExtractionsAreUnique, UncleanRefusalsAreUnique, IsSoundView}
 use Rattle.uniqueness.specs.CircuitCommands.declared.limits.Limit.TheVariants.{Circuit as OfCircuit, Switches, Text}
-use Rattle.uniqueness.specs.CircuitCommands.Circuits.{IsWritten, lines_of, stores_of}
 use Rattle.uniqueness.specs.Ext2simEffects.{WrittenCircuitsAreUnique}
-use Rattle.workspace.specs.declared.extractions.Extraction.{Extraction}
-use Rattle.workspace.specs.CellCircuits.{IsCircuitAt, PassesAt}
-use Rattle.workspace.specs.Extractions.{RefusesUnclean, with_clean}
-use Rattle.workspace.specs.States.{State}
-use Rattle.extract_commands.specs.CommandCircuits.{IsWrittenAt, WritesCircuit}
-use Rattle.extract_commands.specs.OneCircuits.{CellCircuitsAreUnique, CellCircuitsPassNoLimit, CellLimitsAreUnique}
-use Rattle.extract_commands.specs.OneExtractions.{ExtractedCellsAreNotRefused, ExtractionsAreUnique, UncleanRefusalsAreUnique}
+use Rattle.workspace.specs.CellCircuits.{PassesAt}
 use Rattle.extract_commands.specs.OneEffects.{CircuitMeansOneEffect}
-use Rattle.layout_gen.specs.CellLibrary.LawfulViews.{IsSoundView}
 use Rattle.extract_commands.proofs.OnCells.{MeansOneOnCells, one_extracted, one_on_cell}
 
 -- what is written of the circuit of a cell

@@ -1,15 +1,7 @@
 -- What is written of the circuits of cells.
-use Rattle.std.proofs.Common.{ℕ, List, refl, inr}
-use Rattle.ext_model.specs.declared.circuits.Circuit.{Circuit}
-use Rattle.layout_gen.specs.CellLibrary.Views.{LibraryView}
-use Rattle.line_answers.specs.LineEffects.{IsOfInside}
+use Rattle.extract_commands.proofs.Common.{ℕ, List, refl, inr, Circuit, LibraryView, IsOfInside, CircuitFile, Written, Stored, Passed, IsWritten}
+use Rattle.extract_commands.proofs.Common.{lines_of, IsCircuitAt, IsWrittenAt}
 use Rattle.uniqueness.proofs.CircuitCommands.CircuitInside.{written_inside}
-use Rattle.uniqueness.specs.CircuitCommands.declared.circuits.CircuitFile.{CircuitFile}
-use Rattle.uniqueness.specs.CircuitCommands.declared.circuits.Written.{Written}
-use Rattle.uniqueness.specs.CircuitCommands.declared.circuits.Written.TheVariants.{Stored, Passed}
-use Rattle.uniqueness.specs.CircuitCommands.Circuits.{IsWritten, lines_of}
-use Rattle.workspace.specs.CellCircuits.{IsCircuitAt}
-use Rattle.extract_commands.specs.CommandCircuits.{IsWrittenAt}
 
 -- what is written of the circuit of a cell
 pub written_at : (file : CircuitFile) (library : LibraryView) (cell : ℕ) (name : List ℕ) (circuit : Circuit) (written : Written)

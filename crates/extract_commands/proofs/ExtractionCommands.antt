@@ -1,20 +1,9 @@
 -- What the commands answer that extract a cell.
-use Rattle.std.proofs.Common.{◌≡◌, ◌⊎◌, ℕ, List, [], ◌∷◌, ◌++◌, Some, inl, inr}
-use Rattle.session_model.specs.declared.answer.Answer.{Answer}
-use Rattle.session_model.specs.declared.report.ReportLine.{ReportLine}
-use Rattle.session_model.specs.Effects.{AnswersAlone, Effect}
+use Rattle.extract_commands.proofs.Common.{◌≡◌, ◌⊎◌, ℕ, List, [], ◌∷◌, ◌++◌, Some, inl, inr, Answer, ReportLine, AnswersAlone, Effect, reply}
+use Rattle.extract_commands.proofs.Common.{CircuitFile, Written, lines_of, stores_of, Done, Extraction, IsExtracted, RefusesUnclean, State}
+use Rattle.extract_commands.proofs.Common.{Workspace, IsWrittenAt, WritesCircuit, ExtractsCell, extracted_text}
 use Rattle.line_answers.proofs.AnswerLaws.{answers_with}
-use Rattle.line_answers.specs.LineEffects.{reply}
-use Rattle.uniqueness.specs.CircuitCommands.declared.circuits.CircuitFile.{CircuitFile}
-use Rattle.uniqueness.specs.CircuitCommands.declared.circuits.Written.{Written}
-use Rattle.uniqueness.specs.CircuitCommands.Circuits.{lines_of, stores_of}
-use Rattle.workspace.specs.declared.extractions.Extracting.TheVariants.{Done, Refused}
-use Rattle.workspace.specs.declared.extractions.Extraction.{Extraction}
-use Rattle.workspace.specs.Extracting.{IsExtracted}
-use Rattle.workspace.specs.Extractions.{RefusesUnclean}
-use Rattle.workspace.specs.States.{State, Workspace}
-use Rattle.extract_commands.specs.CommandCircuits.{IsWrittenAt, WritesCircuit}
-use Rattle.extract_commands.specs.CommandExtract.{ExtractsCell, extracted_text}
+use Rattle.workspace.specs.declared.extractions.Extracting.TheVariants.{Refused}
 
 -- a cell at or below the cell is not clean
 pub refuses_cell : (number : ℕ) (work after : Workspace) (cell : ℕ) (lines : List ReportLine) (Means : Effect State → Type 0) (answer : Answer)

@@ -1,32 +1,24 @@
 -- What `generate` does in each case.
-use Rattle.std.proofs.Common.{◌≡◌, ◌<◌, ◌+◌, ◌∙◌, ℕ, [], ◌∷◌, length, map, Option, Some, None, inl, inr, refl, sym, ap, subst, arith, length-append}
+use Rattle.extract_commands.proofs.Common.{◌≡◌, ◌<◌, ◌+◌, ◌∙◌, ℕ, [], ◌∷◌, length, map, Option, Some, None, inl, inr, refl, sym, ap, subst, arith}
+use Rattle.extract_commands.proofs.Common.{length-append, unsigned_abs, Answer, AnswersAlone, Effect, IsLawfulLibrary, LibraryParts, seen}
+use Rattle.extract_commands.proofs.Common.{count_seen, answers_refusal, refusal_line, Stack, Inverses, kept_versions, State, Workspace}
+use Rattle.extract_commands.proofs.Common.{RunsExtracted, GeneratesStack, stack_cell, unless_refused}
 use Rattle.std.specs.Prelude.{ℤ, pos, negsuc, ◌≤◌, IsTrue}
-use Rattle.std.specs.Int.RustNames.{unsigned_abs}
 use Rattle.std.proofs.lemmas.Bool.Decides.{nat_tests}
 use Rattle.std.proofs.lemmas.List.{length-map}
 use Rattle.script_lines.specs.declared.limits.TheConstants.{MOST_GENERATED}
 use Rattle.script_lines.specs.Arguments.{is_between}
 use Rattle.layout_gen.specs.declared.limits.TheConstants.{MOST_TILES}
-use Rattle.session_model.specs.declared.answer.Answer.{Answer}
-use Rattle.session_model.specs.Effects.{AnswersAlone, Effect}
 use Rattle.ext_model.specs.declared.tables.CellKey.{CellKey}
 use Rattle.layout_gen.specs.CellLibrary.Additions.{kept_cell, names_with, with_all}
-use Rattle.layout_gen.specs.CellLibrary.Libraries.{IsLawfulLibrary, LibraryParts, edits_of, seen}
-use Rattle.layout_gen.proofs.CellLibrary.ViewLaws.{count_seen}
+use Rattle.layout_gen.specs.CellLibrary.Libraries.{edits_of}
 use Rattle.layout_gen.specs.declared.faults.GenerateFault.{GenerateFault}
 use Rattle.layout_gen.specs.Generated.{CameAtOnce, IsGenerated}
 use Rattle.layout_gen.specs.Refusals.{generate_fault}
 use Rattle.workspace.specs.Caches.{Agrees, Records}
 use Rattle.workspace.proofs.ArrivalLaws.{agrees_all, dirty_cells}
-use Rattle.line_answers.proofs.AnswerLaws.{answers_refusal}
-use Rattle.line_answers.specs.Refusals.{refusal_line}
 use Rattle.workspace.specs.LibraryAnswers.Refusals.{generate_refusal}
-use Rattle.workspace.specs.NetworkRuns.declared.network_runs.NetworkRun.TheVariants.{Stack}
-use Rattle.workspace.specs.UndoLog.Inverses.{Inverses, kept_versions}
 use Rattle.workspace.proofs.WorkspaceLaws.{workspace_of}
-use Rattle.workspace.specs.States.{State, Workspace}
-use Rattle.extract_commands.specs.CellRuns.{RunsExtracted}
-use Rattle.extract_commands.specs.CommandGenerate.{GeneratesStack, stack_cell, unless_refused}
 use Rattle.extract_commands.specs.steps.MadeStacks.{StackCame}
 
 -- the number of rows is one of those that there may be

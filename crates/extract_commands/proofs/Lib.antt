@@ -3,6 +3,7 @@ pub use Rattle.uniqueness.proofs.NetworkCommands as NetworkCommands
 pub use Rattle.uniqueness.proofs.CircuitCommands as CircuitCommands
 mod CellRunLaws
 mod CircuitLaws
+mod Common
 mod ExtractionCommands
 mod GenerateLaws
 pub mod RestLaws

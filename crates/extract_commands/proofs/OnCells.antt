@@ -1,19 +1,11 @@
 -- A command on a cell finds the cell, or is refused.
-use Rattle.std.proofs.Common.{◌≡◌, ◌<◌, ◌⊎◌, ◌++◌, ℕ, List, [], ◌∷◌, length, Option, Some, None, inl, inr, refl, sym, ◌∙◌}
-use Rattle.std.specs.Prelude.{MatchOption}
-use Rattle.session_model.specs.Effects.{Effect}
-use Rattle.layout_gen.specs.CellLibrary.Views.{cell_named}
+use Rattle.extract_commands.proofs.Common.{◌≡◌, ◌<◌, ◌⊎◌, ◌++◌, ℕ, List, [], ◌∷◌, length, Option, Some, None, inl, inr, refl, sym, ◌∙◌, MatchOption}
+use Rattle.extract_commands.proofs.Common.{Effect, cell_named, refused, reply, no_cell, Extraction, RefusesUnclean, with_clean, State, Workspace}
+use Rattle.extract_commands.proofs.Common.{ExtractsCell, extracted_text, ExtractedCellsAreNotRefused, ExtractionsAreUnique, UncleanRefusalsAreUnique}
+use Rattle.extract_commands.proofs.Common.{IsSoundView, SeesSoundLibrary}
 use Rattle.uniqueness.proofs.EditScript.CellLaws.{named_below}
-use Rattle.line_answers.specs.LineEffects.{refused, reply}
-use Rattle.line_answers.specs.Refusals.{no_cell}
-use Rattle.workspace.specs.declared.extractions.Extraction.{Extraction}
-use Rattle.workspace.specs.Extractions.{IsExtraction, OnCell, RefusesUnclean, with_clean}
-use Rattle.workspace.specs.States.{State, Workspace}
-use Rattle.extract_commands.specs.CommandExtract.{ExtractsCell, extracted_text}
-use Rattle.extract_commands.specs.OneExtractions.{ExtractedCellsAreNotRefused, ExtractionsAreUnique, UncleanRefusalsAreUnique}
+use Rattle.workspace.specs.Extractions.{IsExtraction, OnCell}
 use Rattle.extract_commands.specs.OneEffects.{ExtractMeansOneEffect}
-use Rattle.layout_gen.specs.CellLibrary.LawfulViews.{IsSoundView}
-use Rattle.workspace.specs.KeptSessions.{SeesSoundLibrary}
 
 -- what is meant of each cell of a lawful library is one effect
 abbrev pub MeansOneOnCells : (Workspace → ℕ → Effect State → Type 0) → Type 0

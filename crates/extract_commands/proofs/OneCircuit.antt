@@ -1,16 +1,10 @@
 -- A clean cell has one circuit, or passes one limit.
-use Rattle.std.proofs.Common.{◌≡◌, ◌<◌, ℕ, List, length}
-use Rattle.ext_model.specs.declared.records.CellExt.{CellExt}
+use Rattle.extract_commands.proofs.Common.{◌≡◌, ◌<◌, ℕ, List, length, CellExt, CircuitLimit, LibraryView, view_at, named_tree_at, IsCleanCell}
+use Rattle.extract_commands.proofs.Common.{CellCircuitsAreUnique, CellCircuitsPassNoLimit, CellLimitsAreUnique, IsSoundView}
 use Rattle.circuit_model.specs.declared.faults.FlatFault.TheVariants.{TooMany as FlatTooMany}
-use Rattle.circuit_model.specs.declared.limits.CircuitLimit.{CircuitLimit}
-use Rattle.layout_gen.specs.CellLibrary.Views.{LibraryView, view_at}
-use Rattle.uniqueness.specs.LibraryTrees.NamedCells.{named_tree_at}
 use Rattle.uniqueness.specs.LibraryTrees.TreeRecords.TreeRecords.{HasTreeRecords}
 use Rattle.uniqueness.specs.RecordUniqueness.{RecordsOfTreesAreUnique}
-use Rattle.workspace.specs.LibraryAnswers.HierMerge.UncleanCells.{IsCleanCell}
 use Rattle.uniqueness.specs.FlatCircuits.{AgreeBelow, FlatCircuitsAreUnique, FlatCircuitsHaveNoFault, FlatFaultsAreUnique}
-use Rattle.extract_commands.specs.OneCircuits.{CellCircuitsAreUnique, CellCircuitsPassNoLimit, CellLimitsAreUnique}
-use Rattle.layout_gen.specs.CellLibrary.LawfulViews.{IsSoundView}
 use Rattle.extract_commands.proofs.ReachedRecords.{agree_below}
 use Rattle.extract_commands.proofs.SoundLibraries.{clean_tree_seen, lawful_tech, tree_named}
 

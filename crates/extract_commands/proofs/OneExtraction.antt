@@ -1,23 +1,14 @@
 -- A cell has one extraction, or is refused with one effect.
-use Rattle.std.proofs.Common.{◌≡◌, ℕ, List, [], ◌∷◌, ◌++◌, length, map, filter, Some, inl, inr, sym, ap, ◌∙◌, subst}
-use Rattle.finite_sets.specs.Lists.{In}
+use Rattle.extract_commands.proofs.Common.{◌≡◌, ℕ, List, [], ◌∷◌, ◌++◌, length, map, Some, inl, inr, sym, ap, ◌∙◌, subst, In, Rect, Store}
+use Rattle.extract_commands.proofs.Common.{ReportLine, Effect, children_in, LibraryView, view_at, IsCleanCell, refusal_line, State}
+use Rattle.extract_commands.proofs.Common.{ExtractedCellsAreNotRefused, ExtractionsAreUnique, UncleanRefusalsAreUnique, IsSoundView}
+use Rattle.std.proofs.Common.{filter}
 use Rattle.finite_sets.proofs.Members.{In-filter_source}
-use Rattle.geo_core.specs.declared.squares.Rect.{Rect}
 use Rattle.use_orders.proofs.Visiting.{Visits-unique, library_order-lists}
-use Rattle.session_model.specs.declared.answer.Store.{Store}
-use Rattle.session_model.specs.declared.report.ReportLine.{ReportLine}
-use Rattle.session_model.specs.Effects.{Effect}
-use Rattle.layout_gen.specs.CellLibrary.Additions.{children_in}
-use Rattle.layout_gen.specs.CellLibrary.Views.{LibraryView, view_at}
 use Rattle.uniqueness.specs.OwnUniqueness.{UnattachedTextsAreUnique}
-use Rattle.workspace.specs.LibraryAnswers.HierMerge.UncleanCells.{IsCleanCell}
 use Rattle.uniqueness.specs.UncleanCells.{CleanCellsHaveNoneBelow, UncleanCellsBelowAreUnique}
-use Rattle.line_answers.specs.Refusals.{refusal_line}
 use Rattle.workspace.specs.LibraryAnswers.Offending.{offending_line}
 use Rattle.workspace.specs.Extractions.{MakesRecord, MakesRecords, ext_store, unattached_line, unclean_refusal}
-use Rattle.workspace.specs.States.{State}
-use Rattle.extract_commands.specs.OneExtractions.{ExtractedCellsAreNotRefused, ExtractionsAreUnique, UncleanRefusalsAreUnique}
-use Rattle.layout_gen.specs.CellLibrary.LawfulViews.{IsSoundView}
 use Rattle.extract_commands.proofs.SoundLibraries.{clean_below_clean, none_below_clean, same_record}
 
 module _ (one_list : UnattachedTextsAreUnique) (view : LibraryView) (sound : IsSoundView view) where

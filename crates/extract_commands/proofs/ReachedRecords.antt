@@ -1,19 +1,15 @@
 -- Uses lead from the root of a clean tree to cells of the tree alone, so lists with the tree's records agree on all that is reached.
-use Rattle.std.proofs.Common.{◌≡◌, ℕ, List, [], map, inl, inr, refl, sym, ap, ◌∙◌, subst}
+use Rattle.extract_commands.proofs.Common.{◌≡◌, ℕ, List, [], map, inl, inr, refl, sym, ap, ◌∙◌, subst, In, KeepsRules, IsWellFormed, CellExt}
+use Rattle.extract_commands.proofs.Common.{NamedTree, own_body, IsCleanTree}
 use Rattle.std.specs.Prelude.{Some}
 use Rattle.finite_sets.specs.Chain.Chain.{stay, go}
-use Rattle.finite_sets.specs.Lists.{In}
 use Rattle.layout_gen.specs.CellLibrary.TechModel.declared.raw.RawTech.{RawTech}
-use Rattle.layout_gen.specs.CellLibrary.TechModel.Rules.{KeepsRules}
-use Rattle.layout_gen.specs.CellLibrary.TechModel.WellFormed.{IsWellFormed}
-use Rattle.ext_model.specs.declared.records.CellExt.{CellExt}
 use Rattle.ext_model.specs.declared.records.UseRec.{UseRec}
 use Rattle.geo_core.specs.Images.{identity}
 use Rattle.circuit_model.specs.Elements.{ext_of}
-use Rattle.uniqueness.specs.LibraryTrees.TreeRecords.NamedTrees.{NamedElements, NamedTree, own_body}
+use Rattle.uniqueness.specs.LibraryTrees.TreeRecords.NamedTrees.{NamedElements}
 use Rattle.uniqueness.specs.LibraryTrees.TreeRecords.NamedTrees.NamedTree.{named_tree}
 use Rattle.uniqueness.specs.LibraryTrees.TreeRecords.NamedTrees.NamedElements.{element_then, no_more}
-use Rattle.uniqueness.specs.LibraryTrees.TreeNames.CleanTrees.{IsCleanTree}
 use Rattle.uniqueness.specs.LibraryTrees.TreeRecords.TreeRecords.{HasTreeRecords, HaveTreeRecords, use_records}
 use Rattle.uniqueness.proofs.LibraryTrees.TreeNames.CleanTrees.{AreCleanTrees, clean_below, clean_first, clean_rest}
 use Rattle.uniqueness.specs.RecordUniqueness.{IsFoundInBoth, RecordsOfTreesAreUnique}

@@ -1,20 +1,10 @@
 -- What `vectors` and `grade` do rests on the file alone that they fetch.
-use Rattle.std.proofs.Common.{◌≡◌, ℕ, List, [], ◌∷◌, Option, Some, None, inl, inr, refl, sym, ap, subst, arith}
-use Rattle.std.specs.Prelude.{MatchOption, Result, Ok, Err}
+use Rattle.extract_commands.proofs.Common.{◌≡◌, ℕ, List, [], ◌∷◌, Option, Some, None, inl, inr, refl, sym, ap, subst, arith, MatchOption, Result, Ok}
+use Rattle.extract_commands.proofs.Common.{Err, FetchFault, Effect, text_in, cell_named, refused, no_cell, NetworkRun, vec_file, State, Workspace}
+use Rattle.extract_commands.proofs.Common.{RunsExtracted, RunsFetched, VectorsMeans, run_of, VectorQuestion}
 use Rattle.outside_io.specs.Files.{Files}
-use Rattle.session_model.specs.declared.fetching.FetchFault.{FetchFault}
-use Rattle.session_model.specs.Effects.{Effect}
-use Rattle.session_model.specs.Fetches.{AgreeOn, text_in}
+use Rattle.session_model.specs.Fetches.{AgreeOn}
 use Rattle.session_model.proofs.FetchLaws.{text_same}
-use Rattle.layout_gen.specs.CellLibrary.Views.{cell_named}
-use Rattle.line_answers.specs.LineEffects.{refused}
-use Rattle.line_answers.specs.Refusals.{no_cell}
-use Rattle.workspace.specs.NetworkRuns.declared.network_runs.NetworkRun.{NetworkRun}
-use Rattle.workspace.specs.NetworkRuns.Simulations.{vec_file}
-use Rattle.workspace.specs.States.{State, Workspace}
-use Rattle.extract_commands.specs.CellRuns.{RunsExtracted}
-use Rattle.extract_commands.specs.CommandVectors.{RunsFetched, VectorsMeans, run_of}
-use Rattle.extract_commands.specs.declared.command_vectors.VectorQuestion.{VectorQuestion}
 
 -- the names that are fetched are those that were fetched before the cell is extracted
 extracted_fetched : (run : NetworkRun) (budget number : ℕ) (fetched : List (List ℕ)) (work : Workspace) (cell : ℕ) (effect : Effect State)

@@ -1,30 +1,14 @@
 -- What is run on the network of the circuit of a cell.
-use Rattle.std.proofs.Common.{◌≡◌, ◌<◌, ◌++◌, ℕ, List, [], ◌∷◌, length, Some, inl, inr, sym, ap, ◌∙◌, subst}
-use Rattle.std.specs.Prelude.{Result, Ok, Err}
-use Rattle.session_model.specs.declared.fetching.FetchFault.{FetchFault}
-use Rattle.session_model.specs.declared.report.ReportLine.{ReportLine}
-use Rattle.session_model.specs.Effects.{Effect}
-use Rattle.session_model.specs.Fetches.{text_in}
-use Rattle.ext_model.specs.declared.circuits.Circuit.{Circuit}
-use Rattle.circuit_model.specs.declared.limits.CircuitLimit.{CircuitLimit}
-use Rattle.layout_gen.specs.CellLibrary.Views.{LibraryView}
-use Rattle.line_answers.specs.Refusals.{refusal_line, too_many}
-use Rattle.workspace.specs.LibraryAnswers.HierMerge.UncleanCells.{IsCleanCell}
+use Rattle.extract_commands.proofs.Common.{◌≡◌, ◌<◌, ◌++◌, ℕ, List, [], ◌∷◌, length, Some, inl, inr, sym, ap, ◌∙◌, subst, Result, Ok, Err}
+use Rattle.extract_commands.proofs.Common.{FetchFault, ReportLine, Effect, text_in, Circuit, CircuitLimit, LibraryView, refusal_line, IsCleanCell}
+use Rattle.extract_commands.proofs.Common.{NetworkRun, vec_file, Extraction, with_clean, State, RunsCell, RunsExtracted, TellsAt, RunsFetched}
+use Rattle.extract_commands.proofs.Common.{run_of, VectorQuestion, CellCircuitsAreUnique, CellCircuitsPassNoLimit, CellLimitsAreUnique}
+use Rattle.extract_commands.proofs.Common.{ExtractedCellsAreNotRefused, ExtractionsAreUnique, UncleanRefusalsAreUnique, IsSoundView}
+use Rattle.line_answers.specs.Refusals.{too_many}
 use Rattle.uniqueness.specs.CircuitCommands.Refusals.{circuit_limit_word}
-use Rattle.workspace.specs.NetworkRuns.declared.network_runs.NetworkRun.{NetworkRun}
 use Rattle.workspace.specs.NetworkRuns.NetworkRuns.{TellsCircuit}
-use Rattle.workspace.specs.NetworkRuns.Simulations.{vec_file}
 use Rattle.uniqueness.specs.Simulations.{CircuitAnswersAreUnique}
-use Rattle.workspace.specs.declared.extractions.Extraction.{Extraction}
-use Rattle.workspace.specs.Extractions.{with_clean}
-use Rattle.workspace.specs.States.{State}
-use Rattle.extract_commands.specs.CellRuns.{RunsCell, RunsExtracted, TellsAt}
-use Rattle.extract_commands.specs.CommandVectors.{RunsFetched, run_of}
-use Rattle.extract_commands.specs.declared.command_vectors.VectorQuestion.{VectorQuestion}
-use Rattle.extract_commands.specs.OneCircuits.{CellCircuitsAreUnique, CellCircuitsPassNoLimit, CellLimitsAreUnique}
-use Rattle.extract_commands.specs.OneExtractions.{ExtractedCellsAreNotRefused, ExtractionsAreUnique, UncleanRefusalsAreUnique}
 use Rattle.extract_commands.specs.OneEffects.{VectorsMeansOneEffect}
-use Rattle.layout_gen.specs.CellLibrary.LawfulViews.{IsSoundView}
 use Rattle.extract_commands.proofs.OnCells.{MeansOneOnCells, one_extracted, one_on_cell}
 
 module _ (one_circuit : CellCircuitsAreUnique) (one_limit : CellLimitsAreUnique) (either : CellCircuitsPassNoLimit)

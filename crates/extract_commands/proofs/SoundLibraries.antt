@@ -1,28 +1,20 @@
 -- What a lawful library with sound paint is seen as: its clean cells have one record and a clean tree, and what is below them is clean.
-use Rattle.std.proofs.Common.{◌≡◌, ◌<◌, ℕ, List, length, ap, subst, arith}
+use Rattle.extract_commands.proofs.Common.{◌≡◌, ◌<◌, ℕ, List, length, ap, subst, arith, Rect, KeepsRules, IsWellFormed, children_in, IsLawfulView}
+use Rattle.extract_commands.proofs.Common.{IsSoundView, IsLawfulLibrary, LibraryParts, seen, LibraryView, view_at, count_seen, named_tree_at}
+use Rattle.extract_commands.proofs.Common.{NamedTree, own_body, IsCleanTree, IsCleanCell}
 use Rattle.finite_sets.specs.Chain.{Chain}
-use Rattle.geo_core.specs.declared.squares.Rect.{Rect}
 use Rattle.use_orders.specs.Uses.{UsesCell}
 use Rattle.ext_model.specs.declared.arrays.ArrayExt.{ArrayExt}
-use Rattle.layout_gen.specs.CellLibrary.TechModel.Rules.{KeepsRules}
-use Rattle.layout_gen.specs.CellLibrary.TechModel.WellFormed.{IsWellFormed}
 use Rattle.layout_gen.specs.CellLibrary.LayoutModel.FlatSets.{IsTyped}
-use Rattle.layout_gen.specs.CellLibrary.Additions.{children_in}
-use Rattle.layout_gen.specs.CellLibrary.LawfulViews.{HasSoundPaint, IsLawfulView, IsSoundView}
+use Rattle.layout_gen.specs.CellLibrary.LawfulViews.{HasSoundPaint}
 use Rattle.layout_gen.specs.CellLibrary.LayoutTrees.{tree_at}
-use Rattle.layout_gen.specs.CellLibrary.Libraries.{IsLawfulLibrary, LibraryParts, seen}
-use Rattle.layout_gen.specs.CellLibrary.Views.{LibraryView, view_at}
 use Rattle.layout_gen.proofs.CellLibrary.LawfulViews.{held_sound}
 use Rattle.layout_gen.proofs.CellLibrary.TreeTypes.{library_is_typed}
-use Rattle.layout_gen.proofs.CellLibrary.ViewLaws.{count_seen}
 use Rattle.uniqueness.specs.LibraryTrees.CellRecords.{IsRecordOf}
-use Rattle.uniqueness.specs.LibraryTrees.NamedCells.{named_tree_at}
-use Rattle.uniqueness.specs.LibraryTrees.TreeRecords.NamedTrees.{NamedTree, own_body}
-use Rattle.uniqueness.specs.LibraryTrees.TreeNames.CleanTrees.{IsCleanTree}
 use Rattle.uniqueness.proofs.LibraryTrees.CleanTrees.{clean_tree}
 use Rattle.uniqueness.proofs.LibraryTrees.WholeTrees.{named_tree_unfolds}
 use Rattle.uniqueness.proofs.OneRecord.{one_record}
-use Rattle.workspace.specs.LibraryAnswers.HierMerge.UncleanCells.{IsCleanCell, IsUncleanBelow}
+use Rattle.workspace.specs.LibraryAnswers.HierMerge.UncleanCells.{IsUncleanBelow}
 use Rattle.uniqueness.proofs.CleanBelow.{all_are_clean}
 use Rattle.uniqueness.specs.UncleanCells.{CleanCellsHaveNoneBelow}
 

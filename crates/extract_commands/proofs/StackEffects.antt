@@ -1,22 +1,15 @@
 -- `generate` has one effect: the cells that it makes are those that the technology says, and the stack is one of them.
-use Rattle.std.proofs.Common.{◌≡◌, ◌<◌, ◌∙◌, ℕ, List, [], ◌∷◌, length, Some, None, inl, inr, sym, ap, subst, arith, length-append}
+use Rattle.extract_commands.proofs.Common.{◌≡◌, ◌<◌, ◌∙◌, ℕ, List, [], ◌∷◌, length, Some, None, inl, inr, sym, ap, subst, arith, length-append}
+use Rattle.extract_commands.proofs.Common.{unsigned_abs, ReportLine, Effect, CellView, LibraryView, array_cell, row_grid, row_name, stack_grid}
+use Rattle.extract_commands.proofs.Common.{stack_name, tile_cell, Stack, State, Workspace, RunsExtracted, GeneratesStack, stack_cell, unless_refused}
+use Rattle.extract_commands.proofs.Common.{CellCircuitsAreUnique, CellCircuitsPassNoLimit, CellLimitsAreUnique, ExtractedCellsAreNotRefused}
+use Rattle.extract_commands.proofs.Common.{ExtractionsAreUnique, UncleanRefusalsAreUnique, IsSoundView, SeesSoundLibrary}
 use Rattle.std.specs.Prelude.{◌+◌, Bool, true, false, if◌then◌else◌, option_map, codes}
-use Rattle.std.specs.Int.RustNames.{unsigned_abs}
-use Rattle.session_model.specs.declared.report.ReportLine.{ReportLine}
-use Rattle.session_model.specs.Effects.{Effect}
-use Rattle.layout_gen.specs.CellLibrary.Views.{CellView, LibraryView}
-use Rattle.layout_gen.specs.Generated.{IsGenerated, array_cell, row_grid, row_name, stack_grid, stack_name, tile_cell, with_generated}
-use Rattle.workspace.specs.NetworkRuns.declared.network_runs.NetworkRun.TheVariants.{Stack}
+use Rattle.layout_gen.specs.Generated.{IsGenerated, with_generated}
 use Rattle.uniqueness.specs.Simulations.{CircuitAnswersAreUnique}
-use Rattle.workspace.specs.States.{State, Workspace}
-use Rattle.extract_commands.specs.CellRuns.{RunsExtracted}
-use Rattle.extract_commands.specs.CommandGenerate.{GeneratesStack, MakesStack, forgets_edits, is_refused, stack_cell, unless_refused, with_stack}
+use Rattle.extract_commands.specs.CommandGenerate.{MakesStack, forgets_edits, is_refused, with_stack}
 use Rattle.extract_commands.specs.CommandGenerate.{without_versions}
-use Rattle.extract_commands.specs.OneCircuits.{CellCircuitsAreUnique, CellCircuitsPassNoLimit, CellLimitsAreUnique}
-use Rattle.extract_commands.specs.OneExtractions.{ExtractedCellsAreNotRefused, ExtractionsAreUnique, UncleanRefusalsAreUnique}
 use Rattle.extract_commands.specs.OneEffects.{GenerateMeansOneEffect}
-use Rattle.layout_gen.specs.CellLibrary.LawfulViews.{IsSoundView}
-use Rattle.workspace.specs.KeptSessions.{SeesSoundLibrary}
 use Rattle.extract_commands.proofs.RunEffects.{same_run}
 
 -- a library has one with the cells that are made from a number

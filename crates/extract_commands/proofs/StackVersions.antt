@@ -1,14 +1,14 @@
 -- The cells of a stack use none from before, so a log keeps its versions while they come.
-use Rattle.std.proofs.Common.{◌≡◌, ◌<◌, ◌≤◌, ◌+◌, ◌∙◌, ℕ, List, [], ◌∷◌, length, refl, sym, arith}
+use Rattle.extract_commands.proofs.Common.{◌≡◌, ◌<◌, ◌+◌, ◌∙◌, ℕ, List, [], ◌∷◌, length, refl, sym, arith, IsLawfulView, IsLawfulLibrary}
+use Rattle.extract_commands.proofs.Common.{LibraryParts, seen, CellView, count_seen, array_cell, row_grid, row_name, stack_grid, stack_name}
+use Rattle.extract_commands.proofs.Common.{tile_cell, Inverses, kept_versions}
+use Rattle.std.proofs.Common.{◌≤◌}
 use Rattle.std.specs.Prelude.{All, Option, None, Some, codes, unwrap_or}
 use Rattle.std.proofs.lemmas.List.Elements.{All-cons, All-nil}
 use Rattle.layout_gen.specs.CellLibrary.CellTree.declared.use_tables.UseBody.{UseBody}
-use Rattle.layout_gen.specs.CellLibrary.LawfulViews.{IsLawfulView}
-use Rattle.layout_gen.specs.CellLibrary.Libraries.{IsLawfulLibrary, IsLawfulScale, LibraryParts, seen}
-use Rattle.layout_gen.specs.CellLibrary.Views.{CellView}
-use Rattle.layout_gen.proofs.CellLibrary.ViewLaws.{count_seen}
-use Rattle.layout_gen.specs.Generated.{IsGenerated, array_cell, row_grid, row_name, stack_grid, stack_name, tile_cell}
-use Rattle.workspace.specs.UndoLog.Inverses.{CellsCame, Inverses, kept_versions}
+use Rattle.layout_gen.specs.CellLibrary.Libraries.{IsLawfulScale}
+use Rattle.layout_gen.specs.Generated.{IsGenerated}
+use Rattle.workspace.specs.UndoLog.Inverses.{CellsCame}
 use Rattle.workspace.proofs.UndoLog.CameLaws.{cells_come}
 use Rattle.workspace.proofs.UndoLog.LeadLaws.{versions_unique}
 use Rattle.workspace.proofs.VersionLaws.{KeepsSome}

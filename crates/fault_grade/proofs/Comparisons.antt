@@ -1,5 +1,8 @@
 -- A run with a fault that is compared, line by line, with what the run without a fault has shown.
-use Rattle.std.proofs.Common.{◌≡◌, ℕ, suc, ◌+◌, ◌<◌, ◌≤◌, List, [], ◌∷◌, ◌++◌, ◌⊎◌, Bool, true, false, ◌&&◌, inl, inr, refl, sym, ap, subst, ◌∙◌, arith, length, get_or, take, drop, map, add-one, append_assoc, drop-cons}
+use Rattle.fault_grade.proofs.Common.{◌≡◌, ℕ, ◌+◌, ◌<◌, ◌≤◌, List, [], ◌∷◌, ◌++◌, Bool, true, false, refl, sym, ap, subst, ◌∙◌, arith, length}
+use Rattle.fault_grade.proofs.Common.{get_or, take, drop, append_assoc, Level, VecLine, StuckFault, Seen, LinesShow, Watched, is_left_out, HasShown}
+use Rattle.fault_grade.proofs.Common.{is_shown_apart}
+use Rattle.std.proofs.Common.{suc, ◌⊎◌, ◌&&◌, inl, inr, map, add-one, drop-cons}
 use Rattle.std.specs.Prelude.{All, Option, Some, None, IfSome, IsSomeAnd}
 use Rattle.std.specs.List.Sorted.{IsNonDecreasingBy}
 use Rattle.std.proofs.lemmas.Bool.{cases_Bool, cases_lt, false≢true, le-ltb, lt-ltb}
@@ -7,17 +10,13 @@ use Rattle.std.proofs.lemmas.List.{length-append, length-map, length-take, take-
 use Rattle.std.proofs.lemmas.List.Elements.{All-take}
 use Rattle.std.proofs.Math.Seq.{drop-append_seam, get_or-append_seam, take-append_seam}
 use Rattle.finite_sets.specs.Lists.{In}
-use Rattle.switch_net.specs.declared.switches.Level.{Level}
 use Rattle.switch_net.specs.Path.{state_of}
-use Rattle.vector_files.specs.declared.files.VecLine.{VecLine}
 use Rattle.vector_files.specs.declared.files.VecLine.TheVariants.{Set, Free, Size, Phase, Show}
-use Rattle.fault_replay.specs.VectorRuns.declared.stuck_faults.StuckFault.{StuckFault}
-use Rattle.fault_replay.specs.VectorRuns.declared.watching.Seen.{Seen}
 use Rattle.fault_replay.specs.VectorRuns.Running.{FitsNodes}
-use Rattle.fault_replay.specs.VectorRuns.Watching.{LineIsTaken, LinesShow, Watched, counting, is_left_out, seen_in}
+use Rattle.fault_replay.specs.VectorRuns.Watching.{LineIsTaken, counting, seen_in}
 use Rattle.fault_replay.proofs.VectorRuns.LineOutcomes.{IsSoundAt}
 use Rattle.fault_replay.proofs.VectorRuns.WatchedRuns.{counting_fits, next_line, same_shown}
-use Rattle.fault_grade.specs.steps.Comparing.{Finds, HasShown, are_apart, asked_count, is_apart, is_shown_apart, least_of}
+use Rattle.fault_grade.specs.steps.Comparing.{Finds, are_apart, asked_count, is_apart, least_of}
 use Rattle.fault_grade.specs.Grades.{Lead, TellsApart, are_opposed}
 
 -- both hold of two tests that pass

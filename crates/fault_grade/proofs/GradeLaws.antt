@@ -1,27 +1,23 @@
 -- From what is found to grades, and that these are determined.
-use Rattle.std.proofs.Common.{◌≡◌, ℕ, List, [], ◌∷◌, ◌++◌, ◌+◌, Bool, true, false, refl, sym, ap, subst, ◌∙◌, arith, append_assoc}
+use Rattle.fault_grade.proofs.Common.{◌≡◌, ℕ, List, [], ◌∷◌, ◌++◌, ◌+◌, Bool, true, false, refl, sym, ap, subst, ◌∙◌, arith, append_assoc, AllZip}
+use Rattle.fault_grade.proofs.Common.{Level, Zero, One, VecLine, StuckFault, LinesShow, Watched, begun_with, Graded, HasShown, IsGrade, faults_at}
+use Rattle.fault_grade.proofs.Common.{faults_but}
 use Rattle.std.specs.Prelude.{Option, Some, None, MatchOption, filter, not}
-use Rattle.std.specs.List.{AllZip, flat_map, range_with_len}
+use Rattle.std.specs.List.{flat_map, range_with_len}
 use Rattle.std.proofs.Math.Path.{fun_ext}
 use Rattle.std.proofs.lemmas.Grind.{flat_map-append}
 use Rattle.std.proofs.lemmas.List.{append-nil}
 use Rattle.std.proofs.lemmas.List.Elements.{filter-append}
 use Rattle.std.proofs.lemmas.Slice.Zip.{all_zipped_more}
-use Rattle.switch_net.specs.declared.switches.Level.{Level}
-use Rattle.switch_net.specs.declared.switches.Level.TheVariants.{Zero, One}
 use Rattle.switch_net.specs.Network.{IsSound, Network}
 use Rattle.switch_net.specs.SimRecords.{AreStarts}
-use Rattle.vector_files.specs.declared.files.VecLine.{VecLine}
 use Rattle.vector_files.specs.declared.files.Vectors.{Vectors}
-use Rattle.fault_replay.specs.VectorRuns.declared.stuck_faults.StuckFault.{StuckFault}
 use Rattle.fault_replay.specs.VectorRuns.Running.{HasBegun}
-use Rattle.fault_replay.specs.VectorRuns.Watching.{LinesShow, Watched, begun_with}
 use Rattle.fault_replay.proofs.VectorRuns.Starts.{same_starts}
 use Rattle.finite_sets.proofs.Searches.{range_one_more}
 use Rattle.fault_grade.specs.declared.detecting.GoodRun.{GoodRun}
-use Rattle.fault_grade.specs.declared.grading.Graded.{Graded}
-use Rattle.fault_grade.specs.steps.Comparing.{Finds, HasShown, IsGoodRun}
-use Rattle.fault_grade.specs.Grades.{Detects, IsDetectedAt, IsGrade, IsUndetected, TellsApart, faults_at, faults_but}
+use Rattle.fault_grade.specs.steps.Comparing.{Finds, IsGoodRun}
+use Rattle.fault_grade.specs.Grades.{Detects, IsDetectedAt, IsUndetected, TellsApart}
 
 module _ (net : Network) (names : List (List ℕ × ℕ)) (budget : ℕ) (vectors : Vectors) where
   -- the run without a fault has shown what it shows

@@ -1,28 +1,21 @@
 -- Steps of two runs beside each other.
-use Rattle.std.proofs.Common.{◌≡◌, ◌≢◌, ℕ, ◌<◌, ◌≤◌, ◌==◌, ◌⊎◌, List, Bool, true, false, inl, inr, refl, sym, ap, subst, ◌∙◌, length, get_or, get_or-take, arith, drop, slice_index, slice_index_or, ◌+◌}
-use Rattle.std.specs.Prelude.{All, Contains, Some, filter}
-use Rattle.std.proofs.lemmas.Bool.{cases_Bool, cases_eq, cases_lt, eq-eqb, eqb-true, false≢true}
+use Rattle.fault_replay.proofs.Common.{◌≡◌, ◌≢◌, ℕ, ◌<◌, ◌≤◌, ◌==◌, List, Bool, true, false, inl, inr, refl, sym, ap, subst, ◌∙◌, length, get_or}
+use Rattle.fault_replay.proofs.Common.{arith, drop, slice_index, slice_index_or, ◌+◌, All, Some, cases_Bool, cases_eq, cases_lt, eq-eqb, eqb-true}
+use Rattle.fault_replay.proofs.Common.{false≢true, In, NodeSet, Level, X, IsSound, Network, is_input, state_of, IsInside, IsStep, IsStorage}
+use Rattle.fault_replay.proofs.Common.{input_in_range, level_cases, AreSteady, IsTold, changed, is_copied, taken_from, IsAlong, StepsBy, listed}
+use Rattle.std.proofs.Common.{◌⊎◌, get_or-take}
+use Rattle.std.specs.Prelude.{Contains, filter}
 use Rattle.std.proofs.lemmas.List.{drop_all, drop_more, get_or_past, length-take-le}
-use Rattle.finite_sets.specs.Lists.{In}
 use Rattle.finite_sets.proofs.Members.{In-get_or, In-index}
-use Rattle.switch_net.specs.declared.node_set.NodeSet.{NodeSet}
-use Rattle.switch_net.specs.declared.switches.Level.{Level}
-use Rattle.switch_net.specs.declared.switches.Level.TheVariants.{X}
 use Rattle.switch_net.specs.declared.switches.Switch.{Switch}
-use Rattle.switch_net.specs.Network.{IsSound, Network}
-use Rattle.switch_net.specs.Path.{Joins, is_input, root_strength, state_of}
-use Rattle.switch_net.specs.Sets.{IsInside}
-use Rattle.switch_net.specs.Steady.{IsNextLevel, IsStep}
-use Rattle.switch_net.specs.Vicinity.{IsStorage}
+use Rattle.switch_net.specs.Path.{Joins, root_strength}
+use Rattle.switch_net.specs.Steady.{IsNextLevel}
 use Rattle.switch_net.proofs.Listing.{count-le, inside_range, known}
-use Rattle.switch_net.proofs.Ranges.{input_in_range, level_cases}
 use Rattle.switch_net.proofs.Vicinities.{chain_from}
-use Rattle.steady_state.specs.Levels.{AreSteady}
 use Rattle.steady_state.specs.Marked.{EndsInside, IsGated, IsNear}
 use Rattle.replay_laws.specs.Differences.{AreWiredAlike, HoldsDifferences, IsAlike}
 use Rattle.replay_laws.proofs.TwoRuns.{far_step}
-use Rattle.fault_replay.specs.Changes.{IsTold, changed, is_copied, replayed, taken_from}
-use Rattle.fault_replay.specs.Replays.{IsAlong, StepsBy, listed}
+use Rattle.fault_replay.specs.Changes.{replayed}
 use Rattle.fault_replay.proofs.ChangedStates.{changed-length, passed_alike, stopped_same, taken_here, taken_other}
 
 -- ---- sets and their lists

@@ -1,14 +1,10 @@
 -- Changes of states: what each leaves, and what several make.
-use Rattle.std.proofs.Common.{◌≡◌, ◌≢◌, ℕ, ◌+◌, ◌<◌, ◌≤◌, List, [], ◌∷◌, ◌++◌, Bool, true, false, inl, inr, refl, sym, ap, subst, ◌∙◌, length, get_or, take, slice_set, arith}
-use Rattle.std.specs.Prelude.{All, filter, map}
-use Rattle.std.proofs.lemmas.Bool.{cases_Bool, cases_eq, cases_lt}
-use Rattle.std.proofs.lemmas.List.{get_or-set_other, get_or-set_same, length-set, map-append, set-get_or, set_past, take_more}
-use Rattle.std.proofs.lemmas.List.Elements.{All-head, All-tail, filter_more}
-use Rattle.finite_sets.specs.Lists.{In}
-use Rattle.switch_net.specs.declared.switches.Level.{Level}
-use Rattle.switch_net.specs.declared.switches.Level.TheVariants.{X}
-use Rattle.switch_net.specs.Path.{state_of}
-use Rattle.fault_replay.specs.Changes.{changed, taken_from}
+use Rattle.fault_replay.proofs.Common.{◌≡◌, ◌≢◌, ℕ, ◌+◌, ◌<◌, ◌≤◌, List, [], ◌∷◌, ◌++◌, Bool, true, false, inl, inr, refl, sym, ap, subst, ◌∙◌}
+use Rattle.fault_replay.proofs.Common.{length, get_or, take, slice_set, arith, All, cases_Bool, cases_eq, cases_lt, get_or-set_other}
+use Rattle.fault_replay.proofs.Common.{get_or-set_same, length-set, All-head, All-tail, In, Level, X, state_of, changed, taken_from}
+use Rattle.std.specs.Prelude.{filter, map}
+use Rattle.std.proofs.lemmas.List.{map-append, set-get_or, set_past, take_more}
+use Rattle.std.proofs.lemmas.List.Elements.{filter_more}
 
 -- changes, and then others
 pub changed-append : (changes others : List (ℕ × Level)) (s : List Level) → changed (changes ++ others) s ≡ changed others (changed changes s)

@@ -1,21 +1,15 @@
 -- Lines that are no phases, in two runs beside each other.
-use Rattle.std.proofs.Common.{◌≡◌, ◌≢◌, ◌==◌, ℕ, ◌<◌, List, ◌∷◌, Bool, true, false, inl, inr, refl, sym, ap, subst, ◌∙◌, arith, slice_set}
-use Rattle.std.proofs.lemmas.Bool.{cases_Bool, cases_eq, eq-eqb, eqb-true, false≢true}
-use Rattle.std.proofs.lemmas.List.{get_or-set_other, get_or-set_same, length-set}
-use Rattle.switch_net.specs.declared.switches.Level.{Level}
-use Rattle.switch_net.specs.declared.switches.Level.TheVariants.{X}
-use Rattle.switch_net.specs.Network.{IsSize, IsSound, Network}
-use Rattle.switch_net.specs.Path.{is_input, state_of}
-use Rattle.switch_net.specs.Sets.{IsInside}
-use Rattle.vector_files.specs.declared.files.VecLine.{VecLine}
-use Rattle.vector_files.specs.declared.files.VecLine.TheVariants.{Set, Free, Size, Phase, Show}
+use Rattle.fault_replay.proofs.Common.{◌≡◌, ◌≢◌, ◌==◌, ℕ, ◌<◌, List, ◌∷◌, Bool, true, false, inl, inr, refl, sym, ap, subst, ◌∙◌, arith, slice_set}
+use Rattle.fault_replay.proofs.Common.{cases_Bool, cases_eq, eq-eqb, eqb-true, false≢true, get_or-set_other, get_or-set_same, length-set, Level, X}
+use Rattle.fault_replay.proofs.Common.{IsSound, Network, is_input, state_of, IsInside, VecLine, Set, Free, Size, Phase, Show, with_input, with_size}
+use Rattle.fault_replay.proofs.Common.{PhaseRecord, IsAlong, Records}
+use Rattle.switch_net.specs.Network.{IsSize}
 use Rattle.vector_runs.specs.declared.replies.VecReply.{VecReply}
 use Rattle.vector_runs.specs.Running.{FitsNodes}
-use Rattle.vector_runs.specs.Runs.{LineRuns, Standing, with_input, with_size}
+use Rattle.vector_runs.specs.Runs.{LineRuns, Standing}
 use Rattle.vector_runs.specs.Watching.{LineIsTaken, Watched, is_of}
 use Rattle.vector_runs.proofs.LineOutcomes.{input_sound, size_sound}
-use Rattle.fault_replay.specs.declared.records.PhaseRecord.{PhaseRecord}
-use Rattle.fault_replay.specs.Replays.{AreAlikeBut, IsAlong, Records, states_after}
+use Rattle.fault_replay.specs.Replays.{AreAlikeBut, states_after}
 use Rattle.fault_replay.proofs.ChangedStates.{set_both}
 
 -- equal tests tell equal numbers apart

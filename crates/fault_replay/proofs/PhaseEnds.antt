@@ -1,17 +1,12 @@
 -- How phases end that are replayed.
-use Rattle.std.proofs.Common.{◌≡◌, ◌≢◌, ℕ, zero, suc, ◌+◌, ◌-◌, ◌≤◌, ◌⊎◌, List, [], ◌∷◌, Bool, true, false, inl, inr, refl, sym, ap, subst, ◌∙◌, length, arith}
-use Rattle.switch_net.specs.declared.switches.Level.{Level}
-use Rattle.switch_net.specs.Network.{IsSound, Network}
-use Rattle.switch_net.specs.Path.{is_input, state_of}
-use Rattle.switch_net.specs.Phase.{SettlesAfter, Steps}
-use Rattle.switch_net.specs.Steady.{IsStep}
+use Rattle.fault_replay.proofs.Common.{◌≡◌, ◌≢◌, ℕ, ◌+◌, ◌-◌, ◌≤◌, List, [], ◌∷◌, Bool, true, false, inl, inr, refl, sym, ap, subst, ◌∙◌, length}
+use Rattle.fault_replay.proofs.Common.{arith, Level, IsSound, Network, is_input, state_of, Steps, IsStep, input_in_range, level_cases, phase_keeps}
+use Rattle.fault_replay.proofs.Common.{IsTold, EndsPhase, IsAlong, SettlesDown}
+use Rattle.std.proofs.Common.{zero, suc, ◌⊎◌}
+use Rattle.switch_net.specs.Phase.{SettlesAfter}
 use Rattle.switch_net.proofs.Phases.{one_way, steps_length}
-use Rattle.switch_net.proofs.Ranges.{input_in_range, level_cases}
 use Rattle.switch_net.proofs.Unique.{one_step}
 use Rattle.vector_runs.proofs.LineOutcomes.{phase_length}
-use Rattle.vector_runs.proofs.SplitRuns.{phase_keeps}
-use Rattle.fault_replay.specs.Changes.{IsTold}
-use Rattle.fault_replay.specs.Replays.{EndsPhase, IsAlong, SettlesDown}
 
 -- whether two lists of states are one can be decided
 cases_states : (s t : List Level) → (s ≡ t) ⊎ (s ≢ t)

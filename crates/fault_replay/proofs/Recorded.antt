@@ -1,22 +1,10 @@
 -- Runs that are recorded.
-use Rattle.std.proofs.Common.{◌≡◌, ℕ, ◌<◌, List, [], ◌∷◌, ◌++◌, true, false, refl, sym, ap, subst, ◌∙◌, length, arith, slice_set}
-use Rattle.std.specs.Prelude.{All, None}
-use Rattle.std.proofs.lemmas.Bool.{false≢true}
-use Rattle.switch_net.specs.declared.node_set.NodeSet.{NodeSet}
-use Rattle.switch_net.specs.declared.switches.Level.{Level}
-use Rattle.switch_net.specs.Network.{IsSound, Network}
-use Rattle.switch_net.specs.Path.{is_input, state_of}
-use Rattle.switch_net.specs.Sets.{IsInside}
-use Rattle.switch_net.specs.Steady.{IsStep}
-use Rattle.switch_net.specs.Vicinity.{IsStorage}
-use Rattle.steady_state.specs.Levels.{AreSteady}
+use Rattle.fault_replay.proofs.Common.{◌≡◌, ℕ, ◌<◌, List, [], ◌∷◌, ◌++◌, true, false, refl, sym, ap, subst, ◌∙◌, length, arith, slice_set, All, None}
+use Rattle.fault_replay.proofs.Common.{false≢true, NodeSet, Level, IsSound, Network, is_input, state_of, IsInside, IsStep, IsStorage, AreSteady}
+use Rattle.fault_replay.proofs.Common.{VecLine, Set, Free, Size, Phase, Show, with_input, with_size, changed, taken_from, Follows, IsQuietBut}
+use Rattle.fault_replay.proofs.Common.{Records, StepsBy, listed}
 use Rattle.steady_state.specs.Marked.{IsGated, IsNear, IsQuiet}
 use Rattle.steady_state.proofs.Moving.{all_quiet, part_steps, quiet_next}
-use Rattle.vector_files.specs.declared.files.VecLine.{VecLine}
-use Rattle.vector_files.specs.declared.files.VecLine.TheVariants.{Set, Free, Size, Phase, Show}
-use Rattle.vector_runs.specs.Runs.{with_input, with_size}
-use Rattle.fault_replay.specs.Changes.{changed, taken_from}
-use Rattle.fault_replay.specs.Replays.{Follows, IsQuietBut, Records, StepsBy, listed}
 use Rattle.fault_replay.proofs.Beside.{each_inside, is_inside, is_listed}
 use Rattle.fault_replay.proofs.ChangedStates.{changed-length, changed_of, taken_here, taken_other}
 

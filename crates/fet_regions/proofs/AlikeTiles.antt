@@ -1,37 +1,22 @@
 -- Labels of tiles that contacts between tiles of one type make are those of the edge-connected sets of one type.
-use Rattle.std.proofs.Common.{◌≡◌, ◌≢◌, ◌↔◌, ℕ, ◌<◌, ℤ, pos, ◌<ℤ◌, Bool, true, cond, eqb, List, filter, length, Some, inl, inr, refl, sym, ◌∙◌, ap, subst}
-use Rattle.std.proofs.Common.{arith}
-use Rattle.std.specs.Prelude.{slice_get, slice_index}
-use Rattle.std.proofs.lemmas.Bool.{cases_lt}
-use Rattle.std.proofs.lemmas.Option.{slice_get_within, get_or_from_slice_get}
+use Rattle.fet_regions.proofs.Common.{◌≡◌, ◌≢◌, ℕ, ◌<◌, ℤ, pos, Bool, true, cond, eqb, List, filter, length, inl, inr, refl, sym, ◌∙◌, ap, subst}
+use Rattle.fet_regions.proofs.Common.{arith, slice_get, slice_index, cases_lt, slice_get_within, get_or_from_slice_get, Lists, In-map, In-map_source}
+use Rattle.fet_regions.proofs.Common.{In-filter, In-filter_source, In-filter_passes, corner_of, Divides, IsPair, Contact, RawTech, plane_of, Place}
+use Rattle.fet_regions.proofs.Common.{Layout, IsMaterial, HasTypesOf, AreOneChannel, LiesIn, AreLayoutTiles, RegionTile, no_tile, tile_at}
+use Rattle.fet_regions.proofs.Common.{IsTileContact, one_plane, same_from_test, are_alike, alike_pairs, place_of}
+use Rattle.std.proofs.Common.{◌↔◌, ◌<ℤ◌, Some}
 use Rattle.finite_sets.specs.Chain.{EitherWay}
 use Rattle.finite_sets.specs.Chain.Chain.{stay, go}
-use Rattle.finite_sets.specs.Lists.{Lists}
-use Rattle.finite_sets.proofs.Members.{In-map, In-map_source, In-filter, In-filter_source, In-filter_passes}
 use Rattle.geo_core.specs.Covering.{IsProper}
-use Rattle.geo_core.specs.Areas.{corner_of}
 use Rattle.geo_core.proofs.CornerLaws.{corner_covers}
-use Rattle.partition.specs.Divides.{Divides, IsPair}
-use Rattle.rect_contacts.specs.declared.contacts.Contact.{Contact}
 use Rattle.rect_contacts.specs.Contacts.{shared_length}
 use Rattle.rect_contacts.proofs.Shared.{shared_length-comm}
-use Rattle.tech_model.specs.declared.raw.RawTech.{RawTech}
-use Rattle.tech_model.specs.Types.{plane_of}
-use Rattle.layout_model.specs.Places.{Place}
-use Rattle.layout_model.specs.Layouts.{Layout, IsMaterial}
-use Rattle.layout_model.specs.LayerTypes.{HasTypesOf}
 use Rattle.layout_model.specs.Links.{AreOneNode}
-use Rattle.layout_model.specs.Transistors.{AreOneChannel}
-use Rattle.layout_model.specs.RegionTiles.{LiesIn, AreLayoutTiles}
-use Rattle.layout_model.specs.declared.region_tiles.RegionTile.{RegionTile}
 use Rattle.flood_nodes.specs.steps.LinkedTiles.{AreLinkedTiles, NumbersNodes}
-use Rattle.flood_nodes.specs.TileShares.{no_tile, tile_at, shared_by, IsTileContact}
+use Rattle.flood_nodes.specs.TileShares.{shared_by}
 use Rattle.flood_nodes.proofs.LayoutRegions.{numbers_from_labels}
 use Rattle.flood_nodes.proofs.LinkLaws.{contact_meets}
-use Rattle.flood_nodes.proofs.ShareLaws.{one_plane, eqb-comm}
-use Rattle.flood_nodes.proofs.StackLaws.{same_from_test}
-use Rattle.fet_regions.specs.steps.Channels.{are_alike, alike_pairs}
-use Rattle.fet_regions.specs.steps.Lowest.{place_of}
+use Rattle.flood_nodes.proofs.ShareLaws.{eqb-comm}
 
 -- Tiles have one label exactly where their places are of one edge-connected set of one type.
 abbrev pub AreLabelled : Layout → List RegionTile → List ℕ → Type 0

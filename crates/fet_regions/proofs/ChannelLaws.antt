@@ -1,28 +1,16 @@
 -- Transistors by their tiles: a channel's places are those of the tiles of its type with its label.
-use Rattle.std.proofs.Common.{arith, ◌≡◌, ◌≢◌, ℕ, ◌<◌, pos, Bool, true, false, not, cond, eqb, ◌&&◌, List, length, refl, sym, ◌∙◌, ap}
-use Rattle.std.specs.Prelude.{slice_index}
+use Rattle.fet_regions.proofs.Common.{arith, ◌≡◌, ◌≢◌, ℕ, ◌<◌, pos, Bool, true, false, not, cond, eqb, ◌&&◌, List, length, refl, sym, ◌∙◌, ap}
+use Rattle.fet_regions.proofs.Common.{slice_index, get_or_from_slice_get, and_parts, Lists, sum_on, Total, Contact, area_of, RawTech, Place, Layout}
+use Rattle.fet_regions.proofs.Common.{IsMaterial, is_terminal, LeadsAcross, IsEdgeCount, LiesIn, AreLayoutTiles, IsInRegion, AreOneChannel}
+use Rattle.fet_regions.proofs.Common.{IsTerminalOf, RegionTile, no_tile, tile_at, indices_of, IsTileContact, edges_by_contacts, open_by_contacts}
+use Rattle.fet_regions.proofs.Common.{one_plane, same_from_test}
 use Rattle.std.proofs.lemmas.Bool.Decides.{nat_tests}
-use Rattle.std.proofs.lemmas.Option.{get_or_from_slice_get}
-use Rattle.std.proofs.lemmas.Bool.{and_from, and_parts}
-use Rattle.finite_sets.specs.Lists.{Lists}
-use Rattle.finite_sets.specs.Total.{sum_on, Total}
+use Rattle.std.proofs.lemmas.Bool.{and_from}
 use Rattle.finite_sets.proofs.Chains.{Chain-push, Chain-keeps}
 use Rattle.finite_sets.proofs.Totals.{Total-iff}
-use Rattle.rect_contacts.specs.declared.contacts.Contact.{Contact}
-use Rattle.rect_contacts.specs.Squares.{area_of}
-use Rattle.tech_model.specs.declared.raw.RawTech.{RawTech}
-use Rattle.layout_model.specs.Places.{Place}
-use Rattle.layout_model.specs.Layouts.{Layout, IsMaterial}
-use Rattle.tech_model.specs.ChannelRoles.{is_terminal}
-use Rattle.layout_model.specs.EdgeCounts.{LeadsAcross, IsEdgeCount}
-use Rattle.layout_model.specs.RegionTiles.{LiesIn, AreLayoutTiles, IsInRegion}
-use Rattle.layout_model.specs.Transistors.{AreOneChannel, IsTerminalOf}
-use Rattle.layout_model.specs.declared.region_tiles.RegionTile.{RegionTile}
-use Rattle.flood_nodes.specs.TileShares.{no_tile, tile_at, indices_of, IsTileContact, IsInTiles, edges_by_contacts, open_by_contacts, is_of}
+use Rattle.flood_nodes.specs.TileShares.{IsInTiles, is_of}
 use Rattle.flood_nodes.proofs.EdgeTotals.{contacts_count_edges}
 use Rattle.flood_nodes.proofs.OpenEdges.{tiles_count, contacts_close_edges}
-use Rattle.flood_nodes.proofs.ShareLaws.{one_plane}
-use Rattle.flood_nodes.proofs.StackLaws.{same_from_test}
 use Rattle.fet_regions.proofs.AlikeTiles.{AreLabelled}
 
 not_zero : (m : ℕ) → m ≢ 0 → eqb 0 m ≡ false

@@ -1,23 +1,16 @@
 -- What holds of contacts holds of what is made of them.
-use Rattle.std.proofs.Common.{◌≡◌, ℕ, ◌+◌, ◌<◌, pos, ◌-ℤ◌, Bool, true, false, cond, List, [], ◌∷◌, ◌++◌, filter, take, length, get_or, inl, inr, refl}
-use Rattle.std.proofs.Common.{sym, ◌∙◌, ap, subst, append_assoc}
-use Rattle.std.specs.Prelude.{All, slice_index}
+use Rattle.fet_regions.proofs.Common.{◌≡◌, ℕ, ◌+◌, ◌<◌, pos, ◌-ℤ◌, Bool, true, false, cond, List, [], ◌∷◌, ◌++◌, filter, take, length, get_or, inl}
+use Rattle.fet_regions.proofs.Common.{inr, refl, sym, ◌∙◌, ap, subst, All, slice_index, append-nil, take_more, In, In-get_or, In-index}
+use Rattle.fet_regions.proofs.Common.{In-filter_source, In-map_source, Amount, Contact, RegionTile, indices_of, Lists-indices_of, are_alike}
+use Rattle.fet_regions.proofs.Common.{alike_pairs, parts_beside, parts_of, Part, area_amount, perimeter_amount, area_amounts, perimeter_amounts}
+use Rattle.fet_regions.proofs.Common.{shared_at, shared_amounts}
+use Rattle.std.proofs.Common.{append_assoc}
 use Rattle.std.specs.List.{flat_map}
 use Rattle.std.proofs.lemmas.Grind.{flat_map-append}
-use Rattle.std.proofs.lemmas.List.{append-nil, take_more}
 use Rattle.std.proofs.lemmas.List.Elements.{All-map, All-append}
-use Rattle.finite_sets.specs.Lists.{In}
-use Rattle.finite_sets.proofs.Members.{In-append_cases, In-get_or, In-index, In-filter_source, In-map_source}
+use Rattle.finite_sets.proofs.Members.{In-append_cases}
 use Rattle.finite_sets.proofs.Searches.{All-from_In}
-use Rattle.key_sums.specs.declared.Amount.{Amount}
-use Rattle.rect_contacts.specs.declared.contacts.Contact.{Contact}
-use Rattle.layout_model.specs.declared.region_tiles.RegionTile.{RegionTile}
-use Rattle.flood_nodes.specs.TileShares.{indices_of}
-use Rattle.flood_nodes.proofs.ShareLaws.{Lists-indices_of}
-use Rattle.fet_regions.specs.steps.Channels.{are_alike, alike_pairs}
-use Rattle.fet_regions.specs.Lengths.{parts_beside, parts_at, parts_of}
-use Rattle.fet_regions.specs.declared.lengths.Part.{Part}
-use Rattle.fet_regions.specs.steps.Sizes.{area_amount, perimeter_amount, area_amounts, perimeter_amounts, shared_at, shared_amounts}
+use Rattle.fet_regions.specs.Lengths.{parts_at}
 
 abbrev pub AreWithin : List RegionTile → List Contact → Type 0
 AreWithin tiles contacts = All (λ contact. (contact.first < length tiles) × (contact.second < length tiles)) contacts

@@ -1,51 +1,33 @@
 -- What is found at the lowest tiles are the transistors.
-use Rattle.std.proofs.Common.{◌≡◌, ℕ, suc, ◌+◌, ◌<◌, ℤ, pos, ◌<ℤ◌, Bool, true, eqb, List, [], ◌∷◌, ◌++◌, map, take, length, get_or, IsTrue, Some, inl}
-use Rattle.std.proofs.Common.{inr, refl, sym}
-use Rattle.std.proofs.Common.{◌∙◌, ap, subst, arith}
-use Rattle.std.specs.Prelude.{slice_get, slice_index, Option, All, AllPairs}
-use Rattle.std.proofs.lemmas.Int.{ints}
-use Rattle.std.proofs.lemmas.Bool.{cases_lt}
-use Rattle.std.proofs.lemmas.List.{get_or-map, get_or-take, get_or_append_left, get_or_push, length-map, length-take-le, length_push}
-use Rattle.std.proofs.lemmas.Option.{slice_get_within, slice_get-get_or, get_or_from_slice_get}
-use Rattle.geo_core.specs.Areas.{corner_of}
+use Rattle.fet_regions.proofs.Common.{◌≡◌, ℕ, ◌+◌, ◌<◌, ℤ, pos, Bool, true, eqb, List, [], ◌∷◌, ◌++◌, map, take, length, get_or, IsTrue, inl, inr}
+use Rattle.fet_regions.proofs.Common.{refl, sym, ◌∙◌, ap, subst, arith, slice_get, slice_index, Option, All, AllPairs, ints, cases_lt, get_or-map}
+use Rattle.fet_regions.proofs.Common.{length-map, slice_get_within, get_or_from_slice_get, corner_of, square_is, In, Lists, sum_on, Total, In-index}
+use Rattle.fet_regions.proofs.Common.{In-get_or, In-map, In-map_source, Divides, IsPair, Contact, RawTech, TypeId, KeepsRules, plane_of, Place}
+use Rattle.fet_regions.proofs.Common.{Layout, IsMaterial, HasTypesOf, is_channel, is_terminal, LeadsAcross, IsEdgeCount, LiesIn, AreLayoutTiles}
+use Rattle.fet_regions.proofs.Common.{IsInRegion, AreOneChannel, IsTerminalOf, AreTransistors, RegionTile, no_tile, tile_at, IsTileContact}
+use Rattle.fet_regions.proofs.Common.{edges_by_contacts, part_in, parts_of, summed, IsChannelTile, IsNoHigher, AreLowest, place_of, alike_pairs}
+use Rattle.fet_regions.proofs.Common.{channel_in, terminal_in, transistor_of, AreFoundAt, AreFets, Fet, Part}
+use Rattle.std.proofs.Common.{suc, ◌<ℤ◌, Some}
+use Rattle.std.proofs.lemmas.List.{get_or-take, get_or_append_left, get_or_push, length-take-le, length_push}
+use Rattle.std.proofs.lemmas.Option.{slice_get-get_or}
 use Rattle.geo_core.specs.Covering.{Covers}
-use Rattle.geo_core.proofs.SquareLaws.{square_is}
 use Rattle.finite_sets.specs.Chain.Chain.{stay}
-use Rattle.finite_sets.specs.Lists.{In, Lists, Distinct}
-use Rattle.finite_sets.specs.Total.{sum_on, Total}
+use Rattle.finite_sets.specs.Lists.{Distinct}
 use Rattle.finite_sets.proofs.Chains.{Chain-keeps}
 use Rattle.finite_sets.proofs.Distincts.{Distinct-from_places}
-use Rattle.finite_sets.proofs.Members.{In-index, In-get_or, In-map, In-map_source}
 use Rattle.finite_sets.proofs.Orders.{less_equal_or_greater}
 use Rattle.finite_sets.proofs.Sums.{sum_on-count}
 use Rattle.finite_sets.proofs.Totals.{Total-at}
-use Rattle.partition.specs.Divides.{Divides, IsPair}
-use Rattle.rect_contacts.specs.declared.contacts.Contact.{Contact}
-use Rattle.tech_model.specs.declared.raw.RawTech.{RawTech}
-use Rattle.tech_model.specs.declared.raw.TypeId.{TypeId}
-use Rattle.tech_model.specs.Rules.{KeepsRules}
-use Rattle.tech_model.specs.Types.{plane_of}
 use Rattle.tech_model.specs.WellFormed.{IsWellFormed}
-use Rattle.layout_model.specs.Places.{Place, AreNeighbours, IsBefore, IsNoLater}
-use Rattle.layout_model.specs.Layouts.{Layout, IsMaterial}
-use Rattle.layout_model.specs.LayerTypes.{HasTypesOf}
-use Rattle.tech_model.specs.ChannelRoles.{is_channel, is_terminal}
-use Rattle.layout_model.specs.EdgeCounts.{LeadsAcross, IsEdgeCount}
-use Rattle.layout_model.specs.RegionTiles.{LiesIn, AreLayoutTiles, IsInRegion}
-use Rattle.layout_model.specs.Transistors.{AreOneChannel, IsTerminalOf, Transistor, IsTransistor, AreFetsInOrder, AreTransistors}
-use Rattle.layout_model.specs.declared.region_tiles.RegionTile.{RegionTile}
+use Rattle.layout_model.specs.Places.{AreNeighbours, IsBefore, IsNoLater}
+use Rattle.layout_model.specs.Transistors.{Transistor, IsTransistor, AreFetsInOrder}
 use Rattle.layout_model.proofs.PlaceLaws.{IsBefore-trans}
-use Rattle.flood_nodes.specs.TileShares.{no_tile, tile_at, IsTileContact, edges_by_contacts}
 use Rattle.flood_nodes.proofs.TileEdges.{lies_in_one}
-use Rattle.fet_regions.specs.Lengths.{AreByRegion, part_in, parts_of, summed}
-use Rattle.fet_regions.specs.steps.Lowest.{IsChannelTile, IsNoHigher, AreLowest, place_of}
+use Rattle.fet_regions.specs.Lengths.{AreByRegion}
 use Rattle.fet_regions.specs.steps.Sizes.{AreSizes}
-use Rattle.fet_regions.specs.steps.Channels.{alike_pairs}
-use Rattle.fet_regions.specs.steps.Roles.{channel_in, terminal_in, AreRoles}
+use Rattle.fet_regions.specs.steps.Roles.{AreRoles}
 use Rattle.fet_regions.specs.declared.roles.Roles.{Roles}
-use Rattle.fet_regions.specs.Transistors.{transistor_of, IsFoundAt, AreFoundAt, AreFets}
-use Rattle.fet_regions.specs.declared.transistors.Fet.{Fet}
-use Rattle.fet_regions.specs.declared.lengths.Part.{Part}
+use Rattle.fet_regions.specs.Transistors.{IsFoundAt}
 use Rattle.fet_regions.specs.declared.sizes.Sizes.{Sizes}
 use Rattle.fet_regions.proofs.AlikeTiles.{AreLabelled, labelled, corner_lies, lies_material, tile_plane}
 use Rattle.fet_regions.proofs.ChannelLaws.{IsMeasuredChannel, is_of_channel, is_terminal_of, measured, of_label}

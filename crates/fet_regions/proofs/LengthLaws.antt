@@ -1,25 +1,14 @@
 -- The parts of a length, summed, are the edges from a channel to a terminal.
-use Rattle.std.proofs.Common.{◌≡◌, ◌⊎◌, ℕ, ◌<◌, ℤ, pos, ◌+ℤ◌, ◌*ℤ◌, ◌<ℤ◌, ◌≤ℤ◌, Bool, true, false, cond, eqb, ◌&&◌, ◌||◌, List, [], ◌∷◌, ◌++◌, length}
-use Rattle.std.proofs.Common.{inl, inr, refl, sym}
-use Rattle.std.proofs.Common.{◌∙◌, ap, subst, arith}
-use Rattle.std.specs.Prelude.{slice_index, Some, None}
-use Rattle.std.specs.List.{list_any}
-use Rattle.std.proofs.lemmas.Bool.{false≢true, cases_Bool, and_parts}
-use Rattle.std.proofs.lemmas.Int.{ints}
+use Rattle.fet_regions.proofs.Common.{◌≡◌, ◌⊎◌, ℕ, ◌<◌, ℤ, pos, ◌+ℤ◌, ◌*ℤ◌, Bool, true, false, cond, eqb, ◌&&◌, ◌||◌, List, [], ◌∷◌, ◌++◌, length}
+use Rattle.fet_regions.proofs.Common.{inl, inr, refl, sym, ◌∙◌, ap, subst, arith, slice_index, Some, None, list_any, false≢true, cases_Bool}
+use Rattle.fet_regions.proofs.Common.{and_parts, ints, In, sum_on, one_if, Contact, RawTech, is_terminal, RegionTile, tile_at, indices_of}
+use Rattle.fet_regions.proofs.Common.{edges_by_contacts, same_from_test, parts_beside, parts_of, is_part_of, part_in, summed, Part}
+use Rattle.std.proofs.Common.{◌<ℤ◌, ◌≤ℤ◌}
 use Rattle.std.proofs.lemmas.Option.{same_Some}
-use Rattle.finite_sets.specs.Lists.{In}
-use Rattle.finite_sets.specs.Total.{sum_on, one_if}
 use Rattle.finite_sets.proofs.Members.{In-append_cases}
 use Rattle.finite_sets.proofs.Searches.{list_any-In}
 use Rattle.finite_sets.proofs.Sums.{sum_on-append, sum_on-nothing}
-use Rattle.rect_contacts.specs.declared.contacts.Contact.{Contact}
-use Rattle.tech_model.specs.declared.raw.RawTech.{RawTech}
-use Rattle.tech_model.specs.ChannelRoles.{is_terminal}
-use Rattle.layout_model.specs.declared.region_tiles.RegionTile.{RegionTile}
-use Rattle.flood_nodes.specs.TileShares.{tile_at, indices_of, inner_edges, edges_by_contacts}
-use Rattle.flood_nodes.proofs.StackLaws.{same_from_test}
-use Rattle.fet_regions.specs.Lengths.{parts_beside, parts_of, is_part_of, part_in, summed}
-use Rattle.fet_regions.specs.declared.lengths.Part.{Part}
+use Rattle.flood_nodes.specs.TileShares.{inner_edges}
 use Rattle.fet_regions.proofs.ChannelLaws.{is_of_channel, is_terminal_of}
 
 -- what one side of a contact counts

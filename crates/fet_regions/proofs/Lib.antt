@@ -2,6 +2,7 @@
 pub use Rattle.flood_nodes.proofs as FloodNodes
 mod AlikeTiles
 mod ChannelLaws
+mod Common
 mod ContactLaws
 mod FetLaws
 mod LengthLaws

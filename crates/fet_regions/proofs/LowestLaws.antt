@@ -1,32 +1,22 @@
 -- Corners in order, and the first of each label among them.
-use Rattle.std.proofs.Common.{◌≡◌, ◌≢◌, ℕ, ◌+◌, ◌<◌, pos, Bool, true, false, cond, List, [], ◌∷◌, ◌++◌, map, filter, length, get_or, inl, inr}
-use Rattle.std.proofs.Common.{refl, sym, ◌∙◌, ap, subst, arith}
+use Rattle.fet_regions.proofs.Common.{◌≡◌, ◌≢◌, ℕ, ◌+◌, ◌<◌, pos, Bool, true, false, cond, List, [], ◌∷◌, ◌++◌, map, filter, length, get_or, inl}
+use Rattle.fet_regions.proofs.Common.{inr, refl, sym, ◌∙◌, ap, subst, arith, slice_index, AllPairs, All, range_with_len, Ordering, false≢true}
+use Rattle.fet_regions.proofs.Common.{cases_eq, cases_lt, ints, corner_of, square_is, In, In-index, In-get_or, In-map, In-map_source, In-filter}
+use Rattle.fet_regions.proofs.Common.{In-filter_source, In-filter_passes, Place, RegionTile, tile_at, indices_of, Lists-indices_of, IsChannelTile}
+use Rattle.fet_regions.proofs.Common.{corner_at, place_of, IsNoHigher, channel_corners, AreCorners, AreLowest, Corner}
 use Rattle.std.proofs.Common.{get_or-set_same, get_or-set_other}
-use Rattle.std.specs.Prelude.{slice_index, AllPairs, IsPermutation, IsSorted, All}
+use Rattle.std.specs.Prelude.{IsPermutation, IsSorted}
 use Rattle.std.specs.Cmp.{IsTotalOrder}
-use Rattle.std.specs.List.{range_with_len}
-use Rattle.std.specs.declared.cmp.Ordering.{Ordering}
 use Rattle.std.specs.Ordering.{is_lt, int_cmp, nat_cmp, ordering_then}
 use Rattle.std.proofs.Math.ListN.{set, length-set, replicate}
-use Rattle.std.proofs.lemmas.Bool.{false≢true, cases_eq, cases_lt}
 use Rattle.std.proofs.lemmas.Cmp.{int_cmp_total, nat_cmp_total, on_total, then_total}
-use Rattle.std.proofs.lemmas.Int.{ints}
 use Rattle.std.proofs.lemmas.List.{get_or-replicate, get_or_past, length-replicate}
 use Rattle.std.proofs.lemmas.List.FromFn.{filter_of_map_range_with_len_more}
 use Rattle.std.proofs.lemmas.List.Quantifiers.{all_pairs_push}
 use Rattle.std.proofs.lemmas.List.Sorted.{IsPermutation-sym}
-use Rattle.geo_core.specs.Areas.{corner_of}
-use Rattle.geo_core.proofs.SquareLaws.{square_is}
-use Rattle.finite_sets.specs.Lists.{In}
-use Rattle.finite_sets.proofs.Members.{In-index, In-get_or, In-map, In-map_source, In-filter, In-filter_source, In-filter_passes, In-permutation, In-push}
+use Rattle.finite_sets.proofs.Members.{In-permutation, In-push}
 use Rattle.finite_sets.proofs.Members.{In-push_cases, In-append_left}
 use Rattle.finite_sets.proofs.Orders.{ordering_then-not_less, int_then-not_less, less_equal_or_greater, IsSorted-pairs, nat_then-not_less}
-use Rattle.layout_model.specs.Places.{Place}
-use Rattle.layout_model.specs.declared.region_tiles.RegionTile.{RegionTile}
-use Rattle.flood_nodes.specs.TileShares.{tile_at, indices_of}
-use Rattle.flood_nodes.proofs.ShareLaws.{Lists-indices_of}
-use Rattle.fet_regions.specs.steps.Lowest.{IsChannelTile, corner_at, place_of, IsNoHigher, channel_corners, AreCorners, AreLowest}
-use Rattle.fet_regions.specs.declared.lowest.Corner.{Corner}
 
 -- the order of corners
 abbrev pub corner_cmp : Corner → Corner → Ordering

@@ -1,35 +1,25 @@
 -- Lengths in a map: one part more, and what lies in the range of a label.
-use Rattle.std.proofs.Common.{◌≡◌, ◌⊎◌, ℕ, ◌+◌, ◌<◌, ◌≤◌, ℤ, pos, ◌+ℤ◌, Bool, true, false, not, cond, eqb, ◌&&◌, ◌||◌, List, [], ◌∷◌, ◌++◌, map, length}
-use Rattle.std.proofs.Common.{get_or, take, inl, inr, refl, sym, ◌∙◌, ap, subst, arith}
-use Rattle.std.specs.Prelude.{Option, Some, None, unwrap_or}
-use Rattle.std.specs.List.{list_any}
-use Rattle.std.specs.declared.cmp.Ordering.{Ordering}
+use Rattle.fet_regions.proofs.Common.{◌≡◌, ◌⊎◌, ℕ, ◌+◌, ◌<◌, ◌≤◌, ℤ, pos, ◌+ℤ◌, Bool, true, false, not, cond, eqb, ◌&&◌, ◌||◌, List, [], ◌∷◌, ◌++◌}
+use Rattle.fet_regions.proofs.Common.{map, length, get_or, take, inl, inr, refl, sym, ◌∙◌, ap, subst, arith, Option, Some, None, unwrap_or, list_any}
+use Rattle.fet_regions.proofs.Common.{Ordering, Included, Excluded, cases_eq, cases_lt, false≢true, and_parts, ints, get_or-map, length-map}
+use Rattle.fet_regions.proofs.Common.{take_more, AllPairs, In, sum_on, In-get_or, In-filter, In-filter_source, In-filter_passes, In-map}
+use Rattle.fet_regions.proofs.Common.{In-map_source, Bounded, one_plane, same_from_test, is_part_of, part_in, summed, key_cmp, AreTerminals, Part}
 use Rattle.std.specs.declared.cmp.Ordering.TheVariants.{Less, Equal, Greater}
-use Rattle.std.specs.declared.ops.Bound.TheVariants.{Included, Excluded}
 use Rattle.std.specs.BTreeMap.{is_at}
 use Rattle.std.specs.BTreeMap.Range.{entries_between, range_contains}
 use Rattle.std.specs.Cmp.{IsTotalOrder, nat_cmp_is}
 use Rattle.std.specs.List.Sorted.{IsStrictlySortedBy}
 use Rattle.std.specs.Map.{lookup, keys_of}
 use Rattle.std.specs.Ordering.{nat_cmp, ordering_then, is_eq, is_le}
-use Rattle.std.proofs.lemmas.Bool.{cases_eq, cases_lt, false≢true, and_parts}
 use Rattle.std.proofs.lemmas.Cmp.{nat_cmp_total, on_total, then_total, eq_by_cmp_equiv}
-use Rattle.std.proofs.lemmas.Int.{ints}
-use Rattle.std.proofs.lemmas.List.{get_or-map, length-map, take_more}
 use Rattle.std.proofs.lemmas.List.Folds.{list_any-append}
 use Rattle.std.proofs.lemmas.Map.Keys.{IsDistinct-from_sorted, Less-from_sorted}
 use Rattle.std.proofs.lemmas.List.Kept.{AllPairs-filter}
 use Rattle.std.proofs.lemmas.Map.Views.{Contains-from_lookup, lookup-from_Contains}
-use Rattle.std.specs.Prelude.{AllPairs}
-use Rattle.finite_sets.specs.Lists.{In}
-use Rattle.finite_sets.specs.Total.{sum_on}
-use Rattle.finite_sets.proofs.Members.{Contains-from_In, In-from_Contains, In-get_or, In-filter, In-filter_source, In-filter_passes, In-map, In-map_source}
+use Rattle.finite_sets.proofs.Members.{Contains-from_In, In-from_Contains}
 use Rattle.finite_sets.proofs.Sums.{sum_on-push}
-use Rattle.key_sums.proofs.SumLaws.{Fits, Bounded, bounded_more}
-use Rattle.flood_nodes.proofs.ShareLaws.{one_plane, two_planes}
-use Rattle.flood_nodes.proofs.StackLaws.{same_from_test}
-use Rattle.fet_regions.specs.Lengths.{is_part_of, part_in, summed, key_cmp, AreTerminals}
-use Rattle.fet_regions.specs.declared.lengths.Part.{Part}
+use Rattle.key_sums.proofs.SumLaws.{Fits, bounded_more}
+use Rattle.flood_nodes.proofs.ShareLaws.{two_planes}
 use Rattle.fet_regions.proofs.LengthLaws.{sum_none}
 
 compared : (x y : ℕ) → (nat_cmp x y ≡ Less) × (x < y) ⊎ ((nat_cmp x y ≡ Equal) × (x ≡ y) ⊎ (nat_cmp x y ≡ Greater) × (y < x))

@@ -1,23 +1,16 @@
 -- What is a channel or a terminal is a type of the technology, and no channel is its own terminal.
-use Rattle.std.proofs.Common.{◌≡◌, ◌≢◌, ℕ, ◌+◌, ◌<◌, Bool, true, false, eqb, ◌&&◌, List, map, get_or, IsTrue, refl, sym, ◌∙◌, ap, subst, arith, inl, inr, []}
-use Rattle.std.specs.List.{list_any, range_with_len}
-use Rattle.std.proofs.lemmas.Bool.{cases_Bool, cases_lt, and_parts}
+use Rattle.fet_regions.proofs.Common.{◌≡◌, ◌≢◌, ℕ, ◌+◌, ◌<◌, Bool, true, false, eqb, ◌&&◌, List, map, get_or, IsTrue, refl, sym, ◌∙◌, ap, subst}
+use Rattle.fet_regions.proofs.Common.{arith, inl, inr, [], list_any, range_with_len, cases_Bool, cases_lt, and_parts, In, In-index, RawTech, TypeId}
+use Rattle.fet_regions.proofs.Common.{KeepsRules, is_channel, is_terminal, same_from_test}
 use Rattle.std.proofs.lemmas.List.{get_or_past}
 use Rattle.std.proofs.lemmas.List.FromFn.{get_or-map-range_with_len, length-map-range_with_len}
-use Rattle.finite_sets.specs.Lists.{In}
-use Rattle.finite_sets.proofs.Members.{In-index}
 use Rattle.finite_sets.proofs.Searches.{list_any-source}
 use Rattle.tech_model.specs.declared.limits.TheConstants.{MOST_TYPES}
 use Rattle.tech_model.specs.declared.raw.FetRule.{FetRule}
-use Rattle.tech_model.specs.declared.raw.RawTech.{RawTech}
-use Rattle.tech_model.specs.declared.raw.TypeId.{TypeId}
-use Rattle.tech_model.specs.Rules.{KeepsRules}
 use Rattle.tech_model.specs.Types.{is_type}
 use Rattle.tech_model.specs.WellFormed.{IsFet, IsWellFormed}
 use Rattle.tech_model.proofs.WellFormedLaws.{type_bounds}
 use Rattle.tech_model.proofs.WithinLaws.{fet_no_terminal}
-use Rattle.tech_model.specs.ChannelRoles.{is_channel, is_terminal}
-use Rattle.flood_nodes.proofs.StackLaws.{same_from_test}
 
 module _ (raw : RawTech) (well : IsWellFormed raw) where
   rule_is : (fet : FetRule) → In fet raw.fets → IsFet raw fet

@@ -1,23 +1,11 @@
 -- The amounts of tiles and contacts, summed by label, are what the tiles of a channel count.
-use Rattle.std.proofs.Common.{◌≡◌, ℕ, ◌<◌, ℤ, pos, ◌+ℤ◌, ◌-ℤ◌, ◌*ℤ◌, Bool, true, false, cond, eqb, ◌&&◌, List, [], ◌∷◌, ◌++◌, length, inl, inr, refl, sym}
-use Rattle.std.proofs.Common.{◌∙◌, ap}
-use Rattle.std.proofs.Common.{arith}
-use Rattle.std.specs.Prelude.{slice_index}
-use Rattle.std.proofs.lemmas.Int.{ints}
-use Rattle.std.proofs.lemmas.Bool.{and_parts}
-use Rattle.finite_sets.specs.Lists.{In}
-use Rattle.finite_sets.specs.Total.{sum_on, one_if}
+use Rattle.fet_regions.proofs.Common.{◌≡◌, ℕ, ◌<◌, ℤ, pos, ◌+ℤ◌, ◌-ℤ◌, ◌*ℤ◌, Bool, true, false, cond, eqb, ◌&&◌, List, [], ◌∷◌, ◌++◌, length, inl}
+use Rattle.fet_regions.proofs.Common.{inr, refl, sym, ◌∙◌, ap, arith, slice_index, ints, and_parts, In, sum_on, one_if, Amount, Contact, area_of}
+use Rattle.fet_regions.proofs.Common.{perimeter_of, RegionTile, tile_at, indices_of, open_by_contacts, Lists-indices_of, one_plane, same_from_test}
+use Rattle.fet_regions.proofs.Common.{are_alike, area_amount, perimeter_amount, area_amounts, perimeter_amounts, shared_at, shared_amounts}
 use Rattle.finite_sets.proofs.Sums.{sum_on-append, sum_on-map, sum_on-same}
-use Rattle.key_sums.specs.declared.Amount.{Amount}
 use Rattle.key_sums.specs.Amounts.{counts_for, sum_of}
-use Rattle.rect_contacts.specs.declared.contacts.Contact.{Contact}
-use Rattle.rect_contacts.specs.Squares.{area_of, perimeter_of}
-use Rattle.layout_model.specs.declared.region_tiles.RegionTile.{RegionTile}
-use Rattle.flood_nodes.specs.TileShares.{tile_at, indices_of, is_of, open_by_contacts}
-use Rattle.flood_nodes.proofs.ShareLaws.{Lists-indices_of, one_plane}
-use Rattle.flood_nodes.proofs.StackLaws.{same_from_test}
-use Rattle.fet_regions.specs.steps.Channels.{are_alike}
-use Rattle.fet_regions.specs.steps.Sizes.{area_amount, perimeter_amount, area_amounts, perimeter_amounts, shared_at, shared_amounts}
+use Rattle.flood_nodes.specs.TileShares.{is_of}
 use Rattle.fet_regions.proofs.ChannelLaws.{is_of_channel}
 
 -- of two tiles in a class that share an edge: the second is of the class where they are alike and the first is

@@ -1,11 +1,10 @@
 -- Parts in unions of sets: a part is a set with one bit, so a union has it where one of two sets has it.
-use Rattle.std.proofs.Common.{◌≡◌, ◌⊎◌, ℕ, bit_or, inl, inr, subst, sym, arith}
+use Rattle.file_laws.proofs.Common.{◌≡◌, ◌⊎◌, ℕ, inl, inr, subst, sym, arith, is_subset, IsBit}
+use Rattle.std.proofs.Common.{bit_or}
 use Rattle.std.specs.Prelude.{true}
 use Rattle.std.specs.Int.{bit_at}
 use Rattle.std.proofs.lemmas.Nat.Bits.{bit_at-zero}
-use Rattle.tech_model.specs.Types.{is_subset}
 use Rattle.tech_model.proofs.SetLaws.{mark_part, mark_part_bit, or_bit_cases, or_bit_left, or_bit_right}
-use Rattle.cif_writing.proofs.PartLaws.{IsBit}
 
 module _ (part : ℕ) (bit : IsBit part) where
   bit_of : (set : ℕ) → is_subset part set ≡ true → bit_at set bit.0 ≡ 1

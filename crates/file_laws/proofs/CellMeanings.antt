@@ -1,23 +1,8 @@
 -- What the text of a cell means: each symbol, in library order, means the tree of its cell, and the top level calls the last.
-use Rattle.std.proofs.Common.{◌≡◌, ◌∙◌, ◌<◌, ◌↔◌, ℕ, zero, suc, List, [], ◌∷◌, Option, Some, refl, sym, ap, subst, inl, inr, arith}
-use Rattle.std.specs.Prelude.{slice_get}
-use Rattle.std.proofs.lemmas.Option.{slice_get_within}
-use Rattle.finite_sets.proofs.Places.{slice_get-below}
-use Rattle.geo_core.specs.declared.squares.Square.{Square}
-use Rattle.geo_core.specs.Images.{image, inverted}
-use Rattle.cif_model.specs.declared.cifs.CifItem.{CifItem}
-use Rattle.cif_model.specs.declared.cifs.CifItem.TheVariants.{Call}
-use Rattle.cif_model.specs.declared.cifs.CifMove.{CifMove}
-use Rattle.cif_model.specs.declared.cifs.CifSymbol.{CifSymbol}
-use Rattle.cif_model.specs.Cifs.{CifParts}
-use Rattle.cif_model.specs.Meanings.{Means, items_at, moved}
+use Rattle.file_laws.proofs.Common.{◌≡◌, ◌∙◌, ◌<◌, ◌↔◌, ℕ, zero, suc, List, [], ◌∷◌, Option, Some, refl, sym, ap, subst, inl, inr, arith, slice_get}
+use Rattle.file_laws.proofs.Common.{slice_get_within, slice_get-below, Square, image, inverted, CifItem, Call, CifMove, CifSymbol, CifParts, Means}
+use Rattle.file_laws.proofs.Common.{items_at, moved, LibraryView, part_name, part_sets, IsCellCif, symbol_place, IsBit, HoldsPartOfTree}
 use Rattle.cif_writing.specs.CellLibrary.LayoutTrees.{tree_at}
-use Rattle.cif_writing.specs.CellLibrary.Views.{LibraryView}
-use Rattle.cif_writing.specs.Commands.{part_name}
-use Rattle.cif_writing.specs.Parts.{part_sets}
-use Rattle.file_laws.specs.CellCifs.{IsCellCif, symbol_place}
-use Rattle.cif_writing.proofs.PartLaws.{IsBit}
-use Rattle.file_laws.specs.CellMeanings.{HoldsPartOfTree}
 use Rattle.file_laws.proofs.ItemMeanings.{HasBox, HasCall, SymbolMeans, back_identity, call_means, items_open, with_top}
 use Rattle.file_laws.proofs.SymbolMeanings.{HullsHold, MeansTree, TreesUnfold, held_is_meant, items_hold}
 use Rattle.file_laws.proofs.SymbolPlaces.{place_of_symbol, root_listed}

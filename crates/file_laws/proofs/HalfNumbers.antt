@@ -1,11 +1,9 @@
 -- Numbers that are written twice as large, and read by half.
-use Rattle.std.proofs.Common.{◌≡◌, ◌≤◌, ◌+◌, ◌*◌, ◌/◌, ◌%◌, ◌^◌, ℕ, ℤ, pos, negsuc, Bool, true, false, ◌||◌, ap, ◌∙◌, arith, FitsSigned, ◌≤ℤ◌, ◌<ℤ◌}
-use Rattle.std.specs.Prelude.{◌-◌, ◌+ℤ◌, ◌-ℤ◌, ◌*ℤ◌, neg_ℤ, int_lt}
+use Rattle.file_laws.proofs.Common.{◌≡◌, ◌≤◌, ◌+◌, ℕ, ℤ, pos, negsuc, Bool, true, false, ap, ◌∙◌, arith, FitsSigned, ◌*ℤ◌, int_eq, and_from, ints}
+use Rattle.file_laws.proofs.Common.{Rect}
+use Rattle.std.proofs.Common.{◌*◌, ◌/◌, ◌%◌, ◌^◌, ◌||◌, ◌≤ℤ◌, ◌<ℤ◌}
+use Rattle.std.specs.Prelude.{◌-◌, ◌+ℤ◌, ◌-ℤ◌, neg_ℤ, int_lt}
 use Rattle.std.specs.Int.{int_div_euclid, int_rem_euclid, w32}
-use Rattle.std.specs.Ordering.{int_eq}
-use Rattle.std.proofs.lemmas.Bool.{and_from}
-use Rattle.std.proofs.lemmas.Int.{ints}
-use Rattle.geo_core.specs.declared.squares.Rect.{Rect}
 use Rattle.cif_reading.specs.declared.scales.Scale.{Scale}
 use Rattle.cif_reading.specs.Boxes.{area_is_in_range, area_is_whole, area_said, halved, has_short_side, high_edge, is_in_range, low_edge}
 use Rattle.cif_reading.specs.Scales.{is_whole, scaled}

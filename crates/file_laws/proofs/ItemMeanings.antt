@@ -1,21 +1,11 @@
 -- What items mean, told by the boxes and the calls among them.
-use Rattle.std.proofs.Common.{◌≡◌, ◌⊎◌, ◌∙◌, ℕ, List, [], ◌∷◌, Some, refl, sym, subst, inl, inr, arith}
-use Rattle.std.specs.Prelude.{slice_get}
-use Rattle.std.proofs.lemmas.Int.{ints}
-use Rattle.finite_sets.specs.Lists.{In}
-use Rattle.finite_sets.proofs.Places.{In-slice_get, slice_get-In}
-use Rattle.geo_core.specs.declared.squares.Rect.{Rect}
-use Rattle.geo_core.specs.declared.squares.Square.{Square}
-use Rattle.geo_core.specs.declared.transforms.Transform.{Transform}
-use Rattle.geo_core.specs.Covering.{Covers}
-use Rattle.geo_core.specs.Images.{identity, image, inverted, rect_image}
+use Rattle.file_laws.proofs.Common.{◌≡◌, ◌⊎◌, ◌∙◌, ℕ, List, [], ◌∷◌, Some, refl, sym, subst, inl, inr, arith, slice_get, ints, In, In-slice_get}
+use Rattle.file_laws.proofs.Common.{slice_get-In, Rect, Square, Transform, Covers, image, inverted, CifItem, Area, Call, CifMove, CifParts, Means}
+use Rattle.file_laws.proofs.Common.{items_at, moved}
+use Rattle.geo_core.specs.Images.{identity, rect_image}
 use Rattle.geo_core.proofs.ImageLaws.{image-forth, image-moved, rect_image-covered, rect_image-covers}
 use Rattle.geo_core.proofs.SquareLaws.{square_is}
-use Rattle.cif_model.specs.declared.cifs.CifItem.{CifItem}
-use Rattle.cif_model.specs.declared.cifs.CifItem.TheVariants.{Area, Call}
-use Rattle.cif_model.specs.declared.cifs.CifMove.{CifMove}
-use Rattle.cif_model.specs.Cifs.{CifParts}
-use Rattle.cif_model.specs.Meanings.{Means, StandsUnder, items_at, moved}
+use Rattle.cif_model.specs.Meanings.{StandsUnder}
 
 -- ---- images of boxes
 

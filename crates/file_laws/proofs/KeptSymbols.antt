@@ -1,11 +1,5 @@
 -- A symbol of a cell stays one where layers come behind those that were there.
-use Rattle.std.proofs.Common.{ℕ, suc, List, [], ◌∷◌}
-use Rattle.cif_writing.specs.CellLibrary.Views.{LibraryView, view_at}
-use Rattle.cif_model.specs.declared.cifs.CifSymbol.{CifSymbol}
-use Rattle.cif_writing.specs.Commands.{part_name}
-use Rattle.cif_writing.specs.Parts.{part_sets}
-use Rattle.cif_writing.specs.Symbols.{AreRuns}
-use Rattle.file_laws.specs.CellCifs.{IsCellSymbol, IsPartBoxes}
+use Rattle.file_laws.proofs.Common.{ℕ, suc, List, [], ◌∷◌, LibraryView, view_at, CifSymbol, part_name, part_sets, AreRuns, IsCellSymbol, IsPartBoxes}
 use Rattle.file_laws.proofs.ReadParts.{KeepsLayers}
 
 -- What each thing stands for, it stands for by a weaker relation too.

@@ -1,17 +1,10 @@
 -- Layers stand where they were first named.
-use Rattle.std.proofs.Common.{◌≡◌, ◌<◌, ◌+◌, ℕ, true, false, List, [], ◌∷◌, ◌++◌, length, Some, refl, sym, ap, ◌∙◌}
-use Rattle.std.proofs.Common.{arith, inl, inr}
-use Rattle.std.specs.Prelude.{slice_get}
-use Rattle.std.specs.List.{list_any}
-use Rattle.std.specs.Str.{bytes_eq}
-use Rattle.std.proofs.lemmas.Bool.{cases_Bool}
+use Rattle.file_laws.proofs.Common.{◌≡◌, ◌<◌, ◌+◌, ℕ, true, false, List, [], ◌∷◌, ◌++◌, length, Some, refl, sym, ap, ◌∙◌, arith, inl, inr, slice_get}
+use Rattle.file_laws.proofs.Common.{list_any, bytes_eq, cases_Bool, In, In-slice_get, with_layer, layer_place}
 use Rattle.std.proofs.lemmas.Slice.Eq.{bytes_eq-Decides}
-use Rattle.finite_sets.specs.Lists.{In}
-use Rattle.finite_sets.proofs.Places.{In-slice_get, slice_get-append_front, slice_get-append_left, slice_get-push_new}
+use Rattle.finite_sets.proofs.Places.{slice_get-append_front, slice_get-append_left, slice_get-push_new}
 use Rattle.finite_sets.proofs.Searches.{In-from_list_any, list_any-In, list_any-of_In}
 use Rattle.finite_sets.proofs.FirstPlaces.{first_place, found_at, no_place}
-use Rattle.cif_reading.specs.Additions.{with_layer}
-use Rattle.cif_reading.specs.Drafts.{layer_place}
 use Rattle.cif_reading.proofs.PlaceLaws.{with_layer-new, with_layer-there}
 
 module _ (name : List ℕ) (layers : List (List ℕ)) where

@@ -1,3 +1,4 @@
+mod Common
 mod LineGains
 mod SpelledFiles
 mod RefusedFiles

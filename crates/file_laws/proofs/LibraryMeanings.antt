@@ -1,20 +1,14 @@
 -- The cells of a lawful library: their trees have the trees of their children, and what has a part has a hull.
-use Rattle.std.proofs.Common.{◌≡◌, ◌∙◌, ◌<◌, ℕ, true, List, length, refl, subst}
-use Rattle.tech_model.specs.Types.{is_subset}
-use Rattle.use_orders.specs.LibraryOrder.{IsLibraryOrder}
-use Rattle.use_orders.proofs.Visiting.{library_order-lists}
+use Rattle.file_laws.proofs.Common.{◌≡◌, ◌∙◌, ◌<◌, ℕ, true, List, length, refl, subst, is_subset, IsLibraryOrder, library_order-lists, children_in}
+use Rattle.file_laws.proofs.Common.{place_at, IsLawfulLibrary, LibraryParts, seen, LibraryView, IsBit, HoldsPartOfTree}
 use Rattle.layout_model.specs.CellTrees.{CellTree}
 use Rattle.cell_tree.specs.declared.limits.TheConstants.{MOST_DEPTH}
-use Rattle.cif_writing.specs.CellLibrary.Additions.{children_in}
-use Rattle.cif_writing.specs.CellLibrary.CellPaint.Painting.{place_at}
 use Rattle.cif_writing.specs.CellLibrary.LayoutTrees.{tree_at, tree_to}
-use Rattle.cif_writing.specs.CellLibrary.Libraries.{IsLawfulLibrary, LibraryParts, seen}
-use Rattle.cif_writing.specs.CellLibrary.Views.{LibraryView}
 use Rattle.cif_writing.proofs.CellLibrary.HullsHoldMaterial.{hull_holds}
 use Rattle.cif_writing.proofs.CellLibrary.LayoutTreeLaws.{tree_unfolds}
 use Rattle.cif_writing.proofs.OrderLaws.{order_there}
-use Rattle.cif_writing.proofs.PartLaws.{IsBit, part_bit}
-use Rattle.file_laws.specs.CellMeanings.{CellTextsMeanTheLayout, HoldsPartOfTree}
+use Rattle.cif_writing.proofs.PartLaws.{part_bit}
+use Rattle.file_laws.specs.CellMeanings.{CellTextsMeanTheLayout}
 use Rattle.file_laws.proofs.BitParts.{part_in_none}
 use Rattle.file_laws.proofs.CellMeanings.{text_means}
 use Rattle.file_laws.proofs.SymbolMeanings.{HullsHold, TreesUnfold}

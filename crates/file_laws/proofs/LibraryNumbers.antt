@@ -1,49 +1,38 @@
 -- The numbers of a lawful library are near: those of the boxes of its parts, and those of elements whose cells have hulls.
-use Rattle.std.proofs.Common.{◌≡◌, ◌≢◌, ◌+◌, ◌<◌, ◌≤◌, inl, ℕ, zero, suc, ℤ, pos, ◌<ℤ◌, true, List, [], ◌∷◌, length, filter}
-use Rattle.std.proofs.Common.{sym, ap, subst, ◌∙◌, arith}
-use Rattle.std.specs.Prelude.{◌-ℤ◌, ◌==◌, Some, slice_get, bit_and}
+use Rattle.file_laws.proofs.Common.{◌≡◌, ◌≢◌, ◌+◌, ◌<◌, ◌≤◌, inl, ℕ, zero, suc, ℤ, pos, true, List, [], ◌∷◌, length, sym, ap, subst, ◌∙◌, arith}
+use Rattle.file_laws.proofs.Common.{slice_get, ints, In, In-append_left, In-append_right, In-map_source, is_plain_name, Orient, Rect, Square}
+use Rattle.file_laws.proofs.Common.{Transform, Covers, RawTech, is_subset, UseBody, displacements, place_at, IsLawfulLibrary, LibraryParts, seen}
+use Rattle.file_laws.proofs.Common.{HullIs, Layout, view_at, HoldsPart, part_sets, elements_of_use}
+use Rattle.std.proofs.Common.{◌<ℤ◌, filter}
+use Rattle.std.specs.Prelude.{◌-ℤ◌, ◌==◌, Some, bit_and}
 use Rattle.std.specs.Int.Bits.{and_zero_l, and_zero_r}
 use Rattle.std.proofs.lemmas.Bool.{eqb-true}
-use Rattle.std.proofs.lemmas.Int.{ints}
 use Rattle.std.proofs.lemmas.List.{length-append, length-map}
 use Rattle.std.proofs.lemmas.List.FromFn.{length-range_with_len}
-use Rattle.finite_sets.specs.Lists.{In}
-use Rattle.finite_sets.proofs.Members.{In-append_left, In-append_right, In-map_source}
 use Rattle.finite_sets.proofs.Searches.{All-In, length-filter}
-use Rattle.text_scan.specs.PlainNames.{is_plain_name}
-use Rattle.geo_core.specs.declared.orients.Orient.{Orient}
 use Rattle.geo_core.specs.declared.orients.Orient.TheVariants.{R0}
-use Rattle.geo_core.specs.declared.squares.Rect.{Rect}
-use Rattle.geo_core.specs.declared.squares.Square.{Square}
-use Rattle.geo_core.specs.declared.transforms.Transform.{Transform}
-use Rattle.geo_core.specs.Covering.{Covers}
 use Rattle.geo_core.specs.Images.{rect_image}
 use Rattle.geo_core.specs.Strips.{IsStrip}
-use Rattle.tech_model.specs.declared.raw.RawTech.{RawTech}
 use Rattle.tech_model.specs.Rules.{types_of}
-use Rattle.tech_model.specs.Types.{is_subset, parts_of}
+use Rattle.tech_model.specs.Types.{parts_of}
 use Rattle.tech_model.specs.WellFormed.{IsWellFormed}
 use Rattle.cell_tree.specs.declared.sizes.Dimension.TheVariants.{Hull}
 use Rattle.cell_tree.specs.declared.sizes.Size.{Size}
-use Rattle.cell_tree.specs.declared.use_tables.UseBody.{UseBody}
 use Rattle.cell_tree.specs.Hulls.{IsLawfulBox, SpansInRange, displaced, element_hulls}
 use Rattle.cell_tree.specs.Sizes.{IsHullInRange, hulls_below, size_at}
 use Rattle.cell_tree.specs.Trees.{cell_at}
-use Rattle.cell_tree.specs.Uses.{displacements}
-use Rattle.cif_writing.specs.CellLibrary.CellPaint.Painting.{kinds_on, paint_range, place_at}
+use Rattle.cif_writing.specs.CellLibrary.CellPaint.Painting.{kinds_on, paint_range}
 use Rattle.cif_writing.specs.CellLibrary.Contents.{no_held}
 use Rattle.cif_writing.specs.CellLibrary.LayoutTrees.{element_transform}
-use Rattle.cif_writing.specs.CellLibrary.Libraries.{IsLawfulLibrary, LibraryParts, seen, uses_in}
-use Rattle.cif_writing.specs.CellLibrary.Limits.{HullIs}
-use Rattle.cif_writing.specs.CellLibrary.LayoutModel.Layouts.{IsMaterial, Layout}
+use Rattle.cif_writing.specs.CellLibrary.Libraries.{uses_in}
+use Rattle.cif_writing.specs.CellLibrary.LayoutModel.Layouts.{IsMaterial}
 use Rattle.cif_writing.specs.CellLibrary.LayoutModel.Places.{Place}
-use Rattle.cif_writing.specs.CellLibrary.Views.{CellView, view_at}
+use Rattle.cif_writing.specs.CellLibrary.Views.{CellView}
 use Rattle.cif_writing.proofs.CellLibrary.BoxesBelow.{boxes_are_lawful, hull_seen}
 use Rattle.cif_writing.proofs.CellLibrary.HullsHoldMaterial.{In-element_hulls, element_image, hull_holds_material}
 use Rattle.cif_writing.proofs.CellLibrary.UseEdits.{cell_below, child_below, uses_here}
 use Rattle.cif_writing.proofs.CellLibrary.ViewLaws.{cell_viewed}
-use Rattle.cif_writing.specs.Parts.{HoldsPart, atom_sets, is_atom, is_second_image, mark_sets, own_mark, part_sets}
-use Rattle.cif_writing.specs.Symbols.{elements_of_use}
+use Rattle.cif_writing.specs.Parts.{atom_sets, is_atom, is_second_image, mark_sets, own_mark}
 use Rattle.file_laws.proofs.HalfNumbers.{IsNear, IsNearBox}
 
 -- ---- parts

@@ -1,22 +1,16 @@
 -- The cells of a library order: they are cells of the library, and each stands behind the children of its uses.
-use Rattle.std.proofs.Common.{◌≡◌, ◌<◌, ◌≤◌, ℕ, List, length, sym, subst, ◌∙◌, arith}
-use Rattle.std.specs.Prelude.{Some, slice_get, slice_index}
+use Rattle.file_laws.proofs.Common.{◌≡◌, ◌<◌, ◌≤◌, ℕ, List, length, sym, subst, ◌∙◌, arith, slice_get, slice_get_within, stay, In, slice_get-In}
+use Rattle.file_laws.proofs.Common.{slice_get-In_take, IsLibraryOrder, library_order-behind, library_order-lists, UseBody, children_in}
+use Rattle.file_laws.proofs.Common.{IsLawfulLibrary, LibraryParts, seen, view_at}
+use Rattle.std.specs.Prelude.{Some, slice_index}
 use Rattle.std.specs.List.{range_with_len}
 use Rattle.std.proofs.lemmas.List.FromFn.{length-range_with_len}
-use Rattle.std.proofs.lemmas.Option.{same_Some, slice_get-get_or, slice_get_within}
-use Rattle.finite_sets.specs.Chain.Chain.{stay}
-use Rattle.finite_sets.specs.Lists.{Distinct, In, Lists}
+use Rattle.std.proofs.lemmas.Option.{same_Some, slice_get-get_or}
+use Rattle.finite_sets.specs.Lists.{Distinct, Lists}
 use Rattle.finite_sets.proofs.Chains.{Chain-carries}
 use Rattle.finite_sets.proofs.Distincts.{length-distinct}
-use Rattle.finite_sets.proofs.Places.{slice_get-In, slice_get-In_take}
-use Rattle.use_orders.specs.LibraryOrder.{IsLibraryOrder}
 use Rattle.use_orders.specs.Uses.{IsAtOrBelow, UsesCell}
 use Rattle.use_orders.proofs.Listed.{In-numbers}
-use Rattle.use_orders.proofs.Visiting.{library_order-behind, library_order-lists}
-use Rattle.cell_tree.specs.declared.use_tables.UseBody.{UseBody}
-use Rattle.cif_writing.specs.CellLibrary.Additions.{children_in}
-use Rattle.cif_writing.specs.CellLibrary.Libraries.{IsLawfulLibrary, LibraryParts, seen}
-use Rattle.cif_writing.specs.CellLibrary.Views.{view_at}
 use Rattle.cif_writing.proofs.CellLibrary.ChildLaws.{child_of, child_there, child_used}
 
 module _ (library : LibraryParts) (lawful : IsLawfulLibrary library) where

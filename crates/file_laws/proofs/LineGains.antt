@@ -1,31 +1,21 @@
 -- What each line of a circuit file adds to what was read.
-use Rattle.std.proofs.Common.{◌≡◌, ◌&&◌, ℕ, Bool, true, false, not, Option, List, [], ◌∷◌, ◌++◌, length, Ok, refl}
+use Rattle.file_laws.proofs.Common.{◌≡◌, ◌&&◌, ℕ, Bool, true, false, not, Option, List, [], ◌∷◌, ◌++◌, length, Ok, refl, bytes_eq, FetRec, MergeRow}
+use Rattle.file_laws.proofs.Common.{NoHeader, HeaderLine, Tech, Timestamp, Version, Style, Scale, Classes, NodeLine, FetLine, MergeLine, ExtLine}
+use Rattle.file_laws.proofs.Common.{Nothing, Header, Use, Node, Equiv, Fet, Merge, Outline, IsUseOf, IsNodeOf}
 use Rattle.std.specs.Prelude.{Some, None, nat_lt, slice_index}
 use Rattle.std.specs.List.{position}
-use Rattle.std.specs.Str.{bytes_eq}
 use Rattle.ext_model.specs.declared.records.NodeRec.{NodeRec}
-use Rattle.ext_model.specs.declared.records.FetRec.{FetRec}
 use Rattle.ext_model.specs.declared.arrays.ArrayUse.{ArrayUse}
-use Rattle.ext_model.specs.declared.arrays.MergeRow.{MergeRow}
 use Rattle.element_index.specs.GivenNames.{is_among, gives_again}
-use Rattle.ext_reading.specs.declared.faults.ExtReadFault.TheVariants.{BadLine, NoHeader, Version as OtherVersion, NameTwice, Range, UseTwice, NoName}
+use Rattle.ext_reading.specs.declared.faults.ExtReadFault.TheVariants.{BadLine, Version as OtherVersion, NameTwice, Range, UseTwice, NoName}
 use Rattle.ext_reading.specs.declared.limits.TheConstants.{MOST_USES}
-use Rattle.ext_reading.specs.declared.lines.HeaderLine.{HeaderLine}
-use Rattle.ext_reading.specs.declared.lines.HeaderLine.TheVariants.{Tech, Timestamp, Version, Style, Scale, Classes}
 use Rattle.ext_reading.specs.declared.lines.UseLine.{UseLine}
-use Rattle.ext_reading.specs.declared.lines.NodeLine.{NodeLine}
-use Rattle.ext_reading.specs.declared.lines.FetLine.{FetLine}
-use Rattle.ext_reading.specs.declared.lines.MergeLine.{MergeLine}
-use Rattle.ext_reading.specs.declared.lines.ExtLine.{ExtLine}
-use Rattle.ext_reading.specs.declared.lines.ExtLine.TheVariants.{Nothing, Header, Use, Node, Equiv, Fet, Merge}
-use Rattle.ext_reading.specs.declared.outlines.Outline.{Outline}
 use Rattle.ext_reading.specs.Ranges.{class_values_in, grid_in, six_in, measure_in, short_in, measures_in}
 use Rattle.ext_reading.specs.Drafts.{Draft, is_incomplete, was_seen, with_seen, is_other_version, with_header, takes_header}
 use Rattle.ext_reading.specs.Drafts.{elements_of, with_use, takes_use, node_from, with_node, takes_node, with_alias, takes_alias, takes_equiv}
 use Rattle.ext_reading.specs.Drafts.{fet_from, has_its_nodes, takes_fet, leads, all_lead, elements_known, range_in, merge_from, takes_merge}
 use Rattle.ext_reading.specs.Drafts.{takes_record, fits_classes, fits_version, takes_body, takes}
 use Rattle.ext_reading.proofs.Outcomes.{OkHas, given_has, passed_has, failed_has, value_has}
-use Rattle.file_laws.specs.CircuitFiles.{IsUseOf, IsNodeOf}
 
 -- a line of the header was seen
 abbrev pub seeing : Draft → HeaderLine → Draft

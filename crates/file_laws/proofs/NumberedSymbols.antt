@@ -1,13 +1,9 @@
 -- Symbols that are numbered from 1 are found by their numbers.
-use Rattle.std.proofs.Common.{◌≡◌, ◌<◌, ℕ, suc, pos, true, false, List, length, refl, sym, ap, ◌∙◌, arith, inl, inr}
-use Rattle.std.specs.Prelude.{Some, slice_get}
-use Rattle.std.specs.Ordering.{int_eq}
+use Rattle.file_laws.proofs.Common.{◌≡◌, ◌<◌, ℕ, suc, pos, true, false, List, length, refl, sym, ap, ◌∙◌, arith, inl, inr, slice_get, int_eq}
+use Rattle.file_laws.proofs.Common.{cases_Bool, slice_get_within, In-slice_get, slice_get-In, slice_get-below, CifSymbol}
+use Rattle.std.specs.Prelude.{Some}
 use Rattle.std.proofs.lemmas.Bool.Decides.{Decides-int_eq}
-use Rattle.std.proofs.lemmas.Bool.{cases_Bool}
-use Rattle.std.proofs.lemmas.Option.{slice_get_within}
-use Rattle.finite_sets.proofs.Places.{In-slice_get, slice_get-In, slice_get-below}
 use Rattle.finite_sets.proofs.Searches.{list_any-fails, list_any-passes}
-use Rattle.cif_model.specs.declared.cifs.CifSymbol.{CifSymbol}
 use Rattle.cif_reading.specs.Drafts.{has_number, has_symbol, symbol_place}
 use Rattle.finite_sets.proofs.FirstPlaces.{first_place}
 

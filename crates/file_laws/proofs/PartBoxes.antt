@@ -1,25 +1,11 @@
 -- The boxes of a cell's parts: those of the layer of a part cover the squares of the cell's own paint that hold the part.
-use Rattle.std.proofs.Common.{◌≡◌, ◌∙◌, ◌+◌, ℕ, zero, suc, pos, List, [], ◌∷◌, Some, refl, sym, ap, subst, inl, inr, arith}
-use Rattle.std.specs.Prelude.{slice_get}
-use Rattle.text_scan.specs.Decimal.{decimal}
+use Rattle.file_laws.proofs.Common.{◌≡◌, ◌∙◌, ◌+◌, ℕ, zero, suc, pos, List, [], ◌∷◌, Some, refl, sym, ap, subst, inl, inr, arith, slice_get, decimal}
+use Rattle.file_laws.proofs.Common.{In, In-append_cases, In-append_left, In-append_right, In-map, In-map_source, Rect, Square, Covers, RawTech}
+use Rattle.file_laws.proofs.Common.{Layout, CifItem, Area, Call, CifMove, CifParts, part_name, HoldsPart, AreRuns, IsPartBoxes}
 use Rattle.text_scan.proofs.DecimalLemmas.{decimal-injective}
-use Rattle.finite_sets.specs.Lists.{In}
-use Rattle.finite_sets.proofs.Members.{In-append_cases, In-append_left, In-append_right, In-map, In-map_source, In-some}
+use Rattle.finite_sets.proofs.Members.{In-some}
 use Rattle.finite_sets.proofs.Places.{slice_get-one}
-use Rattle.geo_core.specs.declared.squares.Rect.{Rect}
-use Rattle.geo_core.specs.declared.squares.Square.{Square}
-use Rattle.geo_core.specs.Covering.{Covers}
 use Rattle.geo_core.proofs.StripSets.{strip_within}
-use Rattle.tech_model.specs.declared.raw.RawTech.{RawTech}
-use Rattle.cif_writing.specs.CellLibrary.LayoutModel.Layouts.{Layout}
-use Rattle.cif_model.specs.declared.cifs.CifItem.{CifItem}
-use Rattle.cif_model.specs.declared.cifs.CifItem.TheVariants.{Area, Call}
-use Rattle.cif_model.specs.declared.cifs.CifMove.{CifMove}
-use Rattle.cif_model.specs.Cifs.{CifParts}
-use Rattle.cif_writing.specs.Commands.{part_name}
-use Rattle.cif_writing.specs.Parts.{HoldsPart}
-use Rattle.cif_writing.specs.Symbols.{AreRuns}
-use Rattle.file_laws.specs.CellCifs.{IsPartBoxes}
 use Rattle.file_laws.proofs.ItemMeanings.{HasBox, box_wider}
 
 -- the number of a part is told by its name

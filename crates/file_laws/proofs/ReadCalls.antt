@@ -1,29 +1,20 @@
 -- What is read of calls.
-use Rattle.std.proofs.Common.{◌≡◌, ◌≤◌, ℕ, ℤ, pos, negsuc, Bool, true, false, not, List, [], ◌∷◌, ◌++◌, map, Option, None, refl, subst, ◌∙◌, arith, FitsSigned}
-use Rattle.std.specs.Prelude.{◌*ℤ◌, codes}
+use Rattle.file_laws.proofs.Common.{◌≡◌, ◌≤◌, ℕ, ℤ, pos, negsuc, Bool, true, false, not, List, [], ◌∷◌, ◌++◌, map, Option, None, refl, subst, ◌∙◌}
+use Rattle.file_laws.proofs.Common.{arith, FitsSigned, ◌*ℤ◌, codes, and_from, decimal, line_of, Orient, Transform, CifItem, Call, CifMove, CifSymbol}
+use Rattle.file_laws.proofs.Common.{placing, CifFault, Draft}
 use Rattle.std.specs.Int.{w32}
 use Rattle.std.specs.List.{AllByRecursion, flat_map, list_all}
-use Rattle.std.proofs.lemmas.Bool.{and_from}
-use Rattle.text_scan.specs.Decimal.{decimal}
-use Rattle.text_scan.specs.Written.{line_of}
-use Rattle.geo_core.specs.declared.orients.Orient.{Orient}
 use Rattle.geo_core.specs.declared.orients.Orient.TheVariants.{R0, R90, R180, R270, Mx, My, Mx90, My90}
-use Rattle.geo_core.specs.declared.transforms.Transform.{Transform}
 use Rattle.cif_forms.specs.declared.commands.CifCommand.TheVariants.{Call as SaidCall}
 use Rattle.cif_forms.specs.declared.commands.SaidMove.{SaidMove}
 use Rattle.cif_forms.specs.declared.commands.SaidMove.TheVariants.{Shift, MirrorX, Toward}
 use Rattle.cif_forms.specs.Written.{move_words, with_semicolon, MoveFits}
 use Rattle.cif_forms.proofs.WrittenLaws.{says-call, unmarked-call}
-use Rattle.cif_model.specs.declared.cifs.CifItem.{CifItem}
-use Rattle.cif_model.specs.declared.cifs.CifItem.TheVariants.{Call}
-use Rattle.cif_model.specs.declared.cifs.CifMove.{CifMove}
 use Rattle.cif_model.specs.declared.cifs.CifMove.TheVariants.{Shift as Shifted}
-use Rattle.cif_model.specs.declared.cifs.CifSymbol.{CifSymbol}
-use Rattle.cif_model.specs.Placings.{placing, turning}
-use Rattle.cif_reading.specs.declared.faults.CifFault.{CifFault}
+use Rattle.cif_model.specs.Placings.{turning}
 use Rattle.cif_reading.specs.declared.faults.CifFault.TheVariants.{Form, LeftOut, NoSymbol, NotWhole, Range}
 use Rattle.cif_reading.specs.Boxes.{is_in_range}
-use Rattle.cif_reading.specs.Drafts.{Draft, has_symbol, scale_of, symbol_place}
+use Rattle.cif_reading.specs.Drafts.{has_symbol, scale_of, symbol_place}
 use Rattle.cif_reading.specs.Faults.{fault_in, lacks_semicolon, uses_what_is_left_out}
 use Rattle.cif_reading.specs.SaidSteps.{call_is_in_range, is_along_axis, move_is_in_range, move_is_whole, move_said}
 use Rattle.cif_writing.specs.Commands.{call_command, mirror_words, plain_call, shift_words, turn_words}

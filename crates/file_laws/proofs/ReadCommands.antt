@@ -1,23 +1,15 @@
 -- What is read of single commands of a symbol.
-use Rattle.std.proofs.Common.{◌≡◌, ◌≤◌, ◌<◌, ℕ, pos, Bool, true, false, not, List, [], ◌∷◌, ◌++◌, map, Option, Some, None, refl, ap, subst, ◌∙◌, arith}
-use Rattle.std.specs.Prelude.{codes, if◌then◌else◌}
-use Rattle.text_scan.specs.Decimal.{decimal}
-use Rattle.text_scan.specs.PlainNames.{is_plain_name}
-use Rattle.text_scan.specs.Written.{line_of}
-use Rattle.geo_core.specs.declared.squares.Rect.{Rect}
+use Rattle.file_laws.proofs.Common.{◌≡◌, ◌≤◌, ◌<◌, ℕ, pos, Bool, true, false, not, List, [], ◌∷◌, ◌++◌, map, Option, Some, None, refl, ap, subst}
+use Rattle.file_laws.proofs.Common.{◌∙◌, arith, codes, if◌then◌else◌, decimal, is_plain_name, line_of, Rect, CifItem, Area, CifSymbol, CifFault}
+use Rattle.file_laws.proofs.Common.{Draft, layer_place, with_layer, start_command, name_command, layer_command, box_command, finish_command}
+use Rattle.file_laws.proofs.Common.{part_name}
 use Rattle.cif_forms.specs.declared.commands.CifCommand.TheVariants.{Layer, ReadOver, Start, Finish, Area as SaidArea}
 use Rattle.cif_forms.proofs.WrittenLaws.{is_layer_name-part, says-area, says-finish, says-layer, says-name, says-start}
 use Rattle.cif_forms.proofs.WrittenLaws.{unmarked-layer, unmarked-name, unmarked-numbers}
-use Rattle.cif_model.specs.declared.cifs.CifItem.{CifItem}
-use Rattle.cif_model.specs.declared.cifs.CifItem.TheVariants.{Area}
-use Rattle.cif_model.specs.declared.cifs.CifSymbol.{CifSymbol}
-use Rattle.cif_reading.specs.declared.faults.CifFault.{CifFault}
 use Rattle.cif_reading.specs.declared.faults.CifFault.TheVariants.{Form, SymbolTwice, NotWhole, Range, NoLayer}
 use Rattle.cif_reading.specs.Boxes.{area_is_in_range, area_is_whole, has_short_side, is_in_range}
-use Rattle.cif_reading.specs.Drafts.{Draft, has_symbol, layer_place}
+use Rattle.cif_reading.specs.Drafts.{has_symbol}
 use Rattle.cif_reading.specs.Faults.{fault_in, first_fault, lacks_semicolon, uses_what_is_left_out}
-use Rattle.cif_reading.specs.Additions.{with_layer}
-use Rattle.cif_writing.specs.Commands.{start_command, name_command, layer_command, box_command, finish_command, part_name}
 use Rattle.file_laws.proofs.HalfNumbers.{half, count_fits, fits_in_range, way_fits, sum_fits, IsNearBox, box_length, box_width, box_x, box_y, near_edge}
 use Rattle.file_laws.proofs.HalfNumbers.{box_read, box_whole, box_long, box_in_range}
 use Rattle.file_laws.proofs.ReadLines.{Reads, reads_one}

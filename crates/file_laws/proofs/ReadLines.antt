@@ -1,9 +1,8 @@
 -- Lines of commands, and what they make of what was read before them.
-use Rattle.std.proofs.Common.{◌≡◌, ℕ, Bool, true, false, List, [], ◌∷◌, ◌++◌, map, Option, Some, None, Result, Ok, refl, sym, ap, ◌∙◌}
-use Rattle.std.specs.Prelude.{codes, is_some, if◌then◌else◌}
+use Rattle.file_laws.proofs.Common.{◌≡◌, ℕ, Bool, true, false, List, [], ◌∷◌, ◌++◌, map, Option, Some, None, Result, Ok, refl, sym, ap, ◌∙◌, codes}
+use Rattle.file_laws.proofs.Common.{if◌then◌else◌, text_of, and_then, CifFault, Draft, cif_in, parts_of}
+use Rattle.std.specs.Prelude.{is_some}
 use Rattle.std.proofs.lemmas.List.{map-append}
-use Rattle.text_scan.specs.Written.{text_of}
-use Rattle.text_form.specs.SaidLines.{and_then}
 use Rattle.cif_forms.specs.Commands.{says}
 use Rattle.cif_forms.specs.declared.commands.CifCommand.{CifCommand}
 use Rattle.cif_forms.specs.declared.commands.CifCommand.TheVariants.{End}
@@ -11,12 +10,11 @@ use Rattle.cif_forms.specs.Written.{AreUnmarked, LooksPastLineFeeds, first_fault
 use Rattle.cif_forms.proofs.WrittenLaws.{says-end, says-line_feed}
 use Rattle.cif_forms.proofs.WrittenTexts.{AreUnmarked-append, first_fault_of-fine, read-written-fine}
 use Rattle.cif_reading.specs.declared.drafts.Opened.{Opened}
-use Rattle.cif_reading.specs.declared.faults.CifFault.{CifFault}
 use Rattle.cif_reading.specs.declared.faults.CifFault.TheVariants.{Form}
-use Rattle.cif_reading.specs.Drafts.{Draft, nothing_yet}
+use Rattle.cif_reading.specs.Drafts.{nothing_yet}
 use Rattle.cif_reading.specs.Faults.{fault_in, lacks_semicolon, uses_what_is_left_out}
 use Rattle.cif_reading.specs.Additions.{takes}
-use Rattle.cif_reading.specs.CifTexts.{cif_in, parts_of, step, unless}
+use Rattle.cif_reading.specs.CifTexts.{step, unless}
 use Rattle.cif_reading.proofs.RefusedTexts.{cif_in-read}
 
 -- The lines are commands without fault, each with its semicolon, and they make the one draft the other.

@@ -1,18 +1,13 @@
 -- The symbols of a library order are read one after another.
-use Rattle.std.proofs.Common.{◌≡◌, ◌<◌, ◌==◌, ℕ, suc, pos, List, [], ◌∷◌, ◌++◌, length, Some, sym, ap, subst, ◌∙◌, append_assoc, append-nil, arith, inl, inr}
-use Rattle.std.specs.Prelude.{slice_get}
+use Rattle.file_laws.proofs.Common.{◌≡◌, ◌<◌, ◌==◌, ℕ, suc, pos, List, [], ◌∷◌, ◌++◌, length, Some, sym, ap, subst, ◌∙◌, append_assoc, append-nil}
+use Rattle.file_laws.proofs.Common.{arith, inl, inr, slice_get, slice_get_within, In-slice_get, slice_get-In, slice_get-below, IsLibraryOrder}
+use Rattle.file_laws.proofs.Common.{children_in, IsLawfulLibrary, LibraryParts, seen, LibraryView, view_at, CifSymbol, IsSymbol, IsCellSymbol}
+use Rattle.file_laws.proofs.Common.{symbol_place}
 use Rattle.std.proofs.lemmas.Bool.Decides.{Decides-eqb}
 use Rattle.std.proofs.lemmas.List.{length_push}
-use Rattle.std.proofs.lemmas.Option.{slice_get_within}
-use Rattle.finite_sets.proofs.Places.{In-slice_get, slice_get-In, slice_get-append_left, slice_get-append_right, slice_get-below, slice_get-push_cases}
-use Rattle.use_orders.specs.LibraryOrder.{IsLibraryOrder}
-use Rattle.cif_writing.specs.CellLibrary.Additions.{children_in}
-use Rattle.cif_writing.specs.CellLibrary.Libraries.{IsLawfulLibrary, LibraryParts, seen}
-use Rattle.cif_writing.specs.CellLibrary.Views.{LibraryView, view_at}
-use Rattle.cif_model.specs.declared.cifs.CifSymbol.{CifSymbol}
+use Rattle.finite_sets.proofs.Places.{slice_get-append_left, slice_get-append_right, slice_get-push_cases}
 use Rattle.cif_reading.specs.Drafts.{has_symbol}
-use Rattle.cif_writing.specs.Symbols.{AreSymbols, IsSymbol}
-use Rattle.file_laws.specs.CellCifs.{IsCellSymbol, symbol_place}
+use Rattle.cif_writing.specs.Symbols.{AreSymbols}
 use Rattle.finite_sets.proofs.FirstPlaces.{place_of}
 use Rattle.file_laws.proofs.LibraryNumbers.{element_is_near, name_is_plain, parts_few, strip_is_near}
 use Rattle.file_laws.proofs.LibraryOrders.{child_before, order_few, order_once, order_there}

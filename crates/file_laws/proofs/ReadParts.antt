@@ -1,17 +1,9 @@
 -- What is read of the boxes of a part.
-use Rattle.std.proofs.Common.{◌≡◌, ◌≢◌, ◌<◌, ℕ, true, List, [], ◌∷◌, ◌++◌, map, Option, Some, refl, sym, subst, append_assoc, append-nil, inl, inr}
-use Rattle.std.specs.Prelude.{slice_get}
-use Rattle.std.specs.List.{list_any}
-use Rattle.std.specs.Str.{bytes_eq}
-use Rattle.finite_sets.specs.Lists.{In}
-use Rattle.geo_core.specs.declared.squares.Rect.{Rect}
-use Rattle.cif_model.specs.declared.cifs.CifItem.{CifItem}
-use Rattle.cif_model.specs.declared.cifs.CifItem.TheVariants.{Area}
-use Rattle.cif_model.specs.declared.cifs.CifSymbol.{CifSymbol}
-use Rattle.cif_reading.specs.Additions.{with_layer}
-use Rattle.cif_reading.specs.Drafts.{layer_place}
+use Rattle.file_laws.proofs.Common.{◌≡◌, ◌≢◌, ◌<◌, ℕ, true, List, [], ◌∷◌, ◌++◌, map, Option, Some, refl, sym, subst, append_assoc, append-nil, inl}
+use Rattle.file_laws.proofs.Common.{inr, slice_get, list_any, bytes_eq, In, Rect, CifItem, Area, CifSymbol, with_layer, layer_place, box_command}
+use Rattle.file_laws.proofs.Common.{layer_command, part_name}
 use Rattle.cif_reading.proofs.PlaceLaws.{with_layer-there}
-use Rattle.cif_writing.specs.Commands.{box_command, layer_command, part_lines, part_name}
+use Rattle.cif_writing.specs.Commands.{part_lines}
 use Rattle.file_laws.proofs.LayerPlaces.{layer_named, layer_place_kept, layer_there, layers_kept}
 use Rattle.file_laws.proofs.HalfNumbers.{IsNearBox}
 use Rattle.file_laws.proofs.ReadCommands.{box_read_in, in_symbol, layer_read}

@@ -1,24 +1,11 @@
 -- What is read of the parts and the uses of a cell, one after another.
-use Rattle.std.proofs.Common.{◌≡◌, ◌≤◌, ◌+◌, ℕ, suc, pos, true, List, [], ◌∷◌, ◌++◌, length, map, Option}
-use Rattle.std.proofs.Common.{Some, None, refl, sym, subst, append_assoc, append-nil, arith, inl, inr}
-use Rattle.finite_sets.specs.Lists.{In}
-use Rattle.geo_core.specs.declared.squares.Rect.{Rect}
-use Rattle.geo_core.specs.declared.transforms.Transform.{Transform}
-use Rattle.geo_core.specs.Strips.{IsStrips}
-use Rattle.tech_model.specs.declared.raw.RawTech.{RawTech}
-use Rattle.cell_tree.specs.declared.use_tables.UseBody.{UseBody}
-use Rattle.cif_writing.specs.CellLibrary.Limits.{HullIs}
-use Rattle.cif_writing.specs.CellLibrary.LayoutModel.Layouts.{Layout}
-use Rattle.cif_writing.specs.CellLibrary.Views.{LibraryView}
-use Rattle.cif_model.specs.declared.cifs.CifItem.{CifItem}
-use Rattle.cif_model.specs.declared.cifs.CifItem.TheVariants.{Area, Call}
-use Rattle.cif_model.specs.declared.cifs.CifSymbol.{CifSymbol}
-use Rattle.cif_model.specs.Placings.{placing}
+use Rattle.file_laws.proofs.Common.{◌≡◌, ◌≤◌, ◌+◌, ℕ, suc, pos, true, List, [], ◌∷◌, ◌++◌, length, map, Option, Some, None, refl, sym, subst}
+use Rattle.file_laws.proofs.Common.{append_assoc, append-nil, arith, inl, inr, In, Rect, Transform, IsStrips, RawTech, UseBody, HullIs, Layout}
+use Rattle.file_laws.proofs.Common.{LibraryView, CifItem, Area, Call, CifSymbol, placing, part_name, HoldsPart, AreRuns, elements_of_use}
+use Rattle.file_laws.proofs.Common.{AreUseItems, IsPartBoxes, symbol_place, use_items}
 use Rattle.cif_reading.specs.Drafts.{has_symbol, symbol_place as place_by_number}
-use Rattle.cif_writing.specs.Commands.{call_command, part_name}
-use Rattle.cif_writing.specs.Parts.{HoldsPart}
-use Rattle.cif_writing.specs.Symbols.{AreRuns, IsPart, IsUse, elements_of_use, symbol_number, use_calls}
-use Rattle.file_laws.specs.CellCifs.{AreUseItems, IsPartBoxes, symbol_place, use_items}
+use Rattle.cif_writing.specs.Commands.{call_command}
+use Rattle.cif_writing.specs.Symbols.{IsPart, IsUse, symbol_number, use_calls}
 use Rattle.file_laws.proofs.HalfNumbers.{IsNear, IsNearBox, near_edge}
 use Rattle.file_laws.proofs.ReadCalls.{call_read}
 use Rattle.file_laws.proofs.ReadCommands.{in_symbol}

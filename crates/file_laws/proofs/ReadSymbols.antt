@@ -1,18 +1,8 @@
 -- What is read of a symbol: its start and its name, its parts, its uses, and its end.
-use Rattle.std.proofs.Common.{◌≡◌, ◌≤◌, ◌+◌, ℕ, suc, pos, true, false, List, [], ◌∷◌, ◌++◌, length}
-use Rattle.std.proofs.Common.{None, refl, sym, subst}
-use Rattle.finite_sets.specs.Lists.{In}
-use Rattle.text_scan.specs.PlainNames.{is_plain_name}
-use Rattle.geo_core.specs.declared.squares.Rect.{Rect}
-use Rattle.geo_core.specs.Strips.{IsStrips}
-use Rattle.cell_tree.specs.declared.use_tables.UseBody.{UseBody}
-use Rattle.cif_writing.specs.CellLibrary.Views.{LibraryView, view_at}
-use Rattle.cif_model.specs.declared.cifs.CifSymbol.{CifSymbol}
+use Rattle.file_laws.proofs.Common.{◌≡◌, ◌≤◌, ◌+◌, ℕ, suc, pos, true, false, List, [], ◌∷◌, ◌++◌, length, None, refl, sym, subst, In, is_plain_name}
+use Rattle.file_laws.proofs.Common.{Rect, IsStrips, UseBody, LibraryView, view_at, CifSymbol, finish_command, name_command, start_command, HoldsPart}
+use Rattle.file_laws.proofs.Common.{part_sets, IsSymbol, IsCellSymbol, symbol_place}
 use Rattle.cif_reading.specs.Drafts.{has_symbol}
-use Rattle.cif_writing.specs.Commands.{finish_command, name_command, start_command}
-use Rattle.cif_writing.specs.Parts.{HoldsPart, part_sets}
-use Rattle.cif_writing.specs.Symbols.{IsSymbol}
-use Rattle.file_laws.specs.CellCifs.{IsCellSymbol, symbol_place}
 use Rattle.file_laws.proofs.HalfNumbers.{IsNearBox, near_edge}
 use Rattle.file_laws.proofs.ReadCommands.{behind_symbols, finish_read, in_symbol, name_read, start_read}
 use Rattle.file_laws.proofs.ReadLines.{Reads, reads_then}

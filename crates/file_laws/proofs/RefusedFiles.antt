@@ -1,12 +1,8 @@
 -- A circuit file is refused exactly at its first faulty line, or at its last where it has no header.
-use Rattle.std.proofs.Common.{◌≡◌, ◌↔◌, ℕ, Bool, true, false, cond, List, Result, Ok, Err, inl, inr, refl, sym, ap, ◌∙◌}
-use Rattle.text_scan.specs.Lines.{lines_of}
-use Rattle.text_form.specs.declared.reading.At.{At}
+use Rattle.file_laws.proofs.Common.{◌≡◌, ◌↔◌, ℕ, Bool, true, false, cond, List, Result, Ok, Err, inl, inr, refl, sym, ap, ◌∙◌, lines_of, At}
+use Rattle.file_laws.proofs.Common.{and_then, ExtReadFault, NoHeader}
 use Rattle.text_form.specs.Folds.{fault_at, first_fault_or, last_number, ended_at, finished}
-use Rattle.text_form.specs.SaidLines.{and_then}
 use Rattle.text_form.proofs.FoldLaws.{first_fault_or-first, first_fault_or-refused}
-use Rattle.ext_reading.specs.declared.faults.ExtReadFault.{ExtReadFault}
-use Rattle.ext_reading.specs.declared.faults.ExtReadFault.TheVariants.{NoHeader}
 use Rattle.ext_reading.specs.Drafts.{Draft, nothing_yet, step, finish, is_incomplete}
 use Rattle.ext_reading.specs.ExtTexts.{outline_of, draft_in, record_of, ext_in}
 use Rattle.file_laws.specs.CircuitFiles.{IsRefusedFile}

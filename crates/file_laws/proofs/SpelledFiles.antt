@@ -1,36 +1,24 @@
 -- A circuit file that is read spells its record.
-use Rattle.std.proofs.Common.{◌≡◌, ◌+◌, ◌&&◌, ◌==◌, ℕ, ℤ, zero, suc, Bool, true, false, cond, not, Option, List, [], ◌∷◌, ◌++◌, Result, Ok, Err}
-use Rattle.std.proofs.Common.{refl, sym, ap, ◌∙◌, subst, append_assoc, append-nil}
+use Rattle.file_laws.proofs.Common.{◌≡◌, ◌+◌, ◌&&◌, ◌==◌, ℕ, ℤ, zero, suc, Bool, true, false, cond, not, Option, List, [], ◌∷◌, ◌++◌, Result, Ok}
+use Rattle.file_laws.proofs.Common.{Err, refl, sym, ap, ◌∙◌, subst, append_assoc, append-nil, lines_of, At, and_then, FetRec, MergeRow, ExtReadFault}
+use Rattle.file_laws.proofs.Common.{NoHeader, HeaderLine, Tech, Timestamp, Version, Style, Scale, Classes, NodeLine, FetLine, MergeLine, ExtLine}
+use Rattle.file_laws.proofs.Common.{Nothing, Header, Use, Node, Equiv, Fet, Merge, Outline, IsUseOf, IsNodeOf}
 use Rattle.std.specs.Prelude.{Some, None, filter_map}
 use Rattle.finite_sets.specs.OneForOne.{AreOneForOne}
 use Rattle.finite_sets.proofs.OneForOne.{AreOneForOne-push}
-use Rattle.text_scan.specs.Lines.{lines_of}
-use Rattle.text_form.specs.declared.reading.At.{At}
 use Rattle.text_form.specs.Folds.{first_fault_or}
-use Rattle.text_form.specs.SaidLines.{and_then, AreSaid}
+use Rattle.text_form.specs.SaidLines.{AreSaid}
 use Rattle.text_form.proofs.FoldLaws.{passed, text_state-Ok}
 use Rattle.ext_model.specs.declared.records.NodeRec.{NodeRec}
-use Rattle.ext_model.specs.declared.records.FetRec.{FetRec}
-use Rattle.ext_model.specs.declared.arrays.MergeRow.{MergeRow}
 use Rattle.ext_model.specs.declared.arrays.ArrayExt.{ArrayExt}
-use Rattle.ext_reading.specs.declared.faults.ExtReadFault.{ExtReadFault}
-use Rattle.ext_reading.specs.declared.faults.ExtReadFault.TheVariants.{NoHeader}
-use Rattle.ext_reading.specs.declared.lines.HeaderLine.{HeaderLine}
-use Rattle.ext_reading.specs.declared.lines.HeaderLine.TheVariants.{Tech, Timestamp, Version, Style, Scale, Classes}
 use Rattle.ext_reading.specs.declared.lines.Version as lines
-use Rattle.ext_reading.specs.declared.lines.NodeLine.{NodeLine}
-use Rattle.ext_reading.specs.declared.lines.FetLine.{FetLine}
-use Rattle.ext_reading.specs.declared.lines.MergeLine.{MergeLine}
-use Rattle.ext_reading.specs.declared.lines.ExtLine.{ExtLine}
-use Rattle.ext_reading.specs.declared.lines.ExtLine.TheVariants.{Nothing, Header, Use, Node, Equiv, Fet, Merge}
-use Rattle.ext_reading.specs.declared.outlines.Outline.{Outline}
 use Rattle.ext_reading.specs.LineForms.{says}
 use Rattle.ext_reading.specs.Ranges.{class_values_in}
 use Rattle.ext_reading.specs.Drafts.{Draft, nothing_yet, step, finish, is_incomplete, takes, with_alias_at, fet_from, merge_from, range_in}
 use Rattle.ext_reading.specs.ExtTexts.{outline_of, draft_in, record_of, ext_in}
 use Rattle.ext_reading.proofs.Outcomes.{value_has}
 use Rattle.file_laws.specs.CircuitFiles.{tech_said, version_said, classes_said, use_said, node_said, fet_said, merge_said}
-use Rattle.file_laws.specs.CircuitFiles.{IsUseOf, IsNodeOf, IsSpelled}
+use Rattle.file_laws.specs.CircuitFiles.{IsSpelled}
 use Rattle.file_laws.proofs.LineGains.{HeaderGains, Gains, takes-gains}
 
 -- lines that say this, one after the other, lead from one draft to another

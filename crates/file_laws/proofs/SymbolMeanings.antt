@@ -1,30 +1,11 @@
 -- What the symbol of a cell means, where the symbols before it mean the trees of their cells: the tree of the cell.
-use Rattle.std.proofs.Common.{◌≡◌, ◌∙◌, ◌<◌, ◌+◌, ◌↔◌, ℕ, suc, List, Option, Some, sym, ap, subst, inl, inr, arith}
-use Rattle.std.specs.Prelude.{slice_get}
-use Rattle.finite_sets.specs.Lists.{In}
-use Rattle.finite_sets.proofs.Members.{In-append_cases, In-append_left, In-append_right}
-use Rattle.finite_sets.proofs.Places.{In-slice_get}
-use Rattle.geo_core.specs.declared.squares.Rect.{Rect}
-use Rattle.geo_core.specs.declared.squares.Square.{Square}
-use Rattle.geo_core.specs.declared.transforms.Transform.{Transform}
-use Rattle.geo_core.specs.Images.{image, inverted}
+use Rattle.file_laws.proofs.Common.{◌≡◌, ◌∙◌, ◌<◌, ◌+◌, ◌↔◌, ℕ, suc, List, Option, Some, sym, ap, subst, inl, inr, arith, slice_get, In}
+use Rattle.file_laws.proofs.Common.{In-append_cases, In-append_left, In-append_right, In-slice_get, Rect, Square, Transform, image, inverted}
+use Rattle.file_laws.proofs.Common.{cell_tree, CifItem, Area, Call, CifSymbol, CifParts, Means, moved, placing, HullIs, LibraryView, view_at}
+use Rattle.file_laws.proofs.Common.{part_name, HoldsPart, part_sets, IsCellCif, IsCellSymbol, symbol_place, IsBit, HoldsPartOfTree}
 use Rattle.layout_model.specs.CellTrees.{CellTree}
-use Rattle.layout_model.specs.CellTrees.CellTree.{cell_tree}
-use Rattle.cif_model.specs.declared.cifs.CifItem.{CifItem}
-use Rattle.cif_model.specs.declared.cifs.CifItem.TheVariants.{Area, Call}
-use Rattle.cif_model.specs.declared.cifs.CifSymbol.{CifSymbol}
-use Rattle.cif_model.specs.Cifs.{CifParts}
-use Rattle.cif_model.specs.Meanings.{Means, moved}
-use Rattle.cif_model.specs.Placings.{placing}
 use Rattle.cif_model.proofs.PlacingLaws.{moved-placing}
 use Rattle.cif_writing.specs.CellLibrary.LayoutTrees.{elements_from, own_cell, tree_at}
-use Rattle.cif_writing.specs.CellLibrary.Limits.{HullIs}
-use Rattle.cif_writing.specs.CellLibrary.Views.{LibraryView, view_at}
-use Rattle.cif_writing.specs.Commands.{part_name}
-use Rattle.cif_writing.specs.Parts.{HoldsPart, part_sets}
-use Rattle.file_laws.specs.CellCifs.{IsCellCif, IsCellSymbol, symbol_place}
-use Rattle.cif_writing.proofs.PartLaws.{IsBit}
-use Rattle.file_laws.specs.CellMeanings.{HoldsPartOfTree}
 use Rattle.file_laws.proofs.ItemMeanings.{HasBox, HasCall, SymbolMeans, box_means, box_wider, call_means, items_open, with_top}
 use Rattle.file_laws.proofs.PartBoxes.{box_holds, held_by_box, no_call}
 use Rattle.file_laws.proofs.SymbolPlaces.{child_before}

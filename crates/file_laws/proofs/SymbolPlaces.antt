@@ -1,22 +1,15 @@
 -- Where the symbols of cells stand: that of a child before that of its user.
-use Rattle.std.proofs.Common.{◌≡◌, ◌∙◌, ◌==◌, ◌+◌, ◌<◌, ℕ, suc, Bool, true, false, cond, not, List, [], ◌∷◌, map, take, Some, sym, ap, subst}
-use Rattle.std.proofs.Common.{inl, inr, arith}
-use Rattle.std.specs.Prelude.{slice_get, slice_index_or}
+use Rattle.file_laws.proofs.Common.{◌≡◌, ◌∙◌, ◌==◌, ◌+◌, ◌<◌, ℕ, suc, Bool, true, false, cond, not, List, [], ◌∷◌, map, Some, sym, ap, subst, inl}
+use Rattle.file_laws.proofs.Common.{inr, arith, slice_get, slice_get_within, stay, In, In-map, slice_get-In_take, IsLibraryOrder}
+use Rattle.file_laws.proofs.Common.{library_order-behind, library_order-lists, UseBody, children_in, LibraryView, view_at, symbol_place}
+use Rattle.std.proofs.Common.{take}
+use Rattle.std.specs.Prelude.{slice_index_or}
 use Rattle.std.specs.List.{position_or_len}
 use Rattle.std.proofs.lemmas.Bool.{cases_eq, eq-eqb, ne_eqb}
-use Rattle.std.proofs.lemmas.Option.{get_or_from_slice_get, slice_get_within}
-use Rattle.finite_sets.specs.Chain.Chain.{stay}
-use Rattle.finite_sets.specs.Lists.{In}
-use Rattle.finite_sets.proofs.Members.{In-map}
-use Rattle.finite_sets.proofs.Places.{In-take, one_place, slice_get-In_take}
-use Rattle.use_orders.specs.LibraryOrder.{IsLibraryOrder}
+use Rattle.std.proofs.lemmas.Option.{get_or_from_slice_get}
+use Rattle.finite_sets.proofs.Places.{In-take, one_place}
 use Rattle.use_orders.specs.Uses.{UsesCell}
-use Rattle.use_orders.proofs.Visiting.{library_order-behind, library_order-lists}
-use Rattle.cell_tree.specs.declared.use_tables.UseBody.{UseBody}
-use Rattle.cif_writing.specs.CellLibrary.Additions.{children_in}
-use Rattle.cif_writing.specs.CellLibrary.Views.{LibraryView, view_at}
 use Rattle.cif_writing.proofs.CellLibrary.ChildLaws.{children_at}
-use Rattle.file_laws.specs.CellCifs.{symbol_place}
 
 -- ---- places
 

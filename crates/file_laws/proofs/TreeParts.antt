@@ -1,23 +1,10 @@
 -- The parts of the flat layout of a tree: those of the cell's own layout, and those of its elements.
-use Rattle.std.proofs.Common.{◌≡◌, ◌⊎◌, ℕ, ℤ, List, [], ◌∷◌, map, inl, inr, refl, sym, subst}
+use Rattle.file_laws.proofs.Common.{◌≡◌, ◌⊎◌, ℕ, ℤ, List, [], ◌∷◌, map, inl, inr, refl, sym, subst, In, Square, Transform, image, inverted, RawTech}
+use Rattle.file_laws.proofs.Common.{is_subset, cell_tree, UseBody, displacements, place_at, HoldsPart, elements_of_use, IsBit, HoldsPartOfTree}
 use Rattle.std.specs.Prelude.{true}
-use Rattle.finite_sets.specs.Lists.{In}
-use Rattle.geo_core.specs.declared.squares.Square.{Square}
-use Rattle.geo_core.specs.declared.transforms.Transform.{Transform}
-use Rattle.geo_core.specs.Images.{image, inverted}
-use Rattle.tech_model.specs.declared.raw.RawTech.{RawTech}
-use Rattle.tech_model.specs.Types.{is_subset}
 use Rattle.layout_model.specs.CellTrees.{CellTree, Elements, OwnCell, place_back}
-use Rattle.layout_model.specs.CellTrees.CellTree.{cell_tree}
 use Rattle.layout_model.specs.FlatSets.{flat_sets, sets_below, sets_in}
-use Rattle.cell_tree.specs.declared.use_tables.UseBody.{UseBody}
-use Rattle.cell_tree.specs.Uses.{displacements}
-use Rattle.cif_writing.specs.CellLibrary.CellPaint.Painting.{place_at}
 use Rattle.cif_writing.specs.CellLibrary.LayoutTrees.{element_transform, elements_at, elements_from}
-use Rattle.cif_writing.specs.Parts.{HoldsPart}
-use Rattle.cif_writing.specs.Symbols.{elements_of_use}
-use Rattle.cif_writing.proofs.PartLaws.{IsBit}
-use Rattle.file_laws.specs.CellMeanings.{HoldsPartOfTree}
 use Rattle.file_laws.proofs.BitParts.{part_in_first, part_in_none, part_in_second, part_in_union}
 
 -- On some plane the elements have the part.

@@ -1,18 +1,7 @@
 -- The calls of a cell's uses: one of the child's symbol for each element of a use, where the child has a hull.
-use Rattle.std.proofs.Common.{◌≡◌, ℕ, suc, List, [], ◌∷◌, Option, Some, None, refl, sym, subst, inl, inr}
-use Rattle.finite_sets.specs.Lists.{In}
-use Rattle.finite_sets.proofs.Members.{In-append_cases, In-append_left, In-append_right, In-map, In-map_source}
-use Rattle.geo_core.specs.declared.squares.Rect.{Rect}
-use Rattle.geo_core.specs.declared.transforms.Transform.{Transform}
-use Rattle.cif_model.specs.declared.cifs.CifItem.{CifItem}
-use Rattle.cif_model.specs.declared.cifs.CifItem.TheVariants.{Area, Call}
-use Rattle.cif_model.specs.declared.cifs.CifMove.{CifMove}
-use Rattle.cif_model.specs.Placings.{placing}
-use Rattle.cell_tree.specs.declared.use_tables.UseBody.{UseBody}
-use Rattle.cif_writing.specs.CellLibrary.Limits.{HullIs}
-use Rattle.cif_writing.specs.CellLibrary.Views.{LibraryView}
-use Rattle.cif_writing.specs.Symbols.{AreRuns, elements_of_use}
-use Rattle.file_laws.specs.CellCifs.{AreUseItems, symbol_place, use_items}
+use Rattle.file_laws.proofs.Common.{◌≡◌, ℕ, suc, List, [], ◌∷◌, Option, Some, None, refl, sym, subst, inl, inr, In, In-append_cases, In-append_left}
+use Rattle.file_laws.proofs.Common.{In-append_right, In-map, In-map_source, Rect, Transform, CifItem, Area, Call, CifMove, placing, UseBody, HullIs}
+use Rattle.file_laws.proofs.Common.{LibraryView, AreRuns, elements_of_use, AreUseItems, symbol_place, use_items}
 
 -- uses of a cell, each with its id
 abbrev pub Uses : Type 0

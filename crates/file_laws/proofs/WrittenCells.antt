@@ -1,16 +1,11 @@
 -- The text of a cell is read as what its cell says: symbol by symbol in library order, and then a call of the cell's own.
-use Rattle.std.proofs.Common.{◌≡◌, ◌<◌, ℕ, false, pos, List, [], ◌∷◌, ◌++◌, length, None, Ok, refl, sym, ap, ◌∙◌, append_assoc, append-nil, arith}
-use Rattle.std.proofs.lemmas.Option.{slice_get_within}
-use Rattle.text_scan.specs.Written.{text_of}
-use Rattle.cif_writing.specs.CellLibrary.Libraries.{IsLawfulLibrary, LibraryParts, seen}
-use Rattle.cif_model.specs.Cifs.{CifParts}
-use Rattle.cif_model.specs.declared.cifs.CifItem.TheVariants.{Call}
-use Rattle.cif_reading.specs.CifTexts.{cif_in, parts_of}
-use Rattle.cif_reading.specs.Drafts.{Draft, nothing_yet, symbol_place as place_by_number}
+use Rattle.file_laws.proofs.Common.{◌≡◌, ◌<◌, ℕ, false, pos, List, [], ◌∷◌, ◌++◌, length, None, Ok, refl, sym, ap, ◌∙◌, append_assoc, append-nil}
+use Rattle.file_laws.proofs.Common.{arith, slice_get_within, text_of, IsLawfulLibrary, LibraryParts, seen, CifParts, Call, cif_in, parts_of, Draft}
+use Rattle.file_laws.proofs.Common.{IsCellCif, symbol_place}
+use Rattle.cif_reading.specs.Drafts.{nothing_yet, symbol_place as place_by_number}
 use Rattle.cif_reading.proofs.LawfulDrafts.{cif-lawful}
 use Rattle.cif_writing.specs.Commands.{end_line, plain_call}
 use Rattle.cif_writing.specs.Symbols.{IsCifText, symbol_number}
-use Rattle.file_laws.specs.CellCifs.{IsCellCif, symbol_place}
 use Rattle.file_laws.proofs.LibraryOrders.{order_few, root_place}
 use Rattle.file_laws.proofs.NumberedSymbols.{numbered_place, numbered_there}
 use Rattle.file_laws.proofs.ReadCalls.{top_read}

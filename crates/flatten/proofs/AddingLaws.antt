@@ -1,28 +1,13 @@
 -- One more addend.
-use Rattle.std.proofs.Common.{◌≡◌, ◌≢◌, ℕ, ◌+◌, ◌<◌, ◌≤◌, ℤ, pos, ◌+ℤ◌, Bool, false, cond, eqb, List, [], ◌∷◌, ◌++◌, length, map, take, get_or, sym}
-use Rattle.std.proofs.Common.{◌∙◌, ap, subst}
-use Rattle.std.proofs.Common.{arith, eq-eqb, append_assoc, length-append, inl, inr, to_z, of_z, negsuc}
-use Rattle.std.specs.Prelude.{All, Some, slice_get, slice_index}
-use Rattle.std.proofs.Math.ListN.{set, length-set}
-use Rattle.std.proofs.lemmas.Bool.{cases_eq, cases_Bool, eqb-true}
-use Rattle.std.proofs.lemmas.Int.{ints, to_z-of_z}
-use Rattle.std.specs.Int.{w128}
-use Rattle.std.specs.Int.RustNames.{FitsSigned}
-use Rattle.std.proofs.lemmas.List.Elements.{All-take}
-use Rattle.std.proofs.lemmas.List.{map_more, length-map, length-take-le}
-use Rattle.std.proofs.lemmas.Option.{slice_get_within, slice_get-get_or, same_Some}
-use Rattle.finite_sets.specs.Lists.{In}
-use Rattle.finite_sets.specs.Total.{sum_on}
-use Rattle.finite_sets.proofs.Members.{In-append_cases, In-map_source}
-use Rattle.finite_sets.proofs.Sums.{sum_on-push}
-use Rattle.finite_sets.proofs.Searches.{All-In}
-use Rattle.circuit_model.specs.declared.limits.TheConstants.{MOST_NODES, MOST_MERGES}
+use Rattle.flatten.proofs.Common.{◌≡◌, ◌≢◌, ℕ, ◌+◌, ◌<◌, ◌≤◌, ℤ, pos, ◌+ℤ◌, Bool, false, cond, eqb, List, [], ◌∷◌, ◌++◌, length, map, take, get_or}
+use Rattle.flatten.proofs.Common.{sym, ◌∙◌, ap, subst, arith, eq-eqb, append_assoc, length-append, inl, inr, to_z, of_z, negsuc, All, Some}
+use Rattle.flatten.proofs.Common.{slice_get, slice_index, set, length-set, cases_eq, cases_Bool, eqb-true, ints, to_z-of_z, w128, FitsSigned}
+use Rattle.flatten.proofs.Common.{All-take, map_more, length-map, length-take-le, slice_get_within, slice_get-get_or, same_Some, In, sum_on}
+use Rattle.flatten.proofs.Common.{In-append_cases, In-map_source, sum_on-push, All-In, MOST_NODES, MOST_MERGES, IsMeasure, NodeSum, FitAmounts}
+use Rattle.flatten.proofs.Common.{AddsAmounts, Quantity, Addend, amount, counts_for, IsLawfulAmount, AreLawfulAmounts, HaveSums, AddAll}
 use Rattle.flatten.proofs.PlaceLaws.{place_set, place_set_other}
-use Rattle.ext_model.specs.Lawful.{IsMeasure}
 use Rattle.flatten.specs.steps.Spots.{IsLabel}
-use Rattle.flatten.specs.declared.sums.NodeSum.{NodeSum}
-use Rattle.flatten.specs.steps.Amounts.{FitAmounts, AddsAmounts}
-use Rattle.flatten.specs.steps.Sums.{Quantity, Addend, amount, counts_for, IsLawfulAmount, AreLawfulAmounts, AreSumsOf, HaveSums, HaveRoomFor, AddAll}
+use Rattle.flatten.specs.steps.Sums.{AreSumsOf, HaveRoomFor}
 use Rattle.flatten.proofs.AmountLaws.{small_amount, added_amount, fit_amounts}
 use Rattle.flatten.proofs.BoundLaws.{sum_within, fits_more}
 

@@ -1,12 +1,6 @@
 -- Amounts of quantities.
-use Rattle.std.proofs.Common.{◌≡◌, ℕ, ◌<◌, ℤ, pos, ◌+ℤ◌, List, length, arith}
-use Rattle.std.specs.Int.{w128}
-use Rattle.std.specs.Int.RustNames.{FitsSigned}
-use Rattle.ext_model.specs.Lawful.{IsMeasure}
-use Rattle.flatten.specs.declared.sums.NodeSum.{NodeSum}
-use Rattle.flatten.specs.steps.Amounts.{FitAmounts, AddsAmounts}
-use Rattle.flatten.specs.steps.Sums.{Quantity, amount, IsCounted, IsLawfulAmount}
-use Rattle.flatten.specs.steps.Sums.Quantity.{Capacitance, Area, Perimeter}
+use Rattle.flatten.proofs.Common.{◌≡◌, ℕ, ◌<◌, ℤ, pos, ◌+ℤ◌, List, length, arith, w128, FitsSigned, IsMeasure, NodeSum, FitAmounts, AddsAmounts}
+use Rattle.flatten.proofs.Common.{Quantity, amount, IsCounted, IsLawfulAmount, Capacitance, Area, Perimeter}
 
 -- each amount of a lawful record is small
 pub small_amount : (classes : ℕ) (cap : ℤ) (measures : List (ℤ × ℤ)) → IsLawfulAmount classes cap measures → (quantity : Quantity)

@@ -1,21 +1,17 @@
 -- The faults and the meaning of records with arrays are those of the records that are made of them.
-use Rattle.std.proofs.Common.{◌≡◌, ℕ, true, false, List, length, refl, sym, ◌∙◌, ap, subst, ◌⊎◌, inl, inr}
-use Rattle.std.specs.Prelude.{Option, Some, None, slice_get, IsSome}
-use Rattle.std.specs.Option.{option_or, option_map}
-use Rattle.std.proofs.lemmas.Option.{same_Some}
-use Rattle.ext_model.specs.declared.records.CellExt.{CellExt}
+use Rattle.flatten.proofs.Common.{◌≡◌, ℕ, true, false, List, length, refl, sym, ◌∙◌, ap, subst, ◌⊎◌, inl, inr, Option, Some, None, slice_get, IsSome}
+use Rattle.flatten.proofs.Common.{option_or, option_map, same_Some, CellExt, FlatFault, LONGEST_CHAIN, MOST_FLAT_ELEMENTS, MOST_NODES, AreRecords}
+use Rattle.flatten.proofs.Common.{ext_of, elements_of, depth_of, past, flat_fault, IsFlatOf, IsFlatFaultOf, name_fault, node_fault, merge_fault}
 use Rattle.ext_model.specs.declared.arrays.ArrayExt.{ArrayExt}
 use Rattle.ext_model.specs.declared.circuits.Circuit.{Circuit}
 use Rattle.ext_model.specs.Plain.{plain}
-use Rattle.circuit_model.specs.declared.faults.FlatFault.{FlatFault}
 use Rattle.circuit_model.specs.declared.limits.CircuitLimit.TheVariants.{Depth, Elements, Nodes, Names}
-use Rattle.circuit_model.specs.declared.limits.TheConstants.{LONGEST_CHAIN, MOST_FLAT_ELEMENTS, MOST_NODES, MOST_NAME_BYTES}
-use Rattle.circuit_model.specs.Elements.{AreRecords, ext_of, elements_of}
+use Rattle.circuit_model.specs.declared.limits.TheConstants.{MOST_NAME_BYTES}
 use Rattle.circuit_model.specs.Circuits.{IsMeaning}
-use Rattle.circuit_model.specs.Refusals.{walk_fault, depth_of, past, flat_fault, IsFlatOf, IsFlatFaultOf}
+use Rattle.circuit_model.specs.Refusals.{walk_fault}
 use Rattle.element_tree.proofs.Cells.{found_cell}
-use Rattle.name_classes.specs.FullNames.NameLists.{name_fault, HasNoNameFault, IsNameFaultOf}
-use Rattle.plain_records.specs.FlatLimits.Counts.{node_fault, merge_fault, HasNoNodeFault, IsNodeFaultOf, IsMergeFaultOf}
+use Rattle.name_classes.specs.FullNames.NameLists.{HasNoNameFault, IsNameFaultOf}
+use Rattle.plain_records.specs.FlatLimits.Counts.{HasNoNodeFault, IsNodeFaultOf, IsMergeFaultOf}
 use Rattle.plain_records.specs.Plains.{plains, AreArrayRecords}
 use Rattle.plain_records.specs.Thin.{thin, thins}
 use Rattle.plain_records.specs.Reached.{with_merges, AreCalled, HasNoReachFault, IsExpandedAt}

@@ -1,15 +1,9 @@
 -- Sums of few enough amounts fit.
-use Rattle.std.proofs.Common.{◌≡◌, ℕ, ◌+◌, ◌*◌, ◌≤◌, ℤ, pos, negsuc, ◌+ℤ◌, ◌-ℤ◌, ◌≤ℤ◌, Bool, true, false, cond, eqb, List, [], ◌∷◌, length, refl}
-use Rattle.std.proofs.Common.{subst, arith, inl, inr}
-use Rattle.std.specs.Int.{w128}
-use Rattle.std.specs.Int.RustNames.{FitsSigned}
-use Rattle.std.proofs.lemmas.Int.{ints}
-use Rattle.finite_sets.specs.Lists.{In}
-use Rattle.finite_sets.specs.Total.{sum_on}
+use Rattle.flatten.proofs.Common.{◌≡◌, ℕ, ◌+◌, ◌≤◌, ℤ, pos, negsuc, ◌+ℤ◌, ◌-ℤ◌, ◌≤ℤ◌, Bool, true, false, cond, eqb, List, [], ◌∷◌, length, refl}
+use Rattle.flatten.proofs.Common.{subst, arith, inl, inr, w128, FitsSigned, ints, In, sum_on, IsMeasure, MOST_NODES, MOST_MERGES, Quantity, Addend}
+use Rattle.flatten.proofs.Common.{amount, IsCounted, counts_for, IsLawfulAmount}
+use Rattle.std.proofs.Common.{◌*◌}
 use Rattle.ext_model.specs.declared.limits.TheConstants.{MEASURE_EDGE}
-use Rattle.ext_model.specs.Lawful.{IsMeasure}
-use Rattle.circuit_model.specs.declared.limits.TheConstants.{MOST_NODES, MOST_MERGES}
-use Rattle.flatten.specs.steps.Sums.{Quantity, Addend, amount, IsCounted, counts_for, IsLawfulAmount}
 use Rattle.flatten.proofs.AmountLaws.{small_amount}
 
 -- so many times the edge at most, in absolute value

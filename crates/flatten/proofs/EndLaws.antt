@@ -1,29 +1,13 @@
 -- Where the first paths of merges lead.
-use Rattle.std.proofs.Common.{◌≡◌, ℕ, ◌+◌, ◌<◌, List, length, map, get_or, refl, sym, ◌∙◌, ap, subst, arith, inl}
-use Rattle.std.specs.Prelude.{Some, slice_get}
-use Rattle.std.specs.Option.{option_map}
-use Rattle.std.proofs.lemmas.Option.{slice_get_within, slice_get_read, slice_get-get_or, slice_get-map, get_or_from_slice_get, same_Some}
-use Rattle.finite_sets.specs.Lists.{In}
-use Rattle.finite_sets.proofs.Members.{In-map}
-use Rattle.finite_sets.proofs.Places.{In-slice_get, slice_get-below}
-use Rattle.ext_model.specs.declared.records.NodeRec.{NodeRec}
-use Rattle.ext_model.specs.declared.records.MergeRec.{MergeRec}
-use Rattle.ext_model.specs.declared.records.CellExt.{CellExt}
-use Rattle.ext_model.specs.RecordNames.{node_names}
-use Rattle.circuit_model.specs.Elements.{Element}
-use Rattle.circuit_model.specs.FullNames.{name_in}
-use Rattle.element_tree.specs.declared.tree.TreeElement.{TreeElement}
-use Rattle.name_classes.specs.FullNames.declared.names.FullNames.{FullNames}
-use Rattle.name_classes.specs.FullNames.Names.{AreNames, IsElement, IsSpotOf, elements_in}
-use Rattle.name_classes.specs.FullNames.NameLists.{IsFullNameList}
+use Rattle.flatten.proofs.Common.{◌≡◌, ℕ, ◌+◌, ◌<◌, List, length, map, get_or, refl, sym, ◌∙◌, ap, subst, arith, inl, Some, slice_get, option_map}
+use Rattle.flatten.proofs.Common.{slice_get_within, slice_get_read, slice_get-get_or, slice_get-map, get_or_from_slice_get, same_Some, In, In-map}
+use Rattle.flatten.proofs.Common.{In-slice_get, slice_get-below, NodeRec, MergeRec, CellExt, node_names, Element, name_in, TreeElement, FullNames}
+use Rattle.flatten.proofs.Common.{AreNames, IsElement, IsSpotOf, elements_in, IsFullNameList, NameClasses, MergeEnd, HasEnds, AreClasses}
+use Rattle.flatten.proofs.Common.{tree_of_names, element_at, cell_at, no_element}
 use Rattle.flatten.proofs.FlatLimits.TreeLaws.{no_flat}
-use Rattle.name_classes.specs.declared.classes.NameClasses.{NameClasses}
 use Rattle.flatten.proofs.PlaceLaws.{place_of}
 use Rattle.flatten.proofs.SpotLaws.{flat_here, name_among}
-use Rattle.name_classes.specs.declared.classes.MergeEnd.{MergeEnd}
-use Rattle.name_classes.specs.Classes.{EndsAt, HasEnds, AreClasses, firsts_of}
-use Rattle.name_classes.proofs.TreeLaws.{tree_of_names}
-use Rattle.flatten.specs.steps.Spots.{element_at, cell_at, no_element}
+use Rattle.name_classes.specs.Classes.{EndsAt, firsts_of}
 
 -- The first path of the merge leads to this name of this element.
 pub record IsEndHere (names : FullNames) (number : ℕ) (merge : MergeRec) (end : MergeEnd) : Type 0 where

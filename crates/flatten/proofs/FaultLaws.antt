@@ -1,28 +1,19 @@
 -- What trees without a fault keep to.
-use Rattle.std.proofs.Common.{◌≡◌, ℕ, ◌≤◌, get_or, arith, Bool, cond, eqb, List, [], length, inl, inr, refl, sym, ◌∙◌, ap}
-use Rattle.std.specs.Prelude.{Option, Some, None, Result, Ok, Err, IfOk, slice_get, IsSome}
-use Rattle.std.specs.Option.{option_or}
-use Rattle.std.proofs.lemmas.Bool.{cases_Bool, cases_lt, lt-ltb, eqb-true}
-use Rattle.std.proofs.lemmas.Option.{slice_get-get_or}
+use Rattle.flatten.proofs.Common.{◌≡◌, ℕ, ◌≤◌, get_or, arith, Bool, cond, eqb, List, [], length, inl, inr, refl, sym, ◌∙◌, ap, Option, Some, None}
+use Rattle.flatten.proofs.Common.{slice_get, IsSome, option_or, cases_Bool, cases_lt, eqb-true, slice_get-get_or, CellExt, FetRec, FlatFault}
+use Rattle.flatten.proofs.Common.{Element, ext_of, elements_of, FullNames, AreNames, elements_in, past, class_fault, node_count, merge_count}
+use Rattle.flatten.proofs.Common.{depth_of, flat_fault, IsFlatFaultOf, IsFlatOf, LONGEST_CHAIN, MOST_FLAT_ELEMENTS, MOST_NODES, MOST_MERGES}
+use Rattle.flatten.proofs.Common.{name_fault, node_fault, merge_fault, IsGiven, GivenCircuit}
+use Rattle.std.specs.Prelude.{Result, Ok, Err, IfOk}
+use Rattle.std.proofs.lemmas.Bool.{lt-ltb}
 use Rattle.finite_sets.proofs.Searches.{option_or-none}
-use Rattle.ext_model.specs.declared.records.CellExt.{CellExt}
-use Rattle.ext_model.specs.declared.records.FetRec.{FetRec}
-use Rattle.circuit_model.specs.declared.faults.FlatFault.{FlatFault}
 use Rattle.circuit_model.specs.declared.faults.FlatFault.TheVariants.{TooMany, Classes}
 use Rattle.circuit_model.specs.declared.limits.CircuitLimit.{CircuitLimit}
 use Rattle.circuit_model.specs.declared.limits.CircuitLimit.TheVariants.{Depth, Elements, Nodes, Merges}
-use Rattle.circuit_model.specs.Elements.{Element, ext_of, elements_of}
-use Rattle.name_classes.specs.FullNames.declared.names.FullNames.{FullNames}
-use Rattle.name_classes.specs.FullNames.Names.{AreNames, elements_in}
-use Rattle.circuit_model.specs.Refusals.{past, class_fault, node_count, merge_count, walk_fault, depth_of, count_fault, flat_fault, IsFlatFaultOf, IsFlatOf}
-use Rattle.circuit_model.specs.declared.limits.TheConstants.{LONGEST_CHAIN, MOST_FLAT_ELEMENTS, MOST_NODES, MOST_MERGES}
+use Rattle.circuit_model.specs.Refusals.{walk_fault, count_fault}
 use Rattle.element_tree.specs.Trees.{tree_fault}
-use Rattle.name_classes.specs.FullNames.NameLists.{name_fault}
-use Rattle.plain_records.specs.FlatLimits.Counts.{node_fault, merge_fault}
 use Rattle.flatten.specs.steps.Stages.{use_fault, number_fault, late_fault, HasNoUseFault, HasNoCountFault, HasNoLateFault}
 use Rattle.flatten.specs.steps.Stages.{IsLateFaultOf, IsMeantAt}
-use Rattle.flatten.specs.Sinks.{IsGiven}
-use Rattle.flatten.specs.declared.sinks.GivenCircuit.{GivenCircuit}
 
 -- a number that is not past its limit
 not_past : (most : ℕ) (limit : CircuitLimit) (number : ℕ) → past most limit number ≡ None → number ≤ most

@@ -1,13 +1,7 @@
 -- Transistors one after the other.
-use Rattle.std.proofs.Common.{◌≡◌, ℕ, ◌+◌, ◌<◌, List, [], ◌∷◌, ◌++◌, length, map, take, get_or, sym, ◌∙◌, ap, subst, append_assoc}
-use Rattle.std.specs.List.{flat_map}
-use Rattle.std.proofs.lemmas.Grind.{flat_map-append}
-use Rattle.std.proofs.lemmas.List.{take_more, map_more, append-nil}
-use Rattle.ext_model.specs.declared.records.NodeRec.{NodeRec}
-use Rattle.ext_model.specs.declared.records.FetRec.{FetRec}
-use Rattle.circuit_model.specs.Elements.{Element}
-use Rattle.circuit_model.specs.FlatFets.{IsFlatFet, fets_in, fets_of, AreFlatFets}
-use Rattle.flatten.specs.Sinks.{GivesFets}
+use Rattle.flatten.proofs.Common.{◌≡◌, ℕ, ◌+◌, ◌<◌, List, [], ◌∷◌, ◌++◌, length, map, take, get_or, sym, ◌∙◌, ap, subst, append_assoc, flat_map}
+use Rattle.flatten.proofs.Common.{flat_map-append, take_more, map_more, append-nil, NodeRec, FetRec, Element, IsFlatFet, fets_of, GivesFets}
+use Rattle.circuit_model.specs.FlatFets.{fets_in, AreFlatFets}
 
 -- one transistor more
 pub flat_push : (nodes : List NodeRec) (done : List (Element × FetRec)) (flats : List FetRec) (element : Element) (fet flat : FetRec)

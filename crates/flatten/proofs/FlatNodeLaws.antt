@@ -1,23 +1,13 @@
 -- Nodes with the names of groups, their places and their sums are the flat nodes.
-use Rattle.std.proofs.Common.{◌≡◌, ℕ, suc, ◌<◌, List, [], ◌∷◌, length, map, inl, refl, sym, ◌∙◌, ap, subst, arith}
-use Rattle.std.specs.Prelude.{Some, slice_get}
-use Rattle.std.specs.declared.cmp.Ordering.TheVariants.{Less}
-use Rattle.std.proofs.lemmas.Option.{slice_get_within, same_Some}
-use Rattle.finite_sets.specs.Lists.{In}
-use Rattle.finite_sets.proofs.Places.{slice_get-map_source, In-slice_get, slice_get-below, map-pointwise}
-use Rattle.ext_model.specs.declared.records.NodeRec.{NodeRec}
-use Rattle.ext_model.specs.NameOrder.{name_cmp}
-use Rattle.ext_model.specs.RecordNames.{names_of}
-use Rattle.circuit_model.specs.Elements.{Element}
-use Rattle.circuit_model.specs.FullNames.{IsFullName, AreOneNode, AreInNameOrder}
-use Rattle.circuit_model.specs.FlatNodes.{measure_of, IsPlaced, IsFlatNode, AreFlatNodes}
-use Rattle.name_classes.specs.FullNames.NameLists.{IsFullNameList}
-use Rattle.name_classes.specs.Classes.{AreLabels}
-use Rattle.flatten.specs.steps.Labels.{label_of, group_of, AreNamed}
+use Rattle.flatten.proofs.Common.{◌≡◌, ℕ, suc, ◌<◌, List, [], ◌∷◌, length, map, inl, refl, sym, ◌∙◌, ap, subst, arith, Some, slice_get, Less}
+use Rattle.flatten.proofs.Common.{slice_get_within, same_Some, In, In-slice_get, slice_get-below, NodeRec, name_cmp, names_of, Element}
+use Rattle.flatten.proofs.Common.{AreInNameOrder, measure_of, IsPlaced, IsFullNameList, AreLabels, label_of, group_of, AreNamed, NodeSum}
+use Rattle.finite_sets.proofs.Places.{slice_get-map_source, map-pointwise}
+use Rattle.circuit_model.specs.FullNames.{IsFullName, AreOneNode}
+use Rattle.circuit_model.specs.FlatNodes.{IsFlatNode, AreFlatNodes}
 use Rattle.flatten.proofs.GroupLaws.{in_group, from_group, group_in_order, one_node, one_label}
 use Rattle.flatten.proofs.NodeLaws.{node_at, node_found, before_node}
 use Rattle.flatten.proofs.PlaceLaws.{place_of}
-use Rattle.flatten.specs.declared.sums.NodeSum.{NodeSum}
 use Rattle.flatten.specs.steps.Sums.{AreSums}
 use Rattle.flatten.specs.steps.Filled.{with_sum, AreFilled}
 

@@ -1,14 +1,8 @@
 -- The circuit of nodes and of the transistors that a sink was given.
-use Rattle.std.proofs.Common.{◌≡◌, ℕ, List, length, sym, ◌∙◌, subst}
-use Rattle.ext_model.specs.declared.records.NodeRec.{NodeRec}
-use Rattle.ext_model.specs.declared.records.FetRec.{FetRec}
-use Rattle.ext_model.specs.declared.records.CellExt.{CellExt}
-use Rattle.circuit_model.specs.Elements.{Element}
+use Rattle.flatten.proofs.Common.{◌≡◌, ℕ, List, length, sym, ◌∙◌, subst, NodeRec, FetRec, CellExt, Element, fets_of, GivenCircuit, IsGiven}
 use Rattle.circuit_model.specs.Circuits.{IsCircuitOf}
 use Rattle.circuit_model.specs.FlatNodes.{AreFlatNodes}
-use Rattle.circuit_model.specs.FlatFets.{AreFlatFets, fets_of}
-use Rattle.flatten.specs.declared.sinks.GivenCircuit.{GivenCircuit}
-use Rattle.flatten.specs.Sinks.{IsGiven}
+use Rattle.circuit_model.specs.FlatFets.{AreFlatFets}
 
 -- flat nodes and the flat transistors between them are the circuit
 pub given_is : {S : Type 0} (has : S → List ℕ → List FetRec → Type 0) (elements : List Element) (top : CellExt) (given : GivenCircuit S)

@@ -1,19 +1,9 @@
 -- The groups that labels make of names in order.
-use Rattle.std.proofs.Common.{◌≡◌, ℕ, zero, suc, ◌<◌, Bool, true, false, cond, eqb, List, [], ◌∷◌, length, get_or, inl, inr, refl, sym}
-use Rattle.std.proofs.Common.{◌∙◌, ap, subst, arith, eq-eqb}
-use Rattle.std.specs.Prelude.{Some, slice_get, slice_index}
-use Rattle.std.specs.Str.{bytes_eq}
-use Rattle.std.specs.declared.cmp.Ordering.TheVariants.{Less}
-use Rattle.std.proofs.lemmas.Bool.{cases_Bool, eqb-true}
-use Rattle.std.proofs.lemmas.Option.{slice_get-get_or, get_or_from_slice_get}
-use Rattle.finite_sets.specs.Lists.{In}
-use Rattle.finite_sets.proofs.Places.{In-slice_get}
+use Rattle.flatten.proofs.Common.{◌≡◌, ℕ, zero, suc, ◌<◌, Bool, true, false, cond, eqb, List, [], ◌∷◌, length, get_or, inl, inr, refl, sym, ◌∙◌, ap}
+use Rattle.flatten.proofs.Common.{subst, arith, eq-eqb, Some, slice_get, slice_index, bytes_eq, Less, cases_Bool, eqb-true, slice_get-get_or}
+use Rattle.flatten.proofs.Common.{get_or_from_slice_get, In, In-slice_get, name_cmp, Element, AreInNameOrder, AreLabels, label_of, group_of}
 use Rattle.partition.specs.Marks.{HasMark}
-use Rattle.ext_model.specs.NameOrder.{name_cmp}
-use Rattle.circuit_model.specs.Elements.{Element}
-use Rattle.circuit_model.specs.FullNames.{AreInNameOrder, AreOneNode}
-use Rattle.name_classes.specs.Classes.{AreLabels}
-use Rattle.flatten.specs.steps.Labels.{label_of, group_of}
+use Rattle.circuit_model.specs.FullNames.{AreOneNode}
 use Rattle.flatten.proofs.LabelLaws.{bytes_eq-true, bytes_eq-same, bytes_eq-other, before_other, before_rest, rest_in_order, label_read}
 use Rattle.flatten.proofs.PlaceLaws.{place_of}
 

@@ -1,26 +1,18 @@
 -- One side after the other, in the order of nodes, those of one node joined.
-use Rattle.std.proofs.Common.{◌≡◌, ◌≢◌, ℕ, zero, suc, ◌+◌, ◌-◌, ◌<◌, ◌≤◌, ℤ, pos, negsuc, ◌+ℤ◌, ◌-ℤ◌, ◌≤ℤ◌, Bool, true, false, cond, eqb, List, []}
-use Rattle.std.proofs.Common.{◌∷◌, ◌++◌, length, map, take, get_or, inl, inr}
-use Rattle.std.proofs.Common.{refl, sym, ◌∙◌, ap, subst, arith, eq-eqb}
-use Rattle.std.specs.Prelude.{Some, slice_get, sum_by, IsPermutation}
-use Rattle.std.specs.Int.{w128}
-use Rattle.std.specs.Int.RustNames.{FitsSigned, unsigned_abs}
-use Rattle.std.proofs.Math.ListN.{set}
-use Rattle.std.proofs.lemmas.Bool.{cases_Bool, eqb-true, false≢true}
-use Rattle.std.proofs.lemmas.Int.{ints}
-use Rattle.std.proofs.lemmas.List.{map-append, length-take-le, get_or-take}
+use Rattle.flatten.proofs.Common.{◌≡◌, ◌≢◌, ℕ, zero, suc, ◌+◌, ◌-◌, ◌<◌, ◌≤◌, ℤ, pos, negsuc, ◌+ℤ◌, ◌-ℤ◌, ◌≤ℤ◌, Bool, true, false, cond, eqb, List}
+use Rattle.flatten.proofs.Common.{[], ◌∷◌, ◌++◌, length, map, take, get_or, inl, inr, refl, sym, ◌∙◌, ap, subst, arith, eq-eqb, Some, slice_get}
+use Rattle.flatten.proofs.Common.{sum_by, w128, FitsSigned, unsigned_abs, set, cases_Bool, eqb-true, ints, length-take-le, get_or-take, sum_by-cons}
+use Rattle.flatten.proofs.Common.{same_Some, get_or_from_slice_get, In, sum_on, In-map, In-map_source, In-push_cases, sum_on-push, In-slice_get}
+use Rattle.flatten.proofs.Common.{Side, length_at, AreByNode, AreAscending, AreJoined}
+use Rattle.std.specs.Prelude.{IsPermutation}
+use Rattle.std.proofs.lemmas.Bool.{false≢true}
+use Rattle.std.proofs.lemmas.List.{map-append}
 use Rattle.std.proofs.lemmas.List.Sorted.{IsPermutation-sym, IsPermutation-map}
-use Rattle.std.proofs.lemmas.List.Sums.{sum_by-cons}
-use Rattle.std.proofs.lemmas.Option.{same_Some, get_or_from_slice_get}
-use Rattle.finite_sets.specs.Lists.{In}
-use Rattle.finite_sets.specs.Total.{sum_on}
-use Rattle.finite_sets.proofs.Members.{In-map, In-map_source, In-append_left, In-push, In-push_cases, In-permutation}
-use Rattle.finite_sets.proofs.Sums.{sum_on-push, sum_on-nothing, sum_on-permutation}
-use Rattle.finite_sets.proofs.Places.{In-slice_get}
+use Rattle.finite_sets.proofs.Members.{In-append_left, In-push, In-permutation}
+use Rattle.finite_sets.proofs.Sums.{sum_on-nothing, sum_on-permutation}
 use Rattle.ext_model.specs.declared.limits.TheConstants.{LENGTHS_EDGE}
 use Rattle.flatten.proofs.PlaceLaws.{place_of}
-use Rattle.flatten.specs.declared.sides.Side.{Side}
-use Rattle.flatten.specs.steps.Sides.{FitsLast, with_side, length_at, AreByNode, AreAscending, AreJoined}
+use Rattle.flatten.specs.steps.Sides.{FitsLast, with_side}
 
 -- the side with the length of another
 abbrev pub lengthened : Side → Side → Side

@@ -1,21 +1,9 @@
 -- Labels of names in order.
-use Rattle.std.proofs.Common.{◌≡◌, ◌≢◌, ℕ, zero, suc, Bool, true, false, cond, List, [], ◌∷◌, length, inl, inr, sym, ◌∙◌, ap, subst, arith}
-use Rattle.std.specs.Prelude.{Some, slice_get, slice_index}
-use Rattle.std.specs.Str.{bytes_eq}
-use Rattle.std.specs.declared.cmp.Ordering.TheVariants.{Less}
-use Rattle.std.proofs.lemmas.Bool.{cases_Bool}
+use Rattle.flatten.proofs.Common.{◌≡◌, ◌≢◌, ℕ, zero, suc, Bool, true, false, cond, List, [], ◌∷◌, length, inl, inr, sym, ◌∙◌, ap, subst, arith, Some}
+use Rattle.flatten.proofs.Common.{slice_get, slice_index, bytes_eq, Less, cases_Bool, bytes_eq-Decides, same_Some, In, In-slice_get, name_cmp}
+use Rattle.flatten.proofs.Common.{name_cmp_total, Element, AreInNameOrder, IsFullNameList, label_of}
 use Rattle.std.proofs.lemmas.Cmp.{tied_itself}
-use Rattle.std.proofs.lemmas.Slice.Eq.{bytes_eq-Decides}
-use Rattle.std.proofs.lemmas.Option.{same_Some}
-use Rattle.finite_sets.specs.Lists.{In}
-use Rattle.finite_sets.proofs.Places.{In-slice_get}
-use Rattle.ext_model.specs.NameOrder.{name_cmp}
-use Rattle.ext_model.proofs.NameOrders.{name_cmp_total}
-use Rattle.circuit_model.specs.Elements.{Element}
-use Rattle.circuit_model.specs.FullNames.{AreInNameOrder}
-use Rattle.name_classes.specs.FullNames.NameLists.{IsFullNameList}
 use Rattle.name_classes.proofs.FullNames.ListOrders.{same_in_order, pairwise_names}
-use Rattle.flatten.specs.steps.Labels.{label_of}
 
 -- a name is itself
 pub bytes_eq-same : (name other : List ℕ) → name ≡ other → bytes_eq name other ≡ true

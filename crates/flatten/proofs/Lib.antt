@@ -1,6 +1,7 @@
 -- what crates above name of those below
 pub use Rattle.plain_records.proofs.FlatLimits as FlatLimits
 pub use Rattle.name_classes.proofs as NameClasses
+mod Common
 mod PlaceLaws
 mod LabelLaws
 mod GroupLaws

@@ -1,29 +1,11 @@
 -- Nodes with the names of groups.
-use Rattle.std.proofs.Common.{◌≡◌, ℕ, ◌<◌, false, eqb, List, [], length, map, get_or, inl, inr, refl, sym}
-use Rattle.std.proofs.Common.{◌∙◌, ap, subst, arith, eq-eqb}
-use Rattle.std.specs.Prelude.{Option, Some, None, slice_get, find}
-use Rattle.std.specs.Option.{option_map}
-use Rattle.std.specs.Str.{bytes_eq}
-use Rattle.std.specs.declared.cmp.Ordering.TheVariants.{Less}
-use Rattle.std.proofs.lemmas.Bool.{cases_Bool, cases_lt, eqb-true}
-use Rattle.std.proofs.lemmas.List.{length-map}
-use Rattle.std.proofs.lemmas.List.FromFn.{get_or-map-range_with_len, length-map-range_with_len}
-use Rattle.std.proofs.lemmas.Option.{slice_get_within, slice_get-map, get_or_from_slice_get}
-use Rattle.std.specs.Cmp.{both_ways}
-use Rattle.std.proofs.lemmas.Slice.Eq.{bytes_eq-Decides}
-use Rattle.finite_sets.specs.Lists.{In}
-use Rattle.finite_sets.proofs.Places.{slice_get-below}
+use Rattle.flatten.proofs.Common.{◌≡◌, ℕ, ◌<◌, false, eqb, List, [], length, map, get_or, inl, inr, refl, sym, ◌∙◌, ap, subst, arith, eq-eqb, Option}
+use Rattle.flatten.proofs.Common.{Some, None, slice_get, option_map, bytes_eq, Less, cases_Bool, cases_lt, eqb-true, length-map}
+use Rattle.flatten.proofs.Common.{get_or-map-range_with_len, length-map-range_with_len, slice_get_within, slice_get-map, get_or_from_slice_get}
+use Rattle.flatten.proofs.Common.{both_ways, bytes_eq-Decides, In, slice_get-below, NodeRec, name_cmp, names_of, name_cmp_total, Element}
+use Rattle.flatten.proofs.Common.{AreInNameOrder, has_name, node_name, AreLabels, label_of, group_of, AreNamed}
+use Rattle.std.specs.Prelude.{find}
 use Rattle.finite_sets.proofs.Searches.{find-at, list_any-of_In, In-from_list_any}
-use Rattle.ext_model.specs.declared.records.NodeRec.{NodeRec}
-use Rattle.ext_model.specs.NameOrder.{name_cmp}
-use Rattle.ext_model.specs.RecordNames.{names_of}
-use Rattle.ext_model.proofs.NameOrders.{name_cmp_total}
-use Rattle.circuit_model.specs.Elements.{Element}
-use Rattle.circuit_model.specs.FullNames.{AreInNameOrder}
-use Rattle.circuit_model.specs.FlatNodes.{has_name}
-use Rattle.circuit_model.specs.FlatFets.{node_name}
-use Rattle.name_classes.specs.Classes.{AreLabels}
-use Rattle.flatten.specs.steps.Labels.{label_of, group_of, AreNamed}
 use Rattle.flatten.proofs.LabelLaws.{before_rest, before_other}
 use Rattle.flatten.proofs.GroupLaws.{in_group, from_group, group_in_order, label_below, before_group}
 

@@ -1,12 +1,10 @@
 -- Sides in the order of nodes, and sums in any order.
-use Rattle.std.proofs.Common.{ℕ, ◌≤◌, false, List, get_or, inl, inr}
+use Rattle.flatten.proofs.Common.{ℕ, ◌≤◌, false, List, get_or, inl, inr, Side, AreByNode}
 use Rattle.std.specs.List.Sorted.{IsSortedByKey}
 use Rattle.std.specs.Ordering.{nat_cmp}
 use Rattle.std.proofs.lemmas.Cmp.{nat_cmp_total}
 use Rattle.std.proofs.lemmas.Map.Keys.{ge_from_not_lt}
 use Rattle.finite_sets.proofs.Orders.{IsSortedByKey-pairs}
-use Rattle.flatten.specs.declared.sides.Side.{Side}
-use Rattle.flatten.specs.steps.Sides.{AreByNode}
 
 -- sides that a sort by nodes has put in order
 pub sorted_by_node : (sides : List Side) → IsSortedByKey (λ side. side.node) nat_cmp sides → AreByNode sides

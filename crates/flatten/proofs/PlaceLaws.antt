@@ -1,16 +1,10 @@
 -- What stands at places of lists: after one more at the end, and after a write.
-use Rattle.std.proofs.Common.{◌≡◌, ◌≢◌, ℕ, zero, suc, ◌+◌, ◌<◌, List, [], ◌∷◌, ◌++◌, length, map, get_or, take, refl, sym, ◌∙◌, ap, subst, arith, inl}
-use Rattle.std.proofs.Common.{inr, ◌⊎◌, length-append}
-use Rattle.std.specs.Prelude.{Some, slice_get}
-use Rattle.std.specs.Option.{option_map}
+use Rattle.flatten.proofs.Common.{◌≡◌, ◌≢◌, ℕ, zero, suc, ◌+◌, ◌<◌, List, [], ◌∷◌, ◌++◌, length, map, get_or, take, refl, sym, ◌∙◌, ap, subst, arith}
+use Rattle.flatten.proofs.Common.{inl, inr, ◌⊎◌, length-append, Some, slice_get, option_map, set, take_more, map_more, length-map, append-nil}
+use Rattle.flatten.proofs.Common.{take_all, cases_eq, slice_get-get_or, slice_get_read, slice_get_within, slice_get-map, same_Some, In, In-get_or}
 use Rattle.std.specs.List.{refill}
-use Rattle.std.proofs.Math.ListN.{set}
-use Rattle.std.proofs.lemmas.List.{take_more, map_more, length-map, append-nil, take_all, drop_all}
-use Rattle.std.proofs.lemmas.Bool.{cases_eq}
-use Rattle.std.proofs.lemmas.Option.{slice_get-get_or, slice_get_read, slice_get_within, slice_get-map, same_Some}
+use Rattle.std.proofs.lemmas.List.{drop_all}
 use Rattle.name_classes.proofs.ListLaws.{slice_get-push_both}
-use Rattle.finite_sets.specs.Lists.{In}
-use Rattle.finite_sets.proofs.Members.{In-get_or}
 use Rattle.finite_sets.proofs.Places.{slice_get-In}
 use Rattle.flatten.specs.steps.Spots.{AreAlong}
 

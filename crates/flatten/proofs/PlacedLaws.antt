@@ -1,32 +1,16 @@
 -- Where nodes lie.
-use Rattle.std.proofs.Common.{◌≡◌, ℕ, ◌<◌, List, [], ◌∷◌, ◌++◌, length, get_or, inl, inr, sym, ◌∙◌, ap, subst, arith, ℤ}
+use Rattle.flatten.proofs.Common.{◌≡◌, ℕ, ◌<◌, List, [], ◌∷◌, ◌++◌, length, get_or, inl, inr, sym, ◌∙◌, ap, subst, arith, ℤ, Some, slice_get, w32}
+use Rattle.flatten.proofs.Common.{FitsSigned, set, ints, slice_get_within, get_or_from_slice_get, In-push_cases, In-slice_get, slice_get-below}
+use Rattle.flatten.proofs.Common.{All-In, NodeRec, CellExt, IsLawfulNode, Element, IsPlaced, TreeElement, ElementTree, FullNames, AreNames}
+use Rattle.flatten.proofs.Common.{elements_in, element_at, HasText, HasAlias, ArePlaced}
 use Rattle.geo_core.specs.Reach.{LiesInReach}
-use Rattle.std.specs.Prelude.{Some, slice_get}
-use Rattle.std.specs.Int.{w32}
-use Rattle.std.specs.Int.RustNames.{FitsSigned}
-use Rattle.std.proofs.Math.ListN.{set}
-use Rattle.std.proofs.lemmas.Int.{ints}
-use Rattle.std.proofs.lemmas.Option.{slice_get_within, get_or_from_slice_get}
 use Rattle.flatten.proofs.NameClasses.TreeLaws.{tree_of_names}
-use Rattle.finite_sets.proofs.Members.{In-push_cases}
-use Rattle.finite_sets.proofs.Places.{In-slice_get, slice_get-below}
-use Rattle.finite_sets.proofs.Searches.{All-In}
-use Rattle.ext_model.specs.declared.records.NodeRec.{NodeRec}
-use Rattle.ext_model.specs.declared.records.CellExt.{CellExt}
-use Rattle.ext_model.specs.Lawful.{IsLawfulNode}
-use Rattle.circuit_model.specs.Elements.{Element}
-use Rattle.circuit_model.specs.FlatNodes.{IsPlaced}
-use Rattle.element_tree.specs.declared.tree.TreeElement.{TreeElement}
-use Rattle.element_tree.specs.declared.tree.ElementTree.{ElementTree}
-use Rattle.name_classes.specs.FullNames.declared.names.FullNames.{FullNames}
 use Rattle.name_classes.specs.FullNames.declared.names.Origin.{Origin}
-use Rattle.name_classes.specs.FullNames.Names.{AreNames, ComesFrom, GivesText, elements_in}
+use Rattle.name_classes.specs.FullNames.Names.{ComesFrom, GivesText}
 use Rattle.flatten.proofs.FlatLimits.TreeLaws.{no_flat}
-use Rattle.flatten.specs.steps.Spots.{element_at}
 use Rattle.flatten.proofs.LabelLaws.{one_list}
 use Rattle.flatten.proofs.PlaceLaws.{place_of, place_set_cases}
 use Rattle.flatten.proofs.SpotLaws.{IsRead, element_read}
-use Rattle.flatten.specs.steps.Named.{HasText, HasAlias, ArePlaced}
 
 -- the text of a number is its full name
 pub has_text : (names : FullNames) → AreNames names → (number : ℕ) → number < names.count → (old text : List ℕ) → old ≡ [] → GivesText names number old text

@@ -1,20 +1,12 @@
 -- One name after the other, in order, with its label: the nodes that they make.
-use Rattle.std.proofs.Common.{◌≡◌, ◌≢◌, ℕ, suc, ◌+◌, ◌<◌, ◌≤◌, Bool, true, false, cond, eqb, List, [], ◌∷◌, ◌++◌, length, map, take, get_or, inl, inr}
-use Rattle.std.proofs.Common.{refl, sym}
-use Rattle.std.proofs.Common.{◌∙◌, ap, arith, eq-eqb, length-append}
-use Rattle.std.specs.Prelude.{Some, slice_get, slice_index}
-use Rattle.std.specs.Option.{option_map}
-use Rattle.std.proofs.Math.ListN.{set, length-set}
-use Rattle.std.proofs.lemmas.Bool.{cases_Bool, cases_eq, cases_lt, eqb-true}
-use Rattle.std.proofs.lemmas.List.{length-map, take_more, append-nil, length-take-le, take_all, get_or-take}
-use Rattle.std.proofs.lemmas.List.FromFn.{get_or-map-range_with_len, length-map-range_with_len}
-use Rattle.std.proofs.lemmas.Option.{slice_get_within, slice_get-map, get_or_from_slice_get, same_Some}
-use Rattle.finite_sets.proofs.Places.{same_by_places, slice_get-below, slice_get-push_cases}
-use Rattle.ext_model.specs.declared.records.NodeRec.{NodeRec}
-use Rattle.ext_model.specs.RecordNames.{names_of}
-use Rattle.circuit_model.specs.Elements.{Element}
+use Rattle.flatten.proofs.Common.{◌≡◌, ◌≢◌, ℕ, suc, ◌+◌, ◌<◌, ◌≤◌, Bool, true, false, cond, eqb, List, [], ◌∷◌, ◌++◌, length, map, take, get_or, inl}
+use Rattle.flatten.proofs.Common.{inr, refl, sym, ◌∙◌, ap, arith, eq-eqb, length-append, Some, slice_get, slice_index, option_map, set, length-set}
+use Rattle.flatten.proofs.Common.{cases_Bool, cases_eq, cases_lt, eqb-true, length-map, take_more, append-nil, length-take-le, take_all, get_or-take}
+use Rattle.flatten.proofs.Common.{get_or-map-range_with_len, length-map-range_with_len, slice_get_within, slice_get-map, get_or_from_slice_get}
+use Rattle.flatten.proofs.Common.{same_Some, slice_get-below, slice_get-push_cases, NodeRec, names_of, Element, group_of, AreNamed}
+use Rattle.finite_sets.proofs.Places.{same_by_places}
 use Rattle.flatten.specs.NameClasses.Classes.{AreLabels}
-use Rattle.flatten.specs.steps.Labels.{group_of, groups_of, AreNamed}
+use Rattle.flatten.specs.steps.Labels.{groups_of}
 use Rattle.flatten.proofs.PlaceLaws.{place_set, place_set_other}
 
 -- The nodes have so many of the names, each those of its label.

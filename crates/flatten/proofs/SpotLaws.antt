@@ -1,33 +1,15 @@
 -- The names that a record has of its nodes and beside its transistors.
-use Rattle.std.proofs.Common.{◌≡◌, ℕ, ◌<◌, List, [], ◌∷◌, length, map, get_or, refl, sym, ◌∙◌, ap, subst, arith, inl, inr, ℤ, to_z, of_z}
-use Rattle.std.specs.Prelude.{Some, All, slice_get}
-use Rattle.std.specs.List.{flat_map}
-use Rattle.std.specs.Option.{option_map}
-use Rattle.std.specs.Int.{w32, w64}
-use Rattle.std.specs.Int.RustNames.{FitsSigned}
-use Rattle.std.proofs.lemmas.Int.{ints, to_z-of_z}
-use Rattle.std.proofs.lemmas.Option.{slice_get-get_or, slice_get_within, slice_get-map, get_or_from_slice_get, same_Some}
-use Rattle.name_classes.proofs.TreeLaws.{tree_of_names}
-use Rattle.finite_sets.specs.Lists.{In}
-use Rattle.finite_sets.proofs.Members.{In-append_left, In-append_right, In-map, In-map_source}
-use Rattle.finite_sets.proofs.Searches.{All-from_In, All-In}
-use Rattle.finite_sets.proofs.Places.{In-slice_get}
-use Rattle.ext_model.specs.declared.records.NodeRec.{NodeRec}
-use Rattle.ext_model.specs.declared.records.TermRec.{TermRec}
-use Rattle.ext_model.specs.declared.records.CellExt.{CellExt}
-use Rattle.ext_model.specs.Lawful.{IsLawful, IsLawfulFet, IsLawfulTerm}
-use Rattle.ext_model.specs.RecordNames.{names_of, node_names}
-use Rattle.name_classes.specs.FullNames.declared.names.FullNames.{FullNames}
-use Rattle.name_classes.specs.FullNames.declared.names.Spot.{Spot}
-use Rattle.name_classes.specs.FullNames.Names.{AreNames, IsElement, IsSpotOf, HasSpot, GivesName, elements_in}
-use Rattle.element_tree.specs.declared.tree.TreeElement.{TreeElement}
-use Rattle.element_tree.specs.declared.tree.ElementTree.{ElementTree}
+use Rattle.flatten.proofs.Common.{◌≡◌, ℕ, ◌<◌, List, [], ◌∷◌, length, map, get_or, refl, sym, ◌∙◌, ap, subst, arith, inl, inr, ℤ, to_z, of_z, Some}
+use Rattle.flatten.proofs.Common.{All, slice_get, flat_map, option_map, w32, w64, FitsSigned, ints, to_z-of_z, slice_get-get_or, slice_get_within}
+use Rattle.flatten.proofs.Common.{slice_get-map, get_or_from_slice_get, same_Some, tree_of_names, In, In-map, In-map_source, All-from_In, All-In}
+use Rattle.flatten.proofs.Common.{In-slice_get, NodeRec, TermRec, CellExt, IsLawfulFet, names_of, node_names, FullNames, Spot, AreNames, IsElement}
+use Rattle.flatten.proofs.Common.{IsSpotOf, elements_in, TreeElement, ElementTree, IsFullNameList, no_flat, name_in, HasNames, AreSpotsIn}
+use Rattle.flatten.proofs.Common.{element_at, cell_at, no_element, CellSpots}
+use Rattle.finite_sets.proofs.Members.{In-append_left, In-append_right}
+use Rattle.ext_model.specs.Lawful.{IsLawful, IsLawfulTerm}
+use Rattle.name_classes.specs.FullNames.Names.{HasSpot, GivesName}
 use Rattle.element_tree.specs.Trees.{StandsFor, AreAt}
-use Rattle.name_classes.specs.FullNames.NameLists.{IsFullNameList}
-use Rattle.plain_records.proofs.FlatLimits.TreeLaws.{no_flat}
-use Rattle.circuit_model.specs.FullNames.{name_in}
-use Rattle.flatten.specs.steps.Spots.{IsCellOf, HasNames, HasFetNames, HasSpotAt, AreSpotsIn, AreCellSpots, element_at, cell_at, no_element}
-use Rattle.flatten.specs.declared.spots.CellSpots.{CellSpots}
+use Rattle.flatten.specs.steps.Spots.{IsCellOf, HasFetNames, HasSpotAt, AreCellSpots}
 
 -- a node's names stand among those of its record
 pub name_among : (nodes : List NodeRec) (node : NodeRec) (name : List ℕ) → In node nodes → In name (names_of node) → In name (flat_map names_of nodes)

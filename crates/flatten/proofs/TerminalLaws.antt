@@ -1,40 +1,18 @@
 -- Terminals by the names of their nodes.
-use Rattle.std.proofs.Common.{◌≡◌, ℕ, ◌<◌, pos, Bool, cond, eqb, List, [], ◌∷◌, length, map, get_or, inl, inr, refl, sym, ◌∙◌, ap, subst, arith}
-use Rattle.std.proofs.Common.{eq-eqb}
-use Rattle.std.specs.Prelude.{Some, All, slice_get}
-use Rattle.finite_sets.proofs.Searches.{All-from_In}
-use Rattle.std.specs.Option.{option_map}
-use Rattle.std.specs.Str.{bytes_eq}
-use Rattle.std.specs.declared.cmp.Ordering.TheVariants.{Less}
-use Rattle.std.proofs.lemmas.Bool.{eqb-true}
-use Rattle.std.proofs.lemmas.Option.{slice_get-map, slice_get-get_or, get_or_from_slice_get}
-use Rattle.std.specs.Cmp.{both_ways}
-use Rattle.finite_sets.specs.Lists.{In}
-use Rattle.finite_sets.specs.Total.{sum_on}
-use Rattle.finite_sets.proofs.Members.{In-map, In-map_source}
-use Rattle.finite_sets.proofs.Sums.{sum_on-map, sum_on-same}
-use Rattle.finite_sets.proofs.Places.{slice_get-below}
-use Rattle.ext_model.specs.declared.records.NodeRec.{NodeRec}
-use Rattle.ext_model.specs.declared.records.TermRec.{TermRec}
-use Rattle.ext_model.specs.NameOrder.{name_cmp}
-use Rattle.circuit_model.specs.Elements.{Element}
-use Rattle.circuit_model.specs.FullNames.{name_in, AreInNameOrder}
-use Rattle.circuit_model.specs.FlatFets.{node_name, side_name}
+use Rattle.flatten.proofs.Common.{◌≡◌, ℕ, ◌<◌, pos, Bool, cond, eqb, List, [], ◌∷◌, length, map, get_or, inl, inr, refl, sym, ◌∙◌, ap, subst, arith}
+use Rattle.flatten.proofs.Common.{eq-eqb, Some, All, slice_get, All-from_In, option_map, bytes_eq, Less, eqb-true, slice_get-map, slice_get-get_or}
+use Rattle.flatten.proofs.Common.{get_or_from_slice_get, both_ways, In, sum_on, In-map, In-map_source, sum_on-map, sum_on-same, slice_get-below}
+use Rattle.flatten.proofs.Common.{NodeRec, TermRec, name_cmp, Element, name_in, AreInNameOrder, node_name, label_of, AreNamed, AreSpotsOf}
+use Rattle.flatten.proofs.Common.{AreNamedOf, element_at, cell_at, FullNames, Spot, Local, IsFullNameList, AreNames, IsSpotOf, elements_in, Side}
+use Rattle.flatten.proofs.Common.{side_of, length_at, AreAscending, AreJoined, name_of_node, named_side, AreFlatTerminals}
+use Rattle.circuit_model.specs.FlatFets.{side_name}
 use Rattle.flatten.specs.NameClasses.Classes.{AreLabels}
-use Rattle.flatten.specs.steps.Labels.{label_of, AreNamed}
 use Rattle.flatten.proofs.GroupLaws.{label_below}
 use Rattle.flatten.proofs.LabelLaws.{bytes_eq-same, bytes_eq-true}
 use Rattle.flatten.proofs.NodeLaws.{node_found, before_node, one_number}
 use Rattle.flatten.proofs.PlaceLaws.{place_of, AreAlong-at}
 use Rattle.flatten.proofs.SpotLaws.{spot_named}
-use Rattle.flatten.specs.steps.Spots.{AreSpotsOf, AreLabelsOf, AreNamedOf, element_at, cell_at}
-use Rattle.name_classes.specs.FullNames.declared.names.FullNames.{FullNames}
-use Rattle.name_classes.specs.FullNames.declared.names.Spot.{Spot}
-use Rattle.name_classes.specs.FullNames.declared.names.Spot.TheVariants.{Local}
-use Rattle.name_classes.specs.FullNames.NameLists.{IsFullNameList}
-use Rattle.name_classes.specs.FullNames.Names.{AreNames, IsSpotOf, elements_in}
-use Rattle.flatten.specs.declared.sides.Side.{Side}
-use Rattle.flatten.specs.steps.Sides.{side_of, length_at, AreAscending, AreJoined, name_of_node, named_side, AreFlatTerminals}
+use Rattle.flatten.specs.steps.Spots.{AreLabelsOf}
 
 -- the name of a node that stands at a number
 pub name_at_node : (nodes : List NodeRec) (number : ℕ) (node : NodeRec) → slice_get nodes number ≡ Some node → name_of_node nodes number ≡ node.name

@@ -1,37 +1,18 @@
 -- What all elements add: few enough lawful amounts, whose sums are those of the flat nodes.
-use Rattle.std.proofs.Common.{◌≡◌, ℕ, ◌+◌, ◌<◌, ◌≤◌, ℤ, pos, ◌+ℤ◌, Bool, cond, eqb, List, [], ◌∷◌, ◌++◌, length, take, get_or, refl, sym, ◌∙◌, ap}
-use Rattle.std.proofs.Common.{subst, arith, inl, inr}
-use Rattle.std.proofs.Common.{length-append}
-use Rattle.std.specs.List.{flat_map}
-use Rattle.std.proofs.lemmas.Grind.{flat_map-append}
-use Rattle.std.proofs.lemmas.List.Elements.{All-take}
-use Rattle.std.proofs.lemmas.Option.{get_or_from_slice_get}
-use Rattle.std.proofs.lemmas.List.{take_more, length-map, append-nil}
-use Rattle.std.proofs.lemmas.List.Sums.{sum_by-cons, sum_by_more_le}
-use Rattle.finite_sets.specs.Lists.{In}
-use Rattle.finite_sets.specs.Total.{sum_on}
-use Rattle.finite_sets.proofs.Members.{In-append_cases, In-map_source, In-get_or}
-use Rattle.finite_sets.proofs.Searches.{All-from_In, All-In}
-use Rattle.finite_sets.proofs.Sums.{sum_on-append, sum_on-map, sum_on-same}
-use Rattle.ext_model.specs.declared.records.NodeRec.{NodeRec}
-use Rattle.ext_model.specs.declared.records.MergeRec.{MergeRec}
-use Rattle.ext_model.specs.Lawful.{IsLawful, IsLawfulNode, IsLawfulMerge}
-use Rattle.circuit_model.specs.Elements.{Element}
-use Rattle.circuit_model.specs.FullNames.{name_in}
-use Rattle.circuit_model.specs.FlatNodes.{has_name, share_of, sum_of}
-use Rattle.circuit_model.specs.Refusals.{node_count, merge_count}
-use Rattle.circuit_model.specs.declared.limits.TheConstants.{MOST_NODES, MOST_MERGES}
-use Rattle.name_classes.specs.FullNames.declared.names.FullNames.{FullNames}
-use Rattle.name_classes.specs.FullNames.Names.{AreNames, elements_in}
+use Rattle.flatten.proofs.Common.{◌≡◌, ℕ, ◌+◌, ◌<◌, ◌≤◌, ℤ, pos, ◌+ℤ◌, Bool, cond, eqb, List, [], ◌∷◌, ◌++◌, length, take, get_or, refl, sym, ◌∙◌}
+use Rattle.flatten.proofs.Common.{ap, subst, arith, inl, inr, length-append, flat_map, flat_map-append, All-take, get_or_from_slice_get, take_more}
+use Rattle.flatten.proofs.Common.{length-map, append-nil, sum_by-cons, sum_by_more_le, In, sum_on, In-append_cases, In-map_source, In-get_or}
+use Rattle.flatten.proofs.Common.{All-from_In, All-In, sum_on-map, sum_on-same, NodeRec, MergeRec, IsLawfulNode, Element, name_in, has_name}
+use Rattle.flatten.proofs.Common.{node_count, merge_count, MOST_NODES, MOST_MERGES, FullNames, AreNames, elements_in, label_of, element_at}
+use Rattle.flatten.proofs.Common.{no_element, NodeSum, Quantity, Addend, amount, counts_for, IsLawfulAmount, AreLawfulAmounts, node_addend}
+use Rattle.flatten.proofs.Common.{node_addends, merge_addend, merge_addends, addends_in, HaveSums}
+use Rattle.finite_sets.proofs.Sums.{sum_on-append}
+use Rattle.ext_model.specs.Lawful.{IsLawful, IsLawfulMerge}
+use Rattle.circuit_model.specs.FlatNodes.{share_of, sum_of}
 use Rattle.flatten.proofs.FlatLimits.TreeLaws.{no_flat}
-use Rattle.flatten.specs.steps.Labels.{label_of}
-use Rattle.flatten.specs.steps.Spots.{element_at, no_element}
 use Rattle.flatten.proofs.PlaceLaws.{place_of}
 use Rattle.flatten.proofs.SpotLaws.{flat_here, lawful_cell}
-use Rattle.flatten.specs.declared.sums.NodeSum.{NodeSum}
-use Rattle.flatten.specs.steps.Sums.{Quantity, Addend, amount, counts_for, IsLawfulAmount, AreLawfulAmounts, node_addend, node_addends, merge_addend}
-use Rattle.flatten.specs.steps.Sums.{merge_addends, addends_in}
-use Rattle.flatten.specs.steps.Sums.{HaveSums, HaveRoomFor, HaveRoomForNodes, HaveRoomForMerges}
+use Rattle.flatten.specs.steps.Sums.{HaveRoomFor, HaveRoomForNodes, HaveRoomForMerges}
 
 -- what one more element adds
 pub addends_more : (list : List (List ℕ)) (labels : List ℕ) (elements : List Element) (n : ℕ) (d : Element) → n < length elements

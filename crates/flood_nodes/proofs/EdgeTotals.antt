@@ -1,23 +1,13 @@
 -- How many edges lead from some tiles to some tiles.
-use Rattle.std.proofs.Common.{◌≡◌, ◌≢◌, ℕ, ◌<◌, ℤ, pos, ◌+ℤ◌, ◌*ℤ◌, Bool, true, false, cond, eqb, ◌&&◌, List, [], ◌∷◌, length, inl, inr, sym, ◌∙◌, ap}
-use Rattle.std.proofs.Common.{subst, arith}
-use Rattle.std.proofs.lemmas.Bool.{and_from, and_parts}
-use Rattle.std.proofs.lemmas.Int.{ints}
-use Rattle.std.proofs.lemmas.Option.{slice_get_within}
-use Rattle.geo_core.specs.FiniteSets.Lists.{In, Distinct, Lists}
-use Rattle.geo_core.specs.FiniteSets.Total.{sum_on, Total, one_if}
+use Rattle.flood_nodes.proofs.Common.{◌≡◌, ◌≢◌, ℕ, ◌<◌, ℤ, pos, ◌+ℤ◌, ◌*ℤ◌, Bool, true, false, cond, eqb, ◌&&◌, List, [], ◌∷◌, length, inl, inr, sym}
+use Rattle.flood_nodes.proofs.Common.{◌∙◌, ap, subst, arith, and_parts, ints, slice_get_within, In, Distinct, Lists, sum_on, Total, one_if}
+use Rattle.flood_nodes.proofs.Common.{Total-iff, Total-at, Contact, Place, Layout, InFamily, Total-family, Total-gated, RegionTile, LeadsAcross}
+use Rattle.flood_nodes.proofs.Common.{LiesIn, AreLayoutTiles, tile_at, indices_of, shared_by, inner_edges, IsTileContact}
+use Rattle.std.proofs.lemmas.Bool.{and_from}
 use Rattle.geo_core.specs.FiniteSets.Range.{pairs_of}
 use Rattle.geo_core.proofs.FiniteSets.Ranges.{Lists-pairs_of}
 use Rattle.geo_core.proofs.FiniteSets.Sums.{sum_on-same, sum_on-add, sum_on-nothing}
-use Rattle.geo_core.proofs.FiniteSets.Totals.{Total-iff, Total-at}
-use Rattle.rect_contacts.specs.declared.contacts.Contact.{Contact}
-use Rattle.layout_model.specs.Places.{Place}
-use Rattle.layout_model.specs.Layouts.{Layout}
-use Rattle.layout_model.proofs.Families.{InFamily, Total-family, Total-gated}
-use Rattle.layout_model.specs.declared.region_tiles.RegionTile.{RegionTile}
-use Rattle.layout_model.specs.EdgeCounts.{LeadsAcross}
-use Rattle.layout_model.specs.RegionTiles.{LiesIn, AreLayoutTiles}
-use Rattle.flood_nodes.specs.TileShares.{tile_at, indices_of, shared_by, inner_edges, IsTileContact, IsInTiles, edges_by_contacts, ContactsCountEdges}
+use Rattle.flood_nodes.specs.TileShares.{IsInTiles, edges_by_contacts, ContactsCountEdges}
 use Rattle.flood_nodes.proofs.ShareLaws.{one_plane, two_planes}
 use Rattle.rect_contacts.proofs.BothWays.{sum_on-nested}
 use Rattle.flood_nodes.proofs.ShareLaws.{Lists-indices_of, contacts_both_ways}

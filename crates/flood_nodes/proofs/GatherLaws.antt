@@ -1,32 +1,17 @@
 -- Tiles gathered plane by plane are the tiles of the layout, and their contacts those of all tiles.
-use Rattle.std.proofs.Common.{◌≡◌, ◌≢◌, inl, inr, ℕ, ◌+◌, ◌-◌, ◌<◌, ◌≤◌, Bool, true, false, cond, List, [], ◌++◌, map, length, get_or, Option, Some}
-use Rattle.std.proofs.Common.{None, IsTrue, refl, sym, ◌∙◌, ap, subst, arith}
-use Rattle.std.specs.Prelude.{slice_get, nat_lt, All, AllPairs}
-use Rattle.std.proofs.lemmas.Bool.{cases_eq, cases_lt}
-use Rattle.std.proofs.lemmas.Bool.Decides.{nat_tests}
-use Rattle.std.proofs.lemmas.Int.{ints}
-use Rattle.std.proofs.lemmas.List.{length-append, length-map, get_or-map, get_or_append_left, get_or-append-add}
+use Rattle.flood_nodes.proofs.Common.{◌≡◌, ◌≢◌, inl, inr, ℕ, ◌+◌, ◌-◌, ◌<◌, ◌≤◌, Bool, true, false, cond, List, [], ◌++◌, map, length, get_or}
+use Rattle.flood_nodes.proofs.Common.{Option, Some, None, IsTrue, refl, sym, ◌∙◌, ap, subst, arith, slice_get, nat_lt, All, AllPairs, cases_eq}
+use Rattle.flood_nodes.proofs.Common.{cases_lt, nat_tests, ints, length-map, get_or-map, slice_get_within, slice_get-get_or, get_or_from_slice_get}
+use Rattle.flood_nodes.proofs.Common.{Rect, IsNear, Covers, IsProper, is_covered, Covers-is_covered, is_covered-Covers, In, In-get_or, In-index}
+use Rattle.flood_nodes.proofs.Common.{In-map_source, RawTech, TypeId, IsWellFormed, is_type, plane_of, Place, Layout, IsMaterial, seen_in, LiesIn}
+use Rattle.flood_nodes.proofs.Common.{LieApart, AreLayoutTiles, RegionTile, AreTyped}
+use Rattle.std.proofs.lemmas.List.{length-append, get_or_append_left, get_or-append-add}
 use Rattle.std.proofs.lemmas.List.Elements.{All-append, All-nil}
-use Rattle.std.proofs.lemmas.Option.{slice_get_within, slice_get-get_or, get_or_from_slice_get}
-use Rattle.geo_core.specs.declared.squares.Rect.{Rect}
-use Rattle.geo_core.specs.Areas.{IsNear, corner_of}
-use Rattle.geo_core.specs.Covering.{Covers, IsProper, is_covered}
-use Rattle.geo_core.proofs.CoveringLaws.{Covers-is_covered, is_covered-Covers}
-use Rattle.geo_core.specs.FiniteSets.Lists.{In}
-use Rattle.geo_core.proofs.FiniteSets.Members.{In-get_or, In-index, In-map_source}
+use Rattle.geo_core.specs.Areas.{corner_of}
 use Rattle.geo_core.proofs.FiniteSets.Searches.{All-from_In}
-use Rattle.tech_model.specs.declared.raw.RawTech.{RawTech}
-use Rattle.tech_model.specs.declared.raw.TypeId.{TypeId}
-use Rattle.tech_model.specs.WellFormed.{IsWellFormed}
-use Rattle.tech_model.specs.Types.{is_type, plane_of}
 use Rattle.tech_model.specs.LayerTiles.{IsTileOf, AreTilesOf}
-use Rattle.layout_model.specs.Places.{Place}
-use Rattle.layout_model.specs.Layouts.{Layout, IsMaterial}
-use Rattle.layout_model.specs.LayerTypes.{Kinds, AreTypesOf, or_space, seen_in}
-use Rattle.layout_model.specs.RegionTiles.{LiesIn, LieApart, AreLayoutTiles}
-use Rattle.layout_model.specs.declared.region_tiles.RegionTile.{RegionTile}
+use Rattle.layout_model.specs.LayerTypes.{Kinds, AreTypesOf, or_space}
 use Rattle.flood_nodes.specs.steps.Gathered.{tile_on, before_plane}
-use Rattle.flood_nodes.specs.Stacking.{AreTyped}
 
 -- a list and then another, by places
 module _ {X : Type 0} (xs ys : List X) where

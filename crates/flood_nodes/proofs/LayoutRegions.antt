@@ -1,24 +1,17 @@
 -- Tiles joined by contacts and by what lies upon each other are joined by links between their places, and the other way round.
-use Rattle.std.proofs.Common.{◌≡◌, ◌≢◌, ◌⊎◌, ℕ, ℤ, pos, ◌<ℤ◌, Bool, List, IsTrue, length, get_or, Some, inl, inr, refl, sym, ◌∙◌, ap, subst, arith}
-use Rattle.std.specs.Prelude.{slice_get, All}
-use Rattle.std.proofs.lemmas.Bool.{cases_eq}
-use Rattle.std.proofs.lemmas.Option.{slice_get_within, get_or_from_slice_get, same_Some}
-use Rattle.geo_core.specs.declared.squares.Square.{Square}
-use Rattle.geo_core.specs.Covering.{Covers, IsProper}
-use Rattle.rect_contacts.proofs.Shared.{shared_length-comm}
+use Rattle.flood_nodes.proofs.Common.{◌≡◌, ◌≢◌, ◌⊎◌, ℕ, ℤ, pos, ◌<ℤ◌, Bool, List, IsTrue, length, get_or, Some, inl, inr, refl, sym, ◌∙◌, ap, subst}
+use Rattle.flood_nodes.proofs.Common.{arith, slice_get, All, cases_eq, slice_get_within, get_or_from_slice_get, same_Some, Square, Covers, IsProper}
+use Rattle.flood_nodes.proofs.Common.{shared_length-comm, Divides, Place, AreNeighbours, Layout, IsMaterial, RegionTile, LiesIn, AreLayoutTiles}
+use Rattle.flood_nodes.proofs.Common.{AreLinkedTiles, JoinTiles, NumbersNodes}
 use Rattle.geo_core.specs.FiniteSets.Chain.{EitherWay}
 use Rattle.geo_core.specs.FiniteSets.Chain.Chain.{stay, go}
 use Rattle.geo_core.proofs.FiniteSets.Chains.{Chain-one, Chain-append, Chain-map, Chain-same}
-use Rattle.partition.specs.Divides.{IsJoined, Divides}
-use Rattle.layout_model.specs.Places.{Place, AreNeighbours, AreStacked}
-use Rattle.layout_model.specs.Layouts.{Layout, IsMaterial}
+use Rattle.partition.specs.Divides.{IsJoined}
+use Rattle.layout_model.specs.Places.{AreStacked}
 use Rattle.layout_model.specs.Links.{AreLinked, AreOneNode}
 use Rattle.layout_model.specs.Laws.{ConnectsBothWays}
 use Rattle.rect_contacts.proofs.Abutting.{shared_abut, neighbours_share}
 use Rattle.flood_nodes.proofs.Walks.{walk}
-use Rattle.layout_model.specs.declared.region_tiles.RegionTile.{RegionTile}
-use Rattle.layout_model.specs.RegionTiles.{LiesIn, AreLayoutTiles}
-use Rattle.flood_nodes.specs.steps.LinkedTiles.{AreLinkedTiles, JoinTiles, NumbersNodes}
 use Rattle.flood_nodes.proofs.TileEdges.{disjoint_at, lies_in_one, place_on, place_is}
 
 module _ (connects : ℕ → ℕ → Bool) (layout : Layout) (tiles : List RegionTile) (are : AreLayoutTiles layout tiles)

@@ -1,5 +1,6 @@
 -- what crates above name of those below
 pub use Rattle.rect_contacts.proofs as RectContacts
+mod Common
 pub mod Walks
 pub mod ShareLaws
 pub mod TileEdges

@@ -1,36 +1,22 @@
 -- The pairs of tiles that are found hold all that are linked.
-use Rattle.std.proofs.Common.{◌≡◌, ◌≢◌, ◌⊎◌, inl, inr, ℕ, ◌+◌, ◌<◌, ℤ, pos, ◌<ℤ◌, Bool, true, false, cond, eqb, ◌&&◌, List, [], ◌∷◌, ◌++◌, filter, length}
-use Rattle.std.proofs.Common.{get_or, Some, IsTrue, sym, ◌∙◌, ap, subst, arith}
-use Rattle.std.specs.Prelude.{slice_get, slice_index, All, AllPairs}
-use Rattle.std.proofs.lemmas.Bool.{cases_eq, cases_lt, false≢true, and_parts}
-use Rattle.std.proofs.lemmas.Int.{ints}
-use Rattle.std.proofs.lemmas.List.{get_or-map, length-map}
-use Rattle.std.proofs.lemmas.Option.{slice_get_within, slice_get-get_or, get_or_from_slice_get}
-use Rattle.geo_core.specs.declared.squares.Rect.{Rect}
-use Rattle.geo_core.specs.declared.squares.Square.{Square}
-use Rattle.geo_core.specs.Areas.{AreDisjoint, IsNear}
-use Rattle.geo_core.specs.Covering.{Covers, IsProper}
+use Rattle.flood_nodes.proofs.Common.{◌≡◌, ◌≢◌, ◌⊎◌, inl, inr, ℕ, ◌+◌, ◌<◌, ℤ, pos, ◌<ℤ◌, Bool, true, false, cond, eqb, ◌&&◌, List, [], ◌∷◌, ◌++◌}
+use Rattle.flood_nodes.proofs.Common.{filter, length, get_or, Some, IsTrue, sym, ◌∙◌, ap, subst, arith, slice_get, slice_index, All, AllPairs}
+use Rattle.flood_nodes.proofs.Common.{cases_eq, cases_lt, false≢true, and_parts, ints, get_or-map, length-map, slice_get_within, slice_get-get_or}
+use Rattle.flood_nodes.proofs.Common.{get_or_from_slice_get, Rect, Square, AreDisjoint, IsNear, Covers, IsProper, In, Lists, Lists-iff, In-get_or}
+use Rattle.flood_nodes.proofs.Common.{In-index, In-map_source, RawTech, is_type, plane_of, IsWellFormed, IsPair, Contact, shared_length, no_rect}
+use Rattle.flood_nodes.proofs.Common.{rect_at, shared_length-comm, RegionTile, AreLinkedTiles, JoinTiles, AreTyped, AreSpread, reaches, IsCrossing}
+use Rattle.flood_nodes.proofs.Common.{IsReaching, areas_at, connected, AddsMeeting, no_tile, tile_at, shared_by, IsTileContact}
 use Rattle.geo_core.specs.FiniteSets.Chain.{EitherWay}
-use Rattle.geo_core.specs.FiniteSets.Lists.{In, Lists}
 use Rattle.geo_core.proofs.FiniteSets.Distincts.{Distinct-places}
-use Rattle.geo_core.proofs.FiniteSets.Listings.{Lists-iff, Lists-append, Lists-one, Lists-filter}
-use Rattle.geo_core.proofs.FiniteSets.Members.{In-append_left, In-append_right, In-append_cases, In-get_or, In-index, In-map, In-map_source, In-filter}
+use Rattle.geo_core.proofs.FiniteSets.Listings.{Lists-append, Lists-one, Lists-filter}
+use Rattle.geo_core.proofs.FiniteSets.Members.{In-append_left, In-append_right, In-append_cases, In-map, In-filter}
 use Rattle.geo_core.proofs.FiniteSets.Members.{In-filter_source, In-filter_passes}
-use Rattle.tech_model.specs.declared.raw.RawTech.{RawTech}
-use Rattle.tech_model.specs.Types.{is_type, plane_of, connects}
-use Rattle.tech_model.specs.WellFormed.{IsWellFormed}
+use Rattle.tech_model.specs.Types.{connects}
 use Rattle.tech_model.proofs.TypeLaws.{connects_back}
-use Rattle.partition.specs.Divides.{IsPair}
-use Rattle.rect_contacts.specs.declared.contacts.Contact.{Contact}
 use Rattle.rect_contacts.specs.CommonSquares.{IsOverlap}
-use Rattle.rect_contacts.specs.Contacts.{shared_length}
-use Rattle.rect_contacts.specs.Rects.{no_rect, rect_at}
-use Rattle.rect_contacts.proofs.Shared.{shared_length-comm}
-use Rattle.layout_model.specs.declared.region_tiles.RegionTile.{RegionTile}
-use Rattle.flood_nodes.specs.steps.LinkedTiles.{Meet, MeetAt, AreLinkedTiles, JoinTiles}
-use Rattle.flood_nodes.specs.Stacking.{AreTyped, AreSpread, reaches, IsCrossing, IsReaching, areas_at, placed_in, pairs_beside, connected, AddsMeeting}
+use Rattle.flood_nodes.specs.steps.LinkedTiles.{Meet, MeetAt}
+use Rattle.flood_nodes.specs.Stacking.{placed_in, pairs_beside}
 use Rattle.flood_nodes.specs.Stacking.{AddsStacked, AddsAllStacked}
-use Rattle.flood_nodes.specs.TileShares.{no_tile, tile_at, shared_by, IsTileContact}
 use Rattle.flood_nodes.proofs.ShareLaws.{one_plane, two_planes}
 use Rattle.flood_nodes.proofs.StackLaws.{same_from_test, imaged}
 

@@ -1,26 +1,19 @@
 -- Edges that lead out of tiles of a class.
-use Rattle.std.proofs.Common.{◌≡◌, ℕ, ℤ, pos, ◌+ℤ◌, ◌-ℤ◌, ◌*ℤ◌, Bool, true, false, not, cond, ◌&&◌, List, map, refl, sym, ◌∙◌, ap, subst, arith}
-use Rattle.std.proofs.lemmas.Bool.{false≢true, and_parts}
-use Rattle.std.proofs.lemmas.Int.{ints}
-use Rattle.std.proofs.lemmas.Option.{slice_get_within, slice_get-get_or, get_or_from_slice_get}
-use Rattle.geo_core.specs.declared.squares.Square.{Square}
-use Rattle.geo_core.specs.Neighbours.{AreEdgeNeighbours, edge_neighbours}
-use Rattle.geo_core.specs.FiniteSets.Lists.{In, Lists}
-use Rattle.geo_core.specs.FiniteSets.Total.{sum_on, Total, one_if}
-use Rattle.geo_core.proofs.FiniteSets.Listings.{Lists-iff, Lists-map}
-use Rattle.geo_core.proofs.FiniteSets.Sums.{sum_on-same, sum_on-sub, sum_on-scale, sum_on-map}
-use Rattle.geo_core.proofs.FiniteSets.Totals.{Total-iff, Total-at, Total-from_list, Total-filter, Total-map, Total-parts, Total-unique, Total-unfilter}
-use Rattle.rect_contacts.specs.declared.contacts.Contact.{Contact}
+use Rattle.flood_nodes.proofs.Common.{◌≡◌, ℕ, ℤ, pos, ◌+ℤ◌, ◌*ℤ◌, Bool, true, false, cond, ◌&&◌, List, map, refl, sym, ◌∙◌, ap, subst, arith}
+use Rattle.flood_nodes.proofs.Common.{false≢true, and_parts, ints, slice_get_within, slice_get-get_or, get_or_from_slice_get, Square}
+use Rattle.flood_nodes.proofs.Common.{AreEdgeNeighbours, In, Lists, sum_on, Total, one_if, Lists-iff, Lists-map, sum_on-map, Total-iff, Total-at}
+use Rattle.flood_nodes.proofs.Common.{Contact, Place, AreNeighbours, Layout, InFamily, Total-family, Total-gated, RegionTile, LeadsAcross, LiesIn}
+use Rattle.flood_nodes.proofs.Common.{AreLayoutTiles, tile_at, no_tile, indices_of, inner_edges, IsTileContact}
+use Rattle.std.proofs.Common.{◌-ℤ◌, not}
+use Rattle.geo_core.specs.Neighbours.{edge_neighbours}
+use Rattle.geo_core.proofs.FiniteSets.Sums.{sum_on-same, sum_on-sub, sum_on-scale}
+use Rattle.geo_core.proofs.FiniteSets.Totals.{Total-from_list, Total-filter, Total-map, Total-parts, Total-unique, Total-unfilter}
 use Rattle.rect_contacts.specs.Squares.{squares_of, area_of, perimeter_of}
 use Rattle.rect_contacts.proofs.Leading.{sum_on-squares_of}
-use Rattle.layout_model.specs.Places.{Place, AreNeighbours, neighbours}
-use Rattle.layout_model.specs.Layouts.{Layout}
+use Rattle.layout_model.specs.Places.{neighbours}
 use Rattle.layout_model.specs.Measures.{IsArea}
-use Rattle.layout_model.proofs.Families.{InFamily, Total-family, Total-gated}
-use Rattle.layout_model.specs.declared.region_tiles.RegionTile.{RegionTile}
-use Rattle.layout_model.specs.EdgeCounts.{LeadsAcross, IsEdgeCount}
-use Rattle.layout_model.specs.RegionTiles.{LiesIn, AreLayoutTiles}
-use Rattle.flood_nodes.specs.TileShares.{tile_at, no_tile, indices_of, inner_edges, IsTileContact, IsInTiles, edges_by_contacts, open_by_contacts, is_of}
+use Rattle.layout_model.specs.EdgeCounts.{IsEdgeCount}
+use Rattle.flood_nodes.specs.TileShares.{IsInTiles, edges_by_contacts, open_by_contacts, is_of}
 use Rattle.flood_nodes.specs.TileShares.{ContactsCloseEdges, TilesMeasure}
 use Rattle.flood_nodes.proofs.ShareLaws.{Lists-indices_of}
 use Rattle.flood_nodes.proofs.TileEdges.{lies_in_one, place_on, place_is, Lists-tile, Lists-edge_neighbours}

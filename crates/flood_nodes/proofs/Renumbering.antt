@@ -1,34 +1,20 @@
 -- Tiles keep their places when they get numbers.
-use Rattle.std.proofs.Common.{◌≡◌, ◌≢◌, ℕ, ◌<◌, Bool, ◌&&◌, eqb, List, length, get_or, Some, refl, sym, ◌∙◌, ap, subst}
-use Rattle.std.proofs.Common.{arith}
-use Rattle.std.specs.Prelude.{slice_index, All, ◌↔◌}
-use Rattle.std.specs.List.{list_any}
-use Rattle.std.proofs.lemmas.Bool.{and_parts}
-use Rattle.std.proofs.lemmas.List.{get_or-map, get_or_default, length-map, ext_get_or}
-use Rattle.std.proofs.lemmas.Option.{slice_get_within, slice_get-get_or, get_or_from_slice_get}
-use Rattle.geo_core.specs.Areas.{IsNear}
-use Rattle.geo_core.specs.Covering.{Covers, IsProper}
-use Rattle.geo_core.specs.FiniteSets.Lists.{In, Lists}
+use Rattle.flood_nodes.proofs.Common.{◌≡◌, ◌≢◌, ℕ, ◌<◌, Bool, ◌&&◌, eqb, List, length, get_or, Some, refl, sym, ◌∙◌, ap, subst, arith, slice_index}
+use Rattle.flood_nodes.proofs.Common.{All, list_any, and_parts, get_or-map, length-map, slice_get_within, slice_get-get_or, get_or_from_slice_get}
+use Rattle.flood_nodes.proofs.Common.{IsNear, Covers, IsProper, In, Lists, Lists-iff, In-index, In-get_or, Divides, IsPair, Contact, RawTech}
+use Rattle.flood_nodes.proofs.Common.{RegionTile, Place, Layout, LiesIn, LieApart, AreLayoutTiles, AreRegions, JoinTiles, NumbersNodes, with_region}
+use Rattle.flood_nodes.proofs.Common.{AreRenumbered, AreTyped, AreSpread, no_tile, tile_at, shared_by, IsTileContact}
+use Rattle.std.specs.Prelude.{◌↔◌}
+use Rattle.std.proofs.lemmas.List.{get_or_default, ext_get_or}
 use Rattle.geo_core.proofs.FiniteSets.Distincts.{Distinct-places, Distinct-from_places}
-use Rattle.geo_core.proofs.FiniteSets.Listings.{Lists-iff}
-use Rattle.geo_core.proofs.FiniteSets.Members.{In-index, In-get_or}
 use Rattle.geo_core.proofs.FiniteSets.Searches.{list_any-source, list_any-passes}
-use Rattle.partition.specs.Divides.{Divides, IsPair}
 use Rattle.partition.specs.Marks.{IsNumbered}
-use Rattle.rect_contacts.specs.declared.contacts.Contact.{Contact}
-use Rattle.tech_model.specs.declared.raw.RawTech.{RawTech}
 use Rattle.tech_model.specs.Types.{connects}
 use Rattle.tech_model.proofs.TypeLaws.{connects_back, connects_self}
-use Rattle.layout_model.specs.declared.region_tiles.RegionTile.{RegionTile}
-use Rattle.layout_model.specs.Places.{Place}
-use Rattle.layout_model.specs.Layouts.{Layout}
 use Rattle.layout_model.specs.Links.{AreOneNode}
-use Rattle.layout_model.specs.RegionTiles.{LiesIn, LieApart, AreLayoutTiles, regions_of, AreRegions}
-use Rattle.flood_nodes.specs.steps.LinkedTiles.{JoinTiles, NumbersNodes}
-use Rattle.flood_nodes.specs.Renumbered.{with_region, AreRenumbered}
+use Rattle.layout_model.specs.RegionTiles.{regions_of}
 use Rattle.flood_nodes.specs.SoundTiles.{IsSoundTile}
-use Rattle.flood_nodes.specs.Stacking.{AreTyped, AreSpread}
-use Rattle.flood_nodes.specs.TileShares.{no_tile, tile_at, shared_by, is_contact, IsTileContact, AreTileContacts}
+use Rattle.flood_nodes.specs.TileShares.{is_contact, AreTileContacts}
 use Rattle.flood_nodes.proofs.LayoutRegions.{numbers_from_labels}
 use Rattle.flood_nodes.proofs.ShareLaws.{one_plane}
 use Rattle.flood_nodes.proofs.StackLaws.{same_from_test}

@@ -1,23 +1,14 @@
 -- Tiles that are given plane by plane: a plane's tiles are a run of the list, and contacts are of tiles of one run.
-use Rattle.std.proofs.Common.{◌≡◌, ◌⊎◌, inl, inr, ℕ, ◌+◌, ◌-◌, ◌<◌, ◌≤◌, pos, Bool, cond, List, [], ◌++◌, map, length, get_or, sym, ◌∙◌, ap, subst}
-use Rattle.std.proofs.Common.{take, drop, arith}
-use Rattle.std.specs.Prelude.{All, AllPairs}
+use Rattle.flood_nodes.proofs.Common.{◌≡◌, ◌⊎◌, inl, inr, ℕ, ◌+◌, ◌-◌, ◌<◌, ◌≤◌, pos, Bool, cond, List, [], ◌++◌, map, length, get_or, sym, ◌∙◌, ap}
+use Rattle.flood_nodes.proofs.Common.{subst, take, arith, All, AllPairs, cases_lt, ints, length-map, length-take, length-drop, get_or-map}
+use Rattle.flood_nodes.proofs.Common.{get_or-take, get_or-drop, Rect, AreDisjoint, Lists, Lists-iff, Lists-map, Contact, shared_length, IsSharedEdge}
+use Rattle.flood_nodes.proofs.Common.{rect_at, no_rect, LieApart, RegionTile, areas_of, shifted, no_tile, tile_at, shared_by, IsTileContact}
+use Rattle.std.proofs.Common.{drop}
 use Rattle.std.specs.List.{between}
 use Rattle.std.specs.List.Sorted.{IsNonDecreasingBy}
-use Rattle.std.proofs.lemmas.Bool.{cases_lt}
-use Rattle.std.proofs.lemmas.Int.{ints}
-use Rattle.std.proofs.lemmas.List.{length-map, length-take, length-drop, get_or_default, get_or-map, get_or-take, get_or-drop}
-use Rattle.geo_core.specs.declared.squares.Rect.{Rect}
-use Rattle.geo_core.specs.Areas.{AreDisjoint}
-use Rattle.geo_core.specs.FiniteSets.Lists.{Lists}
-use Rattle.geo_core.proofs.FiniteSets.Listings.{Lists-append, Lists-iff, Lists-map, Lists-none}
-use Rattle.rect_contacts.specs.declared.contacts.Contact.{Contact}
-use Rattle.rect_contacts.specs.Contacts.{shared_length, IsSharedEdge}
-use Rattle.rect_contacts.specs.Rects.{rect_at, no_rect}
-use Rattle.layout_model.specs.RegionTiles.{LieApart}
-use Rattle.layout_model.specs.declared.region_tiles.RegionTile.{RegionTile}
-use Rattle.flood_nodes.specs.steps.Runs.{areas_of, shifted, AddsContacts}
-use Rattle.flood_nodes.specs.TileShares.{no_tile, tile_at, shared_by, IsTileContact}
+use Rattle.std.proofs.lemmas.List.{get_or_default}
+use Rattle.geo_core.proofs.FiniteSets.Listings.{Lists-append, Lists-none}
+use Rattle.flood_nodes.specs.steps.Runs.{AddsContacts}
 use Rattle.flood_nodes.proofs.ShareLaws.{one_plane, two_planes}
 
 -- rectangles of tiles that lie apart

@@ -1,18 +1,10 @@
 -- What two tiles share.
-use Rattle.std.proofs.Common.{◌≡◌, ◌≢◌, ℕ, ◌<◌, ℤ, pos, ◌+ℤ◌, ◌*ℤ◌, ◌≤ℤ◌, Bool, true, false, cond, eqb, List, length, refl, ◌∙◌, ap, arith}
-use Rattle.std.specs.Prelude.{All}
-use Rattle.std.proofs.lemmas.Bool.Decides.{nat_tests}
-use Rattle.std.proofs.lemmas.Int.{ints}
-use Rattle.geo_core.specs.Covering.{IsProper}
-use Rattle.rect_contacts.specs.Contacts.{shared_length}
-use Rattle.rect_contacts.proofs.Shared.{shared_length-same, shared_length-not_negative, shared_length-comm}
-use Rattle.layout_model.specs.declared.region_tiles.RegionTile.{RegionTile}
-use Rattle.geo_core.specs.FiniteSets.Lists.{Lists}
-use Rattle.geo_core.specs.FiniteSets.Total.{sum_on}
-use Rattle.geo_core.proofs.FiniteSets.Listings.{Lists-iff}
-use Rattle.rect_contacts.specs.declared.contacts.Contact.{Contact}
+use Rattle.flood_nodes.proofs.Common.{◌≡◌, ◌≢◌, ℕ, ◌<◌, ℤ, pos, ◌+ℤ◌, ◌*ℤ◌, Bool, true, false, cond, eqb, List, length, refl, ◌∙◌, ap, arith, All}
+use Rattle.flood_nodes.proofs.Common.{nat_tests, ints, IsProper, shared_length, shared_length-comm, RegionTile, Lists, sum_on, Lists-iff, Contact}
+use Rattle.flood_nodes.proofs.Common.{tile_at, no_tile, indices_of, shared_by, IsTileContact}
+use Rattle.std.proofs.Common.{◌≤ℤ◌}
+use Rattle.rect_contacts.proofs.Shared.{shared_length-same, shared_length-not_negative}
 use Rattle.rect_contacts.proofs.BothWays.{IsShare, Lists-below, shares_both_ways}
-use Rattle.flood_nodes.specs.TileShares.{tile_at, no_tile, indices_of, shared_by, IsTileContact}
 
 pub one_plane : (m n : ℕ) → m ≡ n → eqb m n ≡ true
 one_plane m n same = grind (arith, nat_tests)

@@ -1,18 +1,13 @@
 -- Types of two planes connect where they are images of one layer.
-use Rattle.std.proofs.Common.{◌≡◌, ◌≢◌, inl, inr, ℕ, Bool, true, false, eqb, ◌&&◌, ◌||◌, List, [], ◌∷◌, length, Option, Some, None, IsTrue, refl, sym, ◌∙◌}
-use Rattle.std.proofs.Common.{ap, subst, arith}
-use Rattle.std.specs.Prelude.{nat_lt, is_some, find}
-use Rattle.std.specs.List.{list_any}
-use Rattle.std.proofs.lemmas.Bool.{cases_Bool, false≢true, and_parts}
-use Rattle.std.proofs.lemmas.Bool.Decides.{nat_tests}
-use Rattle.geo_core.specs.FiniteSets.Lists.{In}
-use Rattle.geo_core.proofs.FiniteSets.Members.{In-index}
+use Rattle.flood_nodes.proofs.Common.{◌≡◌, ◌≢◌, inl, inr, ℕ, Bool, true, false, eqb, ◌&&◌, List, [], ◌∷◌, length, Option, Some, None, IsTrue, refl}
+use Rattle.flood_nodes.proofs.Common.{sym, ◌∙◌, ap, subst, arith, nat_lt, list_any, false≢true, and_parts, nat_tests, In, In-index, TypeId, RawTech}
+use Rattle.flood_nodes.proofs.Common.{is_type, plane_of, IsWellFormed, has_other_images, reaches}
+use Rattle.std.proofs.Common.{◌||◌}
+use Rattle.std.specs.Prelude.{is_some, find}
+use Rattle.std.proofs.lemmas.Bool.{cases_Bool}
 use Rattle.geo_core.proofs.FiniteSets.Searches.{find-none}
-use Rattle.tech_model.specs.declared.raw.TypeId.{TypeId}
-use Rattle.tech_model.specs.declared.raw.RawTech.{RawTech}
-use Rattle.tech_model.specs.Types.{is_type, plane_of, layer_of, images_of, image_on, is_on, is_of, is_pair, connects}
-use Rattle.tech_model.specs.WellFormed.{IsPair, IsWellFormed}
-use Rattle.flood_nodes.specs.Stacking.{has_other_images, reaches}
+use Rattle.tech_model.specs.Types.{layer_of, images_of, image_on, is_on, is_of, is_pair, connects}
+use Rattle.tech_model.specs.WellFormed.{IsPair}
 use Rattle.flood_nodes.proofs.ShareLaws.{one_plane, two_planes}
 
 pub same_from_test : (m n : ℕ) → eqb m n ≡ true → m ≡ n

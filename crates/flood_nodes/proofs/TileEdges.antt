@@ -1,30 +1,15 @@
 -- Edges from the squares of one tile to the squares of another.
-use Rattle.std.proofs.Common.{◌≡◌, ◌≢◌, ℕ, ◌<◌, ℤ, pos, ◌+ℤ◌, Bool, true, cond, eqb, List, [], ◌∷◌, map, length, get_or, Some, inl, inr, refl, sym, ◌∙◌, ap}
-use Rattle.std.proofs.Common.{subst, arith}
-use Rattle.std.specs.Prelude.{slice_get, All, AllPairs}
-use Rattle.std.proofs.lemmas.Bool.{cases_eq, cases_lt}
-use Rattle.std.proofs.lemmas.Int.{ints}
-use Rattle.std.proofs.lemmas.Option.{slice_get_within, slice_get-get_or, get_or_from_slice_get, same_Some}
-use Rattle.geo_core.specs.declared.squares.Square.{Square}
-use Rattle.geo_core.specs.Covering.{Covers, IsProper, is_covered}
-use Rattle.geo_core.specs.Areas.{AreDisjoint}
-use Rattle.geo_core.specs.Neighbours.{AreEdgeNeighbours, edge_neighbours, right_of, left_of, above, below}
-use Rattle.geo_core.proofs.CoveringLaws.{Covers-is_covered, is_covered-Covers}
-use Rattle.geo_core.proofs.NeighbourLaws.{AreEdgeNeighbours-right_of, AreEdgeNeighbours-above}
-use Rattle.geo_core.proofs.SquareLaws.{square_is}
-use Rattle.geo_core.specs.FiniteSets.Lists.{In, Distinct, Lists}
-use Rattle.geo_core.specs.FiniteSets.Total.{sum_on, Total, one_if}
-use Rattle.geo_core.proofs.FiniteSets.Listings.{Lists-iff, Lists-map}
-use Rattle.geo_core.proofs.FiniteSets.Sums.{sum_on-map}
-use Rattle.geo_core.proofs.FiniteSets.Totals.{Total-iff, Total-at, Total-none, Total-from_list, Total-filter, Total-map, Total-parts}
-use Rattle.rect_contacts.specs.Contacts.{shared_length}
+use Rattle.flood_nodes.proofs.Common.{◌≡◌, ◌≢◌, ℕ, ◌<◌, ℤ, pos, ◌+ℤ◌, Bool, true, cond, eqb, List, [], ◌∷◌, map, length, get_or, Some, inl, inr}
+use Rattle.flood_nodes.proofs.Common.{refl, sym, ◌∙◌, ap, subst, arith, slice_get, All, AllPairs, cases_eq, cases_lt, ints, slice_get_within}
+use Rattle.flood_nodes.proofs.Common.{slice_get-get_or, get_or_from_slice_get, same_Some, Square, Covers, IsProper, is_covered, AreDisjoint}
+use Rattle.flood_nodes.proofs.Common.{AreEdgeNeighbours, right_of, above, Covers-is_covered, is_covered-Covers, AreEdgeNeighbours-right_of}
+use Rattle.flood_nodes.proofs.Common.{AreEdgeNeighbours-above, square_is, In, Distinct, Lists, sum_on, Total, one_if, Lists-iff, Lists-map}
+use Rattle.flood_nodes.proofs.Common.{sum_on-map, Total-iff, Total-at, shared_length, Place, AreNeighbours, RegionTile, LeadsAcross, LiesIn}
+use Rattle.flood_nodes.proofs.Common.{LieApart, tile_at, no_tile, shared_by, inner_edges}
+use Rattle.geo_core.specs.Neighbours.{edge_neighbours, left_of, below}
+use Rattle.geo_core.proofs.FiniteSets.Totals.{Total-none, Total-from_list, Total-filter, Total-map, Total-parts}
 use Rattle.rect_contacts.specs.Squares.{squares_of, edges_between}
 use Rattle.rect_contacts.proofs.Leading.{Lists-squares_of, edges_between-disjoint, edges_between-same}
-use Rattle.layout_model.specs.Places.{Place, AreNeighbours}
-use Rattle.layout_model.specs.declared.region_tiles.RegionTile.{RegionTile}
-use Rattle.layout_model.specs.EdgeCounts.{LeadsAcross}
-use Rattle.layout_model.specs.RegionTiles.{LiesIn, LieApart}
-use Rattle.flood_nodes.specs.TileShares.{tile_at, no_tile, shared_by, inner_edges}
 use Rattle.flood_nodes.proofs.ShareLaws.{one_plane, two_planes, shared_by-same}
 
 apart_at : (tiles : List RegionTile) (i j : ℕ) (a b : RegionTile) → AllPairs LieApart tiles → i < j → slice_get tiles i ≡ Some a

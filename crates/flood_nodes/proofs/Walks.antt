@@ -1,12 +1,9 @@
 -- Walks from square to square within a rectangle: along a row, and then along a column.
-use Rattle.std.proofs.Common.{◌≡◌, ℕ, zero, suc, pos, ◌+ℤ◌, refl, sym, arith}
-use Rattle.std.proofs.lemmas.Int.{ints, by_lt_z}
-use Rattle.geo_core.specs.declared.squares.Square.{Square}
-use Rattle.geo_core.specs.declared.squares.Rect.{Rect}
-use Rattle.geo_core.specs.Covering.{Covers}
-use Rattle.geo_core.specs.Neighbours.{AreEdgeNeighbours, right_of, above}
-use Rattle.geo_core.proofs.NeighbourLaws.{AreEdgeNeighbours-sym, AreEdgeNeighbours-right_of, AreEdgeNeighbours-above}
-use Rattle.geo_core.proofs.SquareLaws.{square_is}
+use Rattle.flood_nodes.proofs.Common.{◌≡◌, ℕ, pos, ◌+ℤ◌, refl, sym, arith, ints, Square, Rect, Covers, AreEdgeNeighbours, right_of, above}
+use Rattle.flood_nodes.proofs.Common.{AreEdgeNeighbours-right_of, AreEdgeNeighbours-above, square_is}
+use Rattle.std.proofs.Common.{zero, suc}
+use Rattle.std.proofs.lemmas.Int.{by_lt_z}
+use Rattle.geo_core.proofs.NeighbourLaws.{AreEdgeNeighbours-sym}
 use Rattle.geo_core.specs.FiniteSets.Chain.{Chain}
 use Rattle.geo_core.specs.FiniteSets.Chain.Chain.{go}
 use Rattle.geo_core.specs.FiniteSets.Range.{extent}

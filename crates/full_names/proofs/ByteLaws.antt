@@ -1,14 +1,7 @@
 -- Sums of bytes, one name and one element after the other.
-use Rattle.std.proofs.Common.{◌≡◌, ℕ, ◌+◌, ◌<◌, ◌≤◌, List, Some, length, take, sym, ◌∙◌, ap, subst, arith}
-use Rattle.std.specs.Prelude.{slice_get}
+use Rattle.full_names.proofs.Common.{◌≡◌, ℕ, ◌+◌, ◌<◌, ◌≤◌, List, Some, length, take, sym, ◌∙◌, ap, subst, arith, slice_get, slice_get-below}
+use Rattle.full_names.proofs.Common.{TreeElement, OwnName, RecordNames, locals_of, no_element, flat_at, local_bytes, element_bytes}
 use Rattle.std.proofs.lemmas.List.Sums.{sum_by_more, sum_by_more_le}
-use Rattle.ext_model.proofs.FiniteSets.Places.{slice_get-below}
-use Rattle.element_tree.specs.declared.tree.TreeElement.{TreeElement}
-use Rattle.full_names.specs.declared.own_names.OwnName.{OwnName}
-use Rattle.full_names.specs.declared.own_names.RecordNames.{RecordNames}
-use Rattle.full_names.specs.OwnNames.{locals_of}
-use Rattle.full_names.specs.Reached.{no_element, flat_at}
-use Rattle.full_names.specs.steps.ByteCounts.{local_bytes, element_bytes}
 use Rattle.full_names.proofs.RecordReads.{locals_known}
 
 -- the path of one more name is within the sum of all

@@ -1,33 +1,14 @@
 -- Global names, found, in order, and each once.
-use Rattle.std.proofs.Common.{◌≡◌, ◌≢◌, ◌⊎◌, ◌↔◌, ℕ, suc, ◌+◌, ◌-◌, ◌<◌, ◌≤◌, Bool, false, IsTrue, List, []}
-use Rattle.std.proofs.Common.{◌∷◌, ◌++◌, Some, length, get_or, take, inl, inr, refl, sym, ◌∙◌, ap, subst, arith}
-use Rattle.std.specs.Prelude.{slice_get, IsPermutation, IsSorted}
-use Rattle.std.specs.Cmp.{IsTotalOrder}
-use Rattle.std.specs.declared.cmp.Ordering.{Ordering}
-use Rattle.std.specs.declared.cmp.Ordering.TheVariants.{Less, Equal, Greater}
-use Rattle.std.specs.FinMap.{nat_cmp-IsAntisymmetric, slice_cmp-IsAntisymmetric}
-use Rattle.std.specs.Ordering.{is_lt, nat_cmp, ordering_then, ordering_reverse}
-use Rattle.std.specs.Cmp.Lexicographic.{slice_cmp}
-use Rattle.std.proofs.lemmas.Bool.{cases_lt}
-use Rattle.std.proofs.lemmas.Bool.Decides.{nat_tests}
-use Rattle.std.proofs.lemmas.Cmp.{nat_cmp_total, nat_list_cmp_total, on_total, then_total, tied_itself}
-use Rattle.std.proofs.lemmas.List.{take_more}
-use Rattle.std.proofs.lemmas.List.Sorted.{IsPermutation-sym}
-use Rattle.std.proofs.lemmas.Option.{slice_get_within, get_or_from_slice_get, same_Some}
-use Rattle.std.specs.Str.{bytes_eq}
-use Rattle.std.proofs.lemmas.Slice.Eq.{bytes_eq-Decides}
-use Rattle.ext_model.specs.FiniteSets.Lists.{In}
-use Rattle.ext_model.proofs.FiniteSets.Members.{In-push_cases, In-append_left, In-push, In-permutation}
-use Rattle.ext_model.proofs.FiniteSets.Orders.{IsSorted-pairs}
-use Rattle.ext_model.proofs.FiniteSets.Places.{In-slice_get, slice_get-In}
-use Rattle.element_tree.specs.declared.tree.TreeElement.{TreeElement}
-use Rattle.full_names.specs.declared.own_names.OwnName.{OwnName}
-use Rattle.full_names.specs.declared.own_names.RecordNames.{RecordNames}
-use Rattle.full_names.specs.declared.globals.GlobalName.{GlobalName}
-use Rattle.full_names.specs.OwnNames.{globals_of}
-use Rattle.full_names.specs.Reached.{flat_at}
-use Rattle.full_names.specs.Globals.{global_texts, text_cmp, global_cmp, IsOwnGlobal, EndsWith}
-use Rattle.full_names.specs.Globals.{IsFound, AreFound, AreInTextOrder, AreOnce, AreGlobalNames}
+use Rattle.full_names.proofs.Common.{◌≡◌, ◌≢◌, ◌⊎◌, ℕ, suc, ◌+◌, ◌-◌, ◌<◌, ◌≤◌, Bool, false, IsTrue, List, [], ◌∷◌, ◌++◌, Some, length, get_or, take}
+use Rattle.full_names.proofs.Common.{inl, inr, refl, sym, ◌∙◌, ap, subst, arith, slice_get, IsPermutation, IsSorted, IsTotalOrder, Ordering, Less}
+use Rattle.full_names.proofs.Common.{Equal, Greater, nat_cmp-IsAntisymmetric, slice_cmp-IsAntisymmetric, is_lt, nat_cmp, ordering_then}
+use Rattle.full_names.proofs.Common.{ordering_reverse, slice_cmp, cases_lt, nat_tests, nat_cmp_total, nat_list_cmp_total, on_total, then_total}
+use Rattle.full_names.proofs.Common.{tied_itself, take_more, IsPermutation-sym, slice_get_within, get_or_from_slice_get, same_Some, bytes_eq}
+use Rattle.full_names.proofs.Common.{bytes_eq-Decides, In, In-push_cases, In-append_left, In-push, In-permutation, IsSorted-pairs, In-slice_get}
+use Rattle.full_names.proofs.Common.{slice_get-In, TreeElement, OwnName, RecordNames, GlobalName, globals_of, flat_at, global_texts, text_cmp}
+use Rattle.full_names.proofs.Common.{EndsWith, IsFound, AreFound, AreInTextOrder, AreOnce, AreGlobalNames}
+use Rattle.std.proofs.Common.{◌↔◌}
+use Rattle.full_names.specs.Globals.{global_cmp, IsOwnGlobal}
 use Rattle.full_names.proofs.NameForms.{then_rest}
 
 -- The names of an element stand behind those before.

@@ -1,30 +1,10 @@
 -- From the names of the first elements of records to the global names of all elements.
-use Rattle.std.proofs.Common.{◌≡◌, ℕ, ◌≤◌, Bool, true, List, []}
-use Rattle.std.proofs.Common.{◌∷◌, Some, inl, inr, refl, sym, ◌∙◌, ap, subst, arith}
-use Rattle.std.specs.Prelude.{slice_get}
-use Rattle.std.specs.declared.cmp.Ordering.{Ordering}
-use Rattle.std.specs.declared.cmp.Ordering.TheVariants.{Less}
-use Rattle.std.specs.Ordering.{nat_cmp, ordering_then}
-use Rattle.std.proofs.lemmas.Cmp.{tied_itself}
-use Rattle.std.proofs.lemmas.Option.{same_Some}
-use Rattle.ext_model.specs.FiniteSets.Lists.{In}
-use Rattle.ext_model.proofs.FiniteSets.Members.{In-map, In-map_source}
-use Rattle.ext_model.specs.declared.records.CellExt.{CellExt}
-use Rattle.ext_model.specs.NodeNames.{name_kind, slashes_in}
-use Rattle.ext_model.specs.NameOrder.{kind_rank, name_cmp}
-use Rattle.ext_model.specs.RecordNames.{names_of, node_names}
-use Rattle.circuit_model.specs.Elements.{Element, AreRecords}
-use Rattle.circuit_model.specs.FullNames.{AreInNameOrder}
-use Rattle.element_tree.specs.declared.tree.ElementTree.{ElementTree}
-use Rattle.element_tree.specs.declared.tree.TreeElement.{TreeElement}
-use Rattle.element_tree.specs.Trees.{IsTreeOfElements}
-use Rattle.full_names.specs.declared.own_names.OwnName.{OwnName}
-use Rattle.full_names.specs.declared.own_names.RecordNames.{RecordNames}
-use Rattle.full_names.specs.declared.globals.GlobalName.{GlobalName}
-use Rattle.full_names.specs.OwnNames.{is_marked, texts_of, globals_of, AreOwnNames}
-use Rattle.full_names.specs.Reached.{flat_at, AreReached}
-use Rattle.full_names.specs.Globals.{global_texts, text_cmp, AreInTextOrder, IsFound, AreGlobalNames}
-use Rattle.full_names.specs.GlobalOrigins.{IsGlobalOf, AreGlobalsOf}
+use Rattle.full_names.proofs.Common.{◌≡◌, ℕ, ◌≤◌, Bool, true, List, [], ◌∷◌, Some, inl, inr, refl, sym, ◌∙◌, ap, subst, arith, slice_get, Ordering}
+use Rattle.full_names.proofs.Common.{Less, nat_cmp, ordering_then, tied_itself, same_Some, In, In-map, In-map_source, CellExt, name_kind, slashes_in}
+use Rattle.full_names.proofs.Common.{kind_rank, name_cmp, names_of, node_names, Element, AreRecords, AreInNameOrder, ElementTree, TreeElement}
+use Rattle.full_names.proofs.Common.{IsTreeOfElements, OwnName, RecordNames, GlobalName, is_marked, texts_of, globals_of, AreOwnNames, flat_at}
+use Rattle.full_names.proofs.Common.{AreReached, global_texts, text_cmp, AreInTextOrder, IsFound, AreGlobalNames, AreGlobalsOf}
+use Rattle.full_names.specs.GlobalOrigins.{IsGlobalOf}
 use Rattle.full_names.proofs.GlobalLaws.{text_cmp_total}
 use Rattle.full_names.proofs.KeyOrders.{NamesAreKnown}
 use Rattle.full_names.proofs.NameForms.{last_name_of, kind_of_marked}

@@ -1,21 +1,10 @@
 -- The keys of names.
-use Rattle.std.proofs.Common.{◌≡◌, ◌≢◌, ℕ, ◌+◌, ◌<◌, Bool, List, [], ◌∷◌, ◌++◌}
-use Rattle.std.proofs.Common.{length, get_or, inl, inr, refl, sym, ◌∙◌, ap, subst, arith, length-append}
-use Rattle.std.specs.Prelude.{IsPermutation, IsSorted}
-use Rattle.std.proofs.lemmas.Bool.{cases_lt}
-use Rattle.std.proofs.lemmas.List.{get_or_append_left, get_or_push}
-use Rattle.std.proofs.lemmas.List.Sorted.{IsPermutation-sym, length_permutation}
-use Rattle.ext_model.specs.FiniteSets.Lists.{In}
-use Rattle.ext_model.proofs.FiniteSets.Members.{In-push_cases, In-append_left, In-push, In-permutation}
-use Rattle.ext_model.proofs.FiniteSets.Pairs.{AllPairs-permutation}
-use Rattle.element_tree.specs.declared.tree.TreeElement.{TreeElement}
-use Rattle.full_names.specs.declared.own_names.RecordNames.{RecordNames}
-use Rattle.full_names.specs.declared.keys.NameKey.{NameKey}
-use Rattle.full_names.specs.declared.places.Place.{Place}
-use Rattle.ext_model.specs.NodeNames.{name_kind}
-use Rattle.full_names.specs.Reached.{flat_at}
-use Rattle.full_names.specs.Places.{place_at, text_at}
-use Rattle.full_names.specs.steps.Keys.{is_generated, key_at, key_cmp, IsKey, AreKeys}
+use Rattle.full_names.proofs.Common.{◌≡◌, ◌≢◌, ℕ, ◌+◌, ◌<◌, Bool, List, [], ◌∷◌, ◌++◌, length, get_or, inl, inr, refl, sym, ◌∙◌, ap, subst, arith}
+use Rattle.full_names.proofs.Common.{length-append, IsPermutation, IsSorted, cases_lt, get_or_append_left, get_or_push, IsPermutation-sym, In}
+use Rattle.full_names.proofs.Common.{In-push_cases, In-append_left, In-push, In-permutation, AllPairs-permutation, TreeElement, RecordNames, NameKey}
+use Rattle.full_names.proofs.Common.{Place, name_kind, flat_at, place_at, text_at, is_generated, key_at, key_cmp, AreKeys}
+use Rattle.std.proofs.lemmas.List.Sorted.{length_permutation}
+use Rattle.full_names.specs.steps.Keys.{IsKey}
 
 -- the key of an element's name by what is read of the name
 abbrev pub key_made : TreeElement → List ℕ → Bool → ℕ → NameKey

@@ -1,37 +1,14 @@
 -- Keys are in the order of full names.
-use Rattle.std.proofs.Common.{◌≡◌, ℕ, ◌+◌, ◌<◌, Bool, true, false, cond, List}
-use Rattle.std.proofs.Common.{[], length, get_or, Some, refl, sym, ◌∙◌, ap, subst}
-use Rattle.std.specs.Prelude.{slice_get, slice_index}
-use Rattle.std.specs.declared.cmp.Ordering.{Ordering}
-use Rattle.std.specs.declared.cmp.Ordering.TheVariants.{Less, Equal, Greater}
-use Rattle.std.specs.FinMap.{nat_cmp-IsAntisymmetric, slice_cmp-IsAntisymmetric}
-use Rattle.std.specs.Ordering.{nat_cmp, bool_cmp, ordering_then}
-use Rattle.std.specs.Cmp.Lexicographic.{slice_cmp}
-use Rattle.std.proofs.lemmas.Bool.{not-true}
-use Rattle.std.proofs.lemmas.List.{length-map}
-use Rattle.ext_model.specs.FiniteSets.Lists.{In}
-use Rattle.ext_model.proofs.FiniteSets.Members.{In-get_or}
+use Rattle.full_names.proofs.Common.{◌≡◌, ℕ, ◌+◌, ◌<◌, Bool, true, false, cond, List, [], length, get_or, Some, refl, sym, ◌∙◌, ap, subst, slice_get}
+use Rattle.full_names.proofs.Common.{slice_index, Ordering, Less, Equal, Greater, nat_cmp-IsAntisymmetric, slice_cmp-IsAntisymmetric, nat_cmp}
+use Rattle.full_names.proofs.Common.{bool_cmp, ordering_then, slice_cmp, not-true, length-map, In, In-get_or, GENERATED_MARK, UseRec, CellExt}
+use Rattle.full_names.proofs.Common.{ends_in, name_kind, kind_rank, name_cmp, element_cmp, path_length, IsLastName, path_text, node_names, Element}
+use Rattle.full_names.proofs.Common.{ids_of, AreRecords, ElementTree, TreeElement, StandsFor, IsTreeOfElements, RecordNames, Place, is_marked}
+use Rattle.full_names.proofs.Common.{texts_of, locals_of, AreOwnNames, HasOwnNames, flat_at, texts_at, count_at, text_at, IsPlace, is_generated}
+use Rattle.full_names.proofs.Common.{key_at, key_cmp}
 use Rattle.ext_model.proofs.FiniteSets.Orders.{nat_cmp-add}
-use Rattle.ext_model.specs.declared.names.TheConstants.{GENERATED_MARK}
 use Rattle.ext_model.specs.declared.names.NameKind.TheVariants.{Global, Label, Generated}
-use Rattle.ext_model.specs.declared.records.UseRec.{UseRec}
-use Rattle.ext_model.specs.declared.records.CellExt.{CellExt}
-use Rattle.ext_model.specs.NodeNames.{ends_in, name_kind}
-use Rattle.ext_model.specs.NameOrder.{kind_rank, name_cmp}
-use Rattle.ext_model.specs.NameParts.{element_cmp, path_length, IsLastName}
-use Rattle.ext_model.specs.Paths.{path_text}
-use Rattle.ext_model.specs.RecordNames.{node_names}
 use Rattle.ext_model.proofs.PartOrders.{paths_compare_by_parts, nat_cmp-same}
-use Rattle.circuit_model.specs.Elements.{Element, ids_of, AreRecords}
-use Rattle.element_tree.specs.declared.tree.ElementTree.{ElementTree}
-use Rattle.element_tree.specs.declared.tree.TreeElement.{TreeElement}
-use Rattle.element_tree.specs.Trees.{StandsFor, IsTreeOfElements}
-use Rattle.full_names.specs.declared.own_names.RecordNames.{RecordNames}
-use Rattle.full_names.specs.declared.places.Place.{Place}
-use Rattle.full_names.specs.OwnNames.{is_marked, texts_of, locals_of, AreOwnNames, HasOwnNames}
-use Rattle.full_names.specs.Reached.{flat_at}
-use Rattle.full_names.specs.Places.{texts_at, count_at, text_at, IsPlace}
-use Rattle.full_names.specs.steps.Keys.{is_generated, key_at, key_cmp}
 use Rattle.full_names.proofs.NameForms.{last_name_of, element_cmp-exact}
 use Rattle.full_names.proofs.RecordReads.{locals_known}
 use Rattle.full_names.proofs.TextOrders.{text_is_name, text_is_wanted, places_compare}

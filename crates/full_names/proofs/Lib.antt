@@ -4,6 +4,7 @@ pub use Rattle.ext_model.proofs.FiniteSets as FiniteSets
 pub use Rattle.ext_model.proofs.GeoCore as GeoCore
 pub use Rattle.ext_model.proofs as ExtModel
 pub use Rattle.element_tree.proofs as ElementTree
+mod Common
 mod Lookups
 mod OwnNameLaws
 mod SearchLaws

@@ -1,17 +1,7 @@
 -- Lists of names in name order.
-use Rattle.std.proofs.Common.{◌≡◌, ℕ, zero, suc, ◌+◌, false, List, []}
-use Rattle.std.proofs.Common.{◌∷◌, get_or, refl, ◌∙◌, ap, arith}
-use Rattle.std.specs.Prelude.{IsSorted}
-use Rattle.std.specs.declared.cmp.Ordering.{Ordering}
-use Rattle.std.specs.declared.cmp.Ordering.TheVariants.{Less, Equal, Greater}
-use Rattle.std.specs.Ordering.{is_lt, ordering_reverse}
-use Rattle.std.proofs.lemmas.Cmp.{tied_itself}
-use Rattle.ext_model.specs.FiniteSets.Lists.{In, Distinct}
-use Rattle.ext_model.proofs.FiniteSets.Pairs.{Pairwise}
+use Rattle.full_names.proofs.Common.{◌≡◌, ℕ, zero, suc, ◌+◌, false, List, [], ◌∷◌, get_or, refl, ◌∙◌, ap, arith, IsSorted, Ordering, Less, Equal}
+use Rattle.full_names.proofs.Common.{Greater, is_lt, ordering_reverse, tied_itself, In, Distinct, Pairwise, name_cmp, name_cmp_total, AreInNameOrder}
 use Rattle.ext_model.proofs.FiniteSets.InOrder.{same_by_order, Pairwise-from_order, order-from_Pairwise, Distinct-by_order}
-use Rattle.ext_model.specs.NameOrder.{name_cmp}
-use Rattle.ext_model.proofs.NameOrders.{name_cmp_total}
-use Rattle.circuit_model.specs.FullNames.{AreInNameOrder}
 
 -- the first stands before the second
 abbrev pub StandsBefore : List ℕ → List ℕ → Type 0

@@ -1,20 +1,8 @@
 -- What is read for the number of a name that is not global.
-use Rattle.std.proofs.Common.{◌≡◌, ℕ, ◌<◌, List, Some, length, get_or, refl, sym, ◌∙◌, ap, subst, arith}
-use Rattle.std.specs.Prelude.{slice_get, vec_len}
-use Rattle.std.proofs.lemmas.List.{get_or_read, length-map}
-use Rattle.std.proofs.lemmas.Option.{slice_get_within, slice_get_read, get_or_from_slice_get}
-use Rattle.ext_model.proofs.FiniteSets.Members.{In-get_or}
-use Rattle.ext_model.specs.FiniteSets.Lists.{In}
-use Rattle.circuit_model.specs.Elements.{Element}
-use Rattle.element_tree.specs.declared.tree.TreeElement.{TreeElement}
-use Rattle.full_names.specs.declared.names.FullNames.{FullNames}
-use Rattle.full_names.specs.declared.own_names.OwnName.{OwnName}
-use Rattle.full_names.specs.declared.own_names.RecordNames.{RecordNames}
-use Rattle.full_names.specs.declared.places.Place.{Place}
-use Rattle.full_names.specs.OwnNames.{locals_of, HasOwnNames}
-use Rattle.full_names.specs.Reached.{flat_at}
-use Rattle.full_names.specs.Places.{no_place, place_at, count_at, IsPlace}
-use Rattle.full_names.specs.Names.{elements_in, AreNames, IsLocalNumber}
+use Rattle.full_names.proofs.Common.{◌≡◌, ℕ, ◌<◌, List, Some, length, get_or, refl, sym, ◌∙◌, ap, subst, arith, slice_get, vec_len, get_or_read}
+use Rattle.full_names.proofs.Common.{length-map, slice_get_within, slice_get_read, get_or_from_slice_get, In-get_or, In, Element, TreeElement}
+use Rattle.full_names.proofs.Common.{FullNames, OwnName, RecordNames, Place, locals_of, HasOwnNames, flat_at, no_place, place_at, count_at, IsPlace}
+use Rattle.full_names.proofs.Common.{elements_in, AreNames, IsLocalNumber}
 use Rattle.full_names.proofs.QueryLaws.{is_tree}
 use Rattle.full_names.proofs.RecordReads.{locals_known}
 use Rattle.full_names.proofs.TreeLaws.{element_at}

@@ -1,10 +1,7 @@
 -- What stands at a place of a list, as `slice_get` tells it.
-use Rattle.std.proofs.Common.{◌+◌, ◌<◌, Bool, List, [], ◌∷◌}
-use Rattle.std.proofs.Common.{map, length, get_or, sym, ◌∙◌, ap, arith}
+use Rattle.full_names.proofs.Common.{◌+◌, ◌<◌, Bool, List, [], ◌∷◌, map, length, get_or, sym, ◌∙◌, ap, arith, get_or-map, length-map, OwnName}
+use Rattle.full_names.proofs.Common.{GlobalName}
 use Rattle.std.specs.List.Sorted.{IsSortedBy}
-use Rattle.std.proofs.lemmas.List.{get_or-map, length-map}
-use Rattle.full_names.specs.declared.own_names.OwnName.{OwnName}
-use Rattle.full_names.specs.declared.globals.GlobalName.{GlobalName}
 
 -- a list whose images are in order
 pub sorted_map : {X Y : Type 0} (f : X → Y) (less : Y → Y → Bool) (xs : List X) → IsSortedBy (λ a b. less (f a) (f b)) xs → IsSortedBy less (map f xs)

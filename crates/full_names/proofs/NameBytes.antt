@@ -1,44 +1,25 @@
 -- The bytes of all full names, each once, are those that are counted.
-use Rattle.std.proofs.Common.{◌≡◌, ℕ, ◌+◌, Bool, true, false, cond, not, pos, ◌+ℤ◌}
-use Rattle.std.proofs.Common.{List, [], ◌∷◌, ◌++◌, length, get_or, Some, filter, map, inl, inr, refl, sym, ◌∙◌, ap, subst, arith}
-use Rattle.std.specs.Prelude.{slice_get, sum_by}
-use Rattle.std.specs.List.{flat_map}
-use Rattle.std.specs.Str.{bytes_eq}
-use Rattle.std.proofs.lemmas.Bool.{cases_Bool, false≢true, not-true}
+use Rattle.full_names.proofs.Common.{◌≡◌, ℕ, ◌+◌, Bool, true, false, cond, not, List, [], ◌∷◌, ◌++◌, length, get_or, Some, filter, map, inl, inr}
+use Rattle.full_names.proofs.Common.{refl, sym, ◌∙◌, ap, subst, arith, slice_get, flat_map, bytes_eq, cases_Bool, false≢true, not-true}
+use Rattle.full_names.proofs.Common.{slice_get-get_or, get_or_from_slice_get, bytes_eq-Decides, In, Distinct, In-append_cases, In-append_left}
+use Rattle.full_names.proofs.Common.{In-append_right, In-map, In-map_source, In-filter, In-filter_source, In-filter_passes, Pairwise, In-flat_map}
+use Rattle.full_names.proofs.Common.{In-slice_get, slice_get-In, CellExt, path_length, IsLastName, path_text, names_of, node_names, Element, ids_of}
+use Rattle.full_names.proofs.Common.{AreRecords, name_in, full_names, ElementTree, TreeElement, IsTreeOfElements, OwnName, RecordNames, GlobalName}
+use Rattle.full_names.proofs.Common.{is_marked, is_wanted, texts_of, locals_of, AreOwnNames, no_element, flat_at, global_texts, AreGlobalsOf}
+use Rattle.full_names.proofs.Common.{global_bytes, local_bytes, element_bytes}
+use Rattle.std.proofs.Common.{pos, ◌+ℤ◌}
+use Rattle.std.specs.Prelude.{sum_by}
 use Rattle.std.proofs.lemmas.List.Sums.{sum_by-cons, sum_by-append}
 use Rattle.std.proofs.lemmas.List.Sorted.{sum_by-IsPermutation}
-use Rattle.std.proofs.lemmas.Option.{slice_get-get_or, get_or_from_slice_get}
-use Rattle.std.proofs.lemmas.Slice.Eq.{bytes_eq-Decides}
-use Rattle.ext_model.specs.FiniteSets.Lists.{In, Distinct}
 use Rattle.ext_model.specs.FiniteSets.Total.{sum_on}
 use Rattle.ext_model.proofs.FiniteSets.Distincts.{Distinct-append, Distinct-filter, Distinct-map}
-use Rattle.ext_model.proofs.FiniteSets.Members.{In-append_cases, In-append_left, In-append_right, In-map}
-use Rattle.ext_model.proofs.FiniteSets.Members.{In-map_source, In-filter, In-filter_source, In-filter_passes}
-use Rattle.ext_model.proofs.FiniteSets.Pairs.{Pairwise, Pairwise-from_AllPairs}
+use Rattle.ext_model.proofs.FiniteSets.Pairs.{Pairwise-from_AllPairs}
 use Rattle.ext_model.proofs.FiniteSets.Searches.{In-from_list_any, absent-from_list_any}
 use Rattle.ext_model.proofs.FiniteSets.Sums.{sum_on-same_things, sum_by-map, sum_by-same, sum_by-flat_map, sum_by-pointwise}
-use Rattle.ext_model.proofs.FiniteSets.Images.{In-flat_map_source, In-flat_map, Distinct-flat_map}
-use Rattle.ext_model.proofs.FiniteSets.Places.{In-slice_get, slice_get-In}
-use Rattle.ext_model.specs.declared.records.CellExt.{CellExt}
-use Rattle.ext_model.specs.NameParts.{path_length, IsLastName}
-use Rattle.ext_model.specs.Paths.{path_text}
-use Rattle.ext_model.specs.RecordNames.{names_of, node_names}
+use Rattle.ext_model.proofs.FiniteSets.Images.{In-flat_map_source, Distinct-flat_map}
 use Rattle.ext_model.proofs.PartOrders.{length-path_text}
-use Rattle.circuit_model.specs.Elements.{Element, ids_of, AreRecords}
-use Rattle.circuit_model.specs.FullNames.{name_in, full_names}
 use Rattle.circuit_model.specs.FlatNodes.{is_among}
 use Rattle.circuit_model.specs.Refusals.{once, name_bytes}
-use Rattle.element_tree.specs.declared.tree.ElementTree.{ElementTree}
-use Rattle.element_tree.specs.declared.tree.TreeElement.{TreeElement}
-use Rattle.element_tree.specs.Trees.{IsTreeOfElements}
-use Rattle.full_names.specs.declared.own_names.OwnName.{OwnName}
-use Rattle.full_names.specs.declared.own_names.RecordNames.{RecordNames}
-use Rattle.full_names.specs.declared.globals.GlobalName.{GlobalName}
-use Rattle.full_names.specs.OwnNames.{is_marked, is_wanted, texts_of, locals_of, AreOwnNames}
-use Rattle.full_names.specs.Reached.{no_element, flat_at}
-use Rattle.full_names.specs.Globals.{global_texts}
-use Rattle.full_names.specs.GlobalOrigins.{AreGlobalsOf}
-use Rattle.full_names.specs.steps.ByteCounts.{global_bytes, local_bytes, element_bytes}
 use Rattle.full_names.proofs.KeyOrders.{NamesAreKnown, locals_are}
 use Rattle.full_names.proofs.ListOrders.{pairwise_names, Distinct-names}
 use Rattle.full_names.proofs.NameForms.{last_name_of, full_name-marked, full_name-local, one_path, path_not_global}

@@ -1,31 +1,19 @@
 -- The names of lawful records: their form, and their full names in an element.
-use Rattle.std.proofs.Common.{◌≡◌, ◌≢◌, ℕ, ◌+◌, ◌<◌, Bool, true, false, cond, ◌&&◌}
-use Rattle.std.proofs.Common.{IsTrue, List, [], ◌∷◌, ◌++◌, length, inl, inr, refl, sym, ◌∙◌, ap, subst, arith}
-use Rattle.std.specs.declared.cmp.Ordering.{Ordering}
-use Rattle.std.specs.declared.cmp.Ordering.TheVariants.{Less, Equal, Greater}
-use Rattle.std.specs.FinMap.{nat_cmp-IsAntisymmetric, slice_cmp-IsAntisymmetric, IsAntisymmetric}
-use Rattle.std.specs.Ordering.{nat_cmp, ordering_then}
-use Rattle.std.specs.Cmp.Lexicographic.{slice_cmp}
-use Rattle.std.proofs.lemmas.Bool.{cases_Bool}
-use Rattle.std.proofs.lemmas.Bool.Decides.{nat_tests}
-use Rattle.std.proofs.lemmas.Cmp.{tied_itself}
+use Rattle.full_names.proofs.Common.{◌≡◌, ◌≢◌, ℕ, ◌+◌, ◌<◌, Bool, true, false, cond, IsTrue, List, [], ◌∷◌, ◌++◌, length, inl, inr, refl, sym, ◌∙◌}
+use Rattle.full_names.proofs.Common.{ap, subst, arith, Ordering, Less, Equal, Greater, nat_cmp-IsAntisymmetric, slice_cmp-IsAntisymmetric, nat_cmp}
+use Rattle.full_names.proofs.Common.{ordering_then, slice_cmp, cases_Bool, nat_tests, tied_itself, In, SLASH, GENERATED_MARK, CellExt, ends_in}
+use Rattle.full_names.proofs.Common.{name_kind, kind_rank, name_cmp, element_cmp, path_length, AreWhole, IsLastName, path_text, node_names, IsLawful}
+use Rattle.full_names.proofs.Common.{name_cmp_total, is_marked}
+use Rattle.std.proofs.Common.{◌&&◌}
+use Rattle.std.specs.FinMap.{IsAntisymmetric}
 use Rattle.std.proofs.lemmas.List.{same_from_push}
-use Rattle.ext_model.specs.FiniteSets.Lists.{In}
-use Rattle.ext_model.specs.declared.names.TheConstants.{SLASH, GENERATED_MARK}
 use Rattle.ext_model.specs.declared.names.NameKind.TheVariants.{Global, Label, Generated}
-use Rattle.ext_model.specs.declared.records.CellExt.{CellExt}
-use Rattle.ext_model.specs.NodeNames.{is_node_name, is_naming_text, is_global, ends_in, name_kind}
-use Rattle.ext_model.specs.NameOrder.{kind_rank, name_cmp}
-use Rattle.ext_model.specs.NameParts.{element_cmp, path_length, AreWhole, IsLastName}
-use Rattle.ext_model.specs.Paths.{path_text, full_name}
-use Rattle.ext_model.specs.RecordNames.{node_names}
-use Rattle.ext_model.specs.Lawful.{IsLawful}
+use Rattle.ext_model.specs.NodeNames.{is_node_name, is_naming_text, is_global}
+use Rattle.ext_model.specs.Paths.{full_name}
 use Rattle.ext_model.proofs.NameKinds.{kinds_tell_global_names}
-use Rattle.ext_model.proofs.NameOrders.{name_cmp_total}
 use Rattle.ext_model.proofs.PartOrders.{paths_compare_by_parts, name_kind-path_text}
 use Rattle.ext_model.proofs.PathNames.{last_name-whole}
 use Rattle.ext_model.proofs.RecordNameLaws.{is_node_name-lawful, slashes_in-node_name}
-use Rattle.full_names.specs.OwnNames.{is_marked}
 
 -- what has the form of a name of a node may stand last in a path
 pub last_from_form : (name : List ℕ) → IsTrue (is_node_name name) → IsLastName name

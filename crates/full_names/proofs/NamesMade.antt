@@ -1,40 +1,20 @@
 -- What makes the full names of a tree: the parts, one from the other.
-use Rattle.std.proofs.Common.{◌≡◌, ℕ, ◌+◌, ◌<◌, ◌≤◌, Bool, true, false, nat_lt, cond, List, [], ◌++◌}
-use Rattle.std.proofs.Common.{length, length-append, get_or, Option, Some, None, map, refl, sym, ◌∙◌, ap, subst, arith}
-use Rattle.std.specs.Prelude.{slice_get, All}
-use Rattle.std.proofs.lemmas.Bool.Decides.{nat_tests}
-use Rattle.std.proofs.lemmas.List.{get_or_default, get_or-map, length-map}
+use Rattle.full_names.proofs.Common.{◌≡◌, ℕ, ◌+◌, ◌<◌, ◌≤◌, Bool, true, false, cond, List, [], ◌++◌, length, length-append, get_or, Option, Some}
+use Rattle.full_names.proofs.Common.{None, map, refl, sym, ◌∙◌, ap, subst, arith, slice_get, All, nat_tests, get_or_default, get_or-map, length-map}
+use Rattle.full_names.proofs.Common.{slice_get_within, In, In-map_source, slice_get-below, CellExt, MOST_NAME_BYTES, Element, AreRecords}
+use Rattle.full_names.proofs.Common.{ElementTree, TreeElement, IsTreeOfElements, OwnName, RecordNames, GlobalName, Place, NameKey, FullNames}
+use Rattle.full_names.proofs.Common.{IsNameFaultOf, IsFullNameList, place_name, AreNames, AreStandings, locals_of, AreAllNames, no_element, flat_at}
+use Rattle.full_names.proofs.Common.{AreOfRecords, AreReached, global_texts, AreGlobalNames, AreGlobalsOf, global_bytes, local_bytes, element_bytes}
+use Rattle.full_names.proofs.Common.{place_at, count_at, IsPlace, ArePlaces, IsFitPlace, AreKeys}
+use Rattle.std.proofs.Common.{nat_lt}
 use Rattle.std.proofs.lemmas.List.Sums.{get_or-le-sum_by}
-use Rattle.std.proofs.lemmas.Option.{slice_get_within}
-use Rattle.ext_model.specs.FiniteSets.Lists.{In}
-use Rattle.ext_model.proofs.FiniteSets.Members.{In-map_source}
 use Rattle.ext_model.proofs.FiniteSets.Searches.{All-from_In}
-use Rattle.ext_model.proofs.FiniteSets.Places.{slice_get-below}
-use Rattle.ext_model.specs.declared.records.CellExt.{CellExt}
 use Rattle.circuit_model.specs.declared.faults.FlatFault.TheVariants.{TooMany}
 use Rattle.circuit_model.specs.declared.limits.CircuitLimit.TheVariants.{Names}
-use Rattle.circuit_model.specs.declared.limits.TheConstants.{MOST_NAME_BYTES}
-use Rattle.circuit_model.specs.Elements.{Element, AreRecords, elements_of}
+use Rattle.circuit_model.specs.Elements.{elements_of}
 use Rattle.circuit_model.specs.Refusals.{name_bytes, past}
-use Rattle.element_tree.specs.declared.tree.ElementTree.{ElementTree}
-use Rattle.element_tree.specs.declared.tree.TreeElement.{TreeElement}
-use Rattle.element_tree.specs.Trees.{IsTreeOf, IsTreeOfElements}
-use Rattle.full_names.specs.declared.own_names.OwnName.{OwnName}
-use Rattle.full_names.specs.declared.own_names.RecordNames.{RecordNames}
-use Rattle.full_names.specs.declared.globals.GlobalName.{GlobalName}
-use Rattle.full_names.specs.declared.places.Place.{Place}
-use Rattle.full_names.specs.declared.keys.NameKey.{NameKey}
-use Rattle.full_names.specs.declared.names.FullNames.{FullNames}
-use Rattle.full_names.specs.NameLists.{HasNoNameFault, IsNameFaultOf, IsFullNameList}
-use Rattle.full_names.specs.Names.{place_name, AreNames}
-use Rattle.full_names.specs.Orders.{AreStandings}
-use Rattle.full_names.specs.OwnNames.{locals_of, AreAllNames}
-use Rattle.full_names.specs.Reached.{no_element, flat_at, AreOfRecords, AreReached}
-use Rattle.full_names.specs.Globals.{global_texts, AreGlobalNames}
-use Rattle.full_names.specs.GlobalOrigins.{AreGlobalsOf}
-use Rattle.full_names.specs.steps.ByteCounts.{global_bytes, local_bytes, element_bytes}
-use Rattle.full_names.specs.Places.{place_at, count_at, IsPlace, ArePlaces}
-use Rattle.full_names.specs.steps.Keys.{IsFitPlace, AreKeys}
+use Rattle.element_tree.specs.Trees.{IsTreeOf}
+use Rattle.full_names.specs.NameLists.{HasNoNameFault}
 use Rattle.full_names.proofs.GlobalOriginLaws.{globals_of_elements}
 use Rattle.full_names.proofs.KeyOrders.{NamesAreKnown}
 use Rattle.full_names.proofs.Lookups.{no_own}

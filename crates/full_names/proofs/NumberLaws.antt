@@ -1,40 +1,16 @@
 -- The full names of a tree in order: the global ones, and then those at the places that the keys tell.
-use Rattle.std.proofs.Common.{◌≡◌, ℕ, ◌+◌, ◌<◌, Bool, true, false, List, [], ◌++◌}
-use Rattle.std.proofs.Common.{length, get_or, Option, Some, None, map, inl, inr, sym, ◌∙◌, ap, subst}
-use Rattle.std.specs.Prelude.{slice_get, slice_index}
-use Rattle.std.specs.Cmp.{IsTotalOrder, bool_cmp_total}
-use Rattle.std.specs.declared.cmp.Ordering.TheVariants.{Less, Equal}
-use Rattle.std.specs.FinMap.{nat_cmp-IsAntisymmetric}
-use Rattle.std.specs.Ordering.{nat_cmp, bool_cmp, ordering_then}
-use Rattle.std.proofs.lemmas.Bool.{cases_Bool}
-use Rattle.std.proofs.lemmas.Cmp.{nat_cmp_total, on_total, then_total}
-use Rattle.ext_model.specs.FiniteSets.Lists.{In}
-use Rattle.ext_model.proofs.FiniteSets.Members.{In-append_cases, In-append_left, In-append_right, In-map, In-map_source, In-index}
-use Rattle.ext_model.proofs.FiniteSets.Orders.{IsSorted-pairs}
-use Rattle.ext_model.proofs.FiniteSets.Pairs.{Pairwise, Pairwise-append, Pairwise-map, Pairwise-from_AllPairs, Pairwise-within}
-use Rattle.ext_model.proofs.FiniteSets.Places.{In-slice_get, slice_get-In}
-use Rattle.ext_model.proofs.FiniteSets.Images.{In-flat_map}
-use Rattle.ext_model.specs.declared.records.CellExt.{CellExt}
-use Rattle.ext_model.specs.NameOrder.{name_cmp}
-use Rattle.ext_model.specs.Paths.{path_text}
-use Rattle.ext_model.specs.RecordNames.{names_of, node_names}
-use Rattle.circuit_model.specs.Elements.{Element, ids_of, AreRecords}
-use Rattle.circuit_model.specs.FullNames.{name_in, full_names, IsFullName, AreInNameOrder}
-use Rattle.element_tree.specs.declared.tree.ElementTree.{ElementTree}
-use Rattle.element_tree.specs.declared.tree.TreeElement.{TreeElement}
-use Rattle.element_tree.specs.Trees.{IsTreeOfElements}
-use Rattle.full_names.specs.declared.own_names.RecordNames.{RecordNames}
-use Rattle.full_names.specs.declared.globals.GlobalName.{GlobalName}
-use Rattle.full_names.specs.declared.keys.NameKey.{NameKey}
-use Rattle.full_names.specs.declared.places.Place.{Place}
-use Rattle.full_names.specs.NameLists.{IsFullNameList}
-use Rattle.full_names.specs.OwnNames.{is_marked, texts_of, locals_of}
-use Rattle.full_names.specs.Reached.{flat_at}
-use Rattle.full_names.specs.Globals.{global_texts}
-use Rattle.full_names.specs.GlobalOrigins.{AreGlobalsOf}
-use Rattle.full_names.specs.Places.{place_at, text_at, ArePlaces}
-use Rattle.full_names.specs.steps.Keys.{key_at, key_cmp, AreKeys}
-use Rattle.full_names.specs.Names.{ids_at, place_name}
+use Rattle.full_names.proofs.Common.{◌≡◌, ℕ, ◌+◌, ◌<◌, Bool, true, false, List, [], ◌++◌, length, get_or, Option, Some, None, map, inl, inr, sym}
+use Rattle.full_names.proofs.Common.{◌∙◌, ap, subst, slice_get, slice_index, IsTotalOrder, Less, Equal, nat_cmp-IsAntisymmetric, nat_cmp, bool_cmp}
+use Rattle.full_names.proofs.Common.{ordering_then, cases_Bool, nat_cmp_total, on_total, then_total, In, In-append_cases, In-append_left}
+use Rattle.full_names.proofs.Common.{In-append_right, In-map, In-map_source, In-index, IsSorted-pairs, Pairwise, In-slice_get, slice_get-In}
+use Rattle.full_names.proofs.Common.{In-flat_map, CellExt, name_cmp, path_text, names_of, node_names, Element, ids_of, AreRecords, name_in}
+use Rattle.full_names.proofs.Common.{full_names, AreInNameOrder, ElementTree, TreeElement, IsTreeOfElements, RecordNames, GlobalName, NameKey, Place}
+use Rattle.full_names.proofs.Common.{IsFullNameList, is_marked, texts_of, locals_of, flat_at, global_texts, AreGlobalsOf, place_at, text_at}
+use Rattle.full_names.proofs.Common.{ArePlaces, key_at, key_cmp, AreKeys, place_name}
+use Rattle.std.specs.Cmp.{bool_cmp_total}
+use Rattle.ext_model.proofs.FiniteSets.Pairs.{Pairwise-append, Pairwise-map, Pairwise-from_AllPairs, Pairwise-within}
+use Rattle.circuit_model.specs.FullNames.{IsFullName}
+use Rattle.full_names.specs.Names.{ids_at}
 use Rattle.full_names.proofs.GlobalLaws.{less_from_reverse}
 use Rattle.full_names.proofs.KeyOrders.{NamesAreKnown, IsLocalName, local_name_at, locals_are, keys_compare}
 use Rattle.full_names.proofs.ListOrders.{StandsBefore, pairwise_names, names_in_order}

@@ -1,11 +1,6 @@
 -- Where numbers stand in an order.
-use Rattle.std.proofs.Common.{◌≡◌, ℕ, ◌+◌, ◌<◌, ◌≤◌, List, length}
-use Rattle.std.proofs.Common.{inl, inr, sym, ◌∙◌, ap, subst, arith, get_or-set_same, get_or-set_other}
-use Rattle.std.specs.Prelude.{slice_index}
-use Rattle.std.proofs.Math.ListN.{set, length-set}
-use Rattle.std.proofs.lemmas.Bool.{cases_eq, cases_lt}
-use Rattle.ext_model.proofs.FiniteSets.Members.{In-index}
-use Rattle.full_names.specs.Orders.{StandsWhere, AreStandings}
+use Rattle.full_names.proofs.Common.{◌≡◌, ℕ, ◌+◌, ◌<◌, ◌≤◌, List, length, inl, inr, sym, ◌∙◌, ap, subst, arith, get_or-set_same, get_or-set_other}
+use Rattle.full_names.proofs.Common.{slice_index, set, length-set, cases_eq, cases_lt, In-index, StandsWhere, AreStandings}
 
 -- The numbers at the first so many places stand where the list says.
 pub record AreWritten (slots : List ℕ) (end : ℕ) (standings : List ℕ) : Type 0 where

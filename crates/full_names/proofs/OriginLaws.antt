@@ -1,40 +1,16 @@
 -- Where full names come from.
-use Rattle.std.proofs.Common.{◌≡◌, ℕ, zero, suc, ◌+◌, ◌<◌, Bool, true, false, List, [], ◌∷◌}
-use Rattle.std.proofs.Common.{◌++◌, length, get_or, Some, map, inl, inr, refl, sym, ◌∙◌, ap, subst, arith}
-use Rattle.std.specs.Prelude.{slice_get, find}
-use Rattle.std.specs.Option.{option_map}
-use Rattle.std.specs.List.{flat_map}
-use Rattle.std.proofs.lemmas.Bool.{cases_Bool}
-use Rattle.std.proofs.lemmas.List.{length-map, get_or-map}
-use Rattle.std.proofs.lemmas.Option.{slice_get-map, slice_get_within, get_or_from_slice_get, same_Some}
-use Rattle.std.proofs.lemmas.Slice.Eq.{bytes_eq-Decides}
-use Rattle.std.specs.Str.{bytes_eq}
-use Rattle.ext_model.specs.FiniteSets.Lists.{In, Distinct}
+use Rattle.full_names.proofs.Common.{◌≡◌, ℕ, zero, suc, ◌+◌, ◌<◌, Bool, true, false, List, [], ◌∷◌, ◌++◌, length, get_or, Some, map, inl, inr, refl}
+use Rattle.full_names.proofs.Common.{sym, ◌∙◌, ap, subst, arith, slice_get, option_map, flat_map, cases_Bool, length-map, get_or-map, slice_get-map}
+use Rattle.full_names.proofs.Common.{slice_get_within, get_or_from_slice_get, same_Some, bytes_eq-Decides, bytes_eq, In, Distinct, In-map}
+use Rattle.full_names.proofs.Common.{In-map_source, In-slice_get, slice_get-append_left, slice_get-append_right, In-flat_map, NodeRec, path_text}
+use Rattle.full_names.proofs.Common.{names_of, node_names, IsLawful, Element, ids_of, name_in, full_names, TreeElement, IsTreeOfElements, FullNames}
+use Rattle.full_names.proofs.Common.{OwnName, RecordNames, GlobalName, Place, IsFullNameList, is_marked, locals_of, flat_at, global_texts, place_at}
+use Rattle.full_names.proofs.Common.{texts_at, text_at, place_name, elements_in, AreNames, IsLocalNumber, ComesFrom}
+use Rattle.std.specs.Prelude.{find}
 use Rattle.ext_model.proofs.FiniteSets.Distincts.{Distinct-append_right, Distinct-append_apart}
-use Rattle.ext_model.proofs.FiniteSets.Members.{In-map, In-map_source}
-use Rattle.ext_model.proofs.FiniteSets.Places.{In-slice_get, slice_get-append_left, slice_get-append_right}
-use Rattle.ext_model.proofs.FiniteSets.Images.{In-flat_map}
 use Rattle.ext_model.proofs.FiniteSets.Searches.{In-from_list_any, list_any-of_In, find-at}
-use Rattle.ext_model.specs.declared.records.NodeRec.{NodeRec}
-use Rattle.ext_model.specs.Paths.{path_text}
-use Rattle.ext_model.specs.RecordNames.{names_of, node_names}
-use Rattle.ext_model.specs.Lawful.{IsLawful}
-use Rattle.circuit_model.specs.Elements.{Element, ids_of}
-use Rattle.circuit_model.specs.FullNames.{name_in, full_names}
 use Rattle.circuit_model.specs.FlatNodes.{is_among, gives_name}
-use Rattle.element_tree.specs.declared.tree.TreeElement.{TreeElement}
-use Rattle.element_tree.specs.Trees.{IsTreeOfElements}
-use Rattle.full_names.specs.declared.names.FullNames.{FullNames}
-use Rattle.full_names.specs.declared.own_names.OwnName.{OwnName}
-use Rattle.full_names.specs.declared.own_names.RecordNames.{RecordNames}
-use Rattle.full_names.specs.declared.globals.GlobalName.{GlobalName}
-use Rattle.full_names.specs.declared.places.Place.{Place}
-use Rattle.full_names.specs.NameLists.{IsFullNameList}
-use Rattle.full_names.specs.OwnNames.{is_marked, locals_of}
-use Rattle.full_names.specs.Reached.{flat_at}
-use Rattle.full_names.specs.Globals.{global_texts}
-use Rattle.full_names.specs.Places.{place_at, texts_at, text_at}
-use Rattle.full_names.specs.Names.{place_name, local_names, elements_in, AreNames, IsLocalNumber, ComesFrom}
+use Rattle.full_names.specs.Names.{local_names}
 use Rattle.full_names.proofs.KeyOrders.{IsLocalName, local_name_at, locals_are}
 use Rattle.full_names.proofs.NameForms.{last_name_of, full_name-marked, full_name-local, one_path, path_not_global}
 use Rattle.full_names.proofs.NumberLaws.{place_name_is}

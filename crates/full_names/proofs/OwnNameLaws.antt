@@ -1,27 +1,16 @@
 -- The names of a record, one node's after the other's, and then in order.
-use Rattle.std.proofs.Common.{◌≡◌, ◌⊎◌, ℕ, ◌+◌, ◌<◌, ◌≤◌, Bool, true, false, List, [], ◌∷◌, ◌++◌, Some, filter, length, get_or, take}
-use Rattle.std.proofs.Common.{inl, inr, refl, sym, ◌∙◌, ap, subst, arith, length-append}
-use Rattle.std.specs.Prelude.{slice_get, IsPermutation, IsSorted}
-use Rattle.std.specs.List.{flat_map}
-use Rattle.std.specs.declared.cmp.Ordering.{Ordering}
-use Rattle.std.specs.declared.cmp.Ordering.TheVariants.{Less, Equal, Greater}
-use Rattle.std.specs.Ordering.{nat_cmp, ordering_then, is_lt}
-use Rattle.std.specs.Cmp.Lexicographic.{slice_cmp}
-use Rattle.std.proofs.lemmas.Bool.{cases_lt}
-use Rattle.std.proofs.lemmas.List.{take_more, append-nil, append_assoc, take_all}
+use Rattle.full_names.proofs.Common.{◌≡◌, ◌⊎◌, ℕ, ◌+◌, ◌<◌, ◌≤◌, Bool, true, false, List, [], ◌∷◌, ◌++◌, Some, filter, length, get_or, take, inl}
+use Rattle.full_names.proofs.Common.{inr, refl, sym, ◌∙◌, ap, subst, arith, length-append, slice_get, IsPermutation, IsSorted, flat_map, Ordering}
+use Rattle.full_names.proofs.Common.{Less, Equal, Greater, nat_cmp, ordering_then, is_lt, slice_cmp, cases_lt, take_more, append_assoc, take_all}
+use Rattle.full_names.proofs.Common.{IsPermutation-sym, slice_get_read, slice_get_within, same_Some, In, In-push_cases, In-permutation}
+use Rattle.full_names.proofs.Common.{In-append_left, In-append_right, slice_get-append_left, NodeRec, CellExt, names_of, node_names, OwnName}
+use Rattle.full_names.proofs.Common.{RecordNames, is_wanted, is_reached, texts_of, AreOwnNames, HasOwnNames, AreAllNames}
+use Rattle.std.proofs.lemmas.List.{append-nil}
 use Rattle.std.proofs.lemmas.List.Concat.{flat_map-append}
 use Rattle.std.proofs.lemmas.List.Elements.{filter-append}
-use Rattle.std.proofs.lemmas.List.Sorted.{IsPermutation-map, IsPermutation-sym}
-use Rattle.std.proofs.lemmas.Option.{slice_get_read, slice_get_within, same_Some}
-use Rattle.ext_model.specs.FiniteSets.Lists.{In}
-use Rattle.ext_model.proofs.FiniteSets.Members.{In-push_cases, In-permutation, In-append_left, In-append_right}
-use Rattle.ext_model.proofs.FiniteSets.Places.{slice_get-append_left, slice_get-push_new}
-use Rattle.ext_model.specs.declared.records.NodeRec.{NodeRec}
-use Rattle.ext_model.specs.declared.records.CellExt.{CellExt}
-use Rattle.ext_model.specs.RecordNames.{names_of, node_names}
-use Rattle.full_names.specs.declared.own_names.OwnName.{OwnName}
-use Rattle.full_names.specs.declared.own_names.RecordNames.{RecordNames}
-use Rattle.full_names.specs.OwnNames.{is_wanted, is_reached, texts_of, IsOfNode, AreOwnNames, AreRecordNames, HasOwnNames, AreAllNames}
+use Rattle.std.proofs.lemmas.List.Sorted.{IsPermutation-map}
+use Rattle.ext_model.proofs.FiniteSets.Places.{slice_get-push_new}
+use Rattle.full_names.specs.OwnNames.{IsOfNode, AreRecordNames}
 use Rattle.full_names.proofs.Lookups.{sorted_map}
 
 -- the last name of a longer list

@@ -1,13 +1,8 @@
 -- Paths written from the root on.
-use Rattle.std.proofs.Common.{◌≡◌, ℕ, cond, List, [], ◌∷◌, ◌++◌, Result, Ok, Err, refl, sym, ◌∙◌, ap}
+use Rattle.full_names.proofs.Common.{◌≡◌, ℕ, cond, List, [], ◌∷◌, ◌++◌, Result, Ok, Err, refl, sym, ◌∙◌, ap, append_assoc, SLASH, CellExt, path_text}
+use Rattle.full_names.proofs.Common.{ids_of, ElementTree, path_front}
 use Rattle.std.specs.Result.{OnOk, is_ok}
-use Rattle.std.proofs.lemmas.List.{append_assoc}
-use Rattle.ext_model.specs.declared.names.TheConstants.{SLASH}
-use Rattle.ext_model.specs.declared.records.CellExt.{CellExt}
-use Rattle.ext_model.specs.Paths.{path_text}
-use Rattle.circuit_model.specs.Elements.{ids_of}
-use Rattle.element_tree.specs.declared.tree.ElementTree.{ElementTree}
-use Rattle.full_names.specs.steps.Paths.{path_front, LeadsFrom, EndsInPath}
+use Rattle.full_names.specs.steps.Paths.{LeadsFrom, EndsInPath}
 
 -- one more name behind those of a path
 pub path_front_push : (ids : List (List ℕ)) (id : List ℕ) → path_front (ids ++ id ∷ []) ≡ path_front ids ++ (id ++ SLASH ∷ [])

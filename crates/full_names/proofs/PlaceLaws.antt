@@ -1,12 +1,9 @@
 -- The names of the first so many elements, one element's behind those of the one before.
-use Rattle.std.proofs.Common.{◌≡◌, ℕ, ◌+◌, ◌-◌, ◌<◌, ◌≤◌, List, [], ◌∷◌, ◌++◌, length}
-use Rattle.std.proofs.Common.{get_or, inl, inr, refl, sym, ◌∙◌, ap, subst, arith, length-append}
-use Rattle.std.specs.Prelude.{slice_index}
-use Rattle.std.proofs.lemmas.Bool.{cases_lt}
-use Rattle.std.proofs.lemmas.List.{get_or_append_left, get_or-append_right, get_or_push, length_push, append_assoc}
+use Rattle.full_names.proofs.Common.{◌≡◌, ℕ, ◌+◌, ◌-◌, ◌<◌, ◌≤◌, List, [], ◌∷◌, ◌++◌, length, get_or, inl, inr, refl, sym, ◌∙◌, ap, subst, arith}
+use Rattle.full_names.proofs.Common.{length-append, slice_index, cases_lt, get_or_append_left, get_or_push, append_assoc, Place, no_place, place_at}
+use Rattle.full_names.proofs.Common.{places_of, IsPlace, StandsAt, ArePlacesBelow}
+use Rattle.std.proofs.lemmas.List.{get_or-append_right, length_push}
 use Rattle.std.proofs.lemmas.List.FromFn.{get_or-map-range_with_len, length-map-range_with_len, map-range_with_len_more}
-use Rattle.full_names.specs.declared.places.Place.{Place}
-use Rattle.full_names.specs.Places.{no_place, place_at, places_of, IsPlace, StandsAt, ArePlacesBelow}
 
 -- one more name of an element
 pub places_push : (number own : ℕ) (before now later : List Place) → now ≡ before ++ places_of number own

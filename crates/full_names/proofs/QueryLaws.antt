@@ -1,33 +1,14 @@
 -- What the parts of the names of a tree tell of a record, of a name and of a number.
-use Rattle.std.proofs.Common.{◌≡◌, ℕ, ◌+◌, ◌<◌, true, false, not, List, []}
-use Rattle.std.proofs.Common.{◌++◌, length, get_or, Some, refl, sym, ◌∙◌, ap, subst, arith}
-use Rattle.std.specs.Prelude.{slice_get, slice_index, vec_len}
-use Rattle.std.specs.Option.{option_map}
-use Rattle.std.proofs.lemmas.List.{length-map}
-use Rattle.std.proofs.lemmas.Option.{slice_get-map, slice_get-get_or, slice_get_within, get_or_from_slice_get, same_Some}
-use Rattle.ext_model.specs.FiniteSets.Lists.{In}
-use Rattle.ext_model.proofs.FiniteSets.Places.{In-slice_get, slice_get-In, slice_get-append_left, slice_get-append_right}
-use Rattle.ext_model.specs.declared.records.CellExt.{CellExt}
-use Rattle.ext_model.specs.Paths.{path_text}
-use Rattle.ext_model.specs.RecordNames.{node_names}
-use Rattle.ext_model.specs.Lawful.{IsLawful}
-use Rattle.circuit_model.specs.Elements.{Element, ids_of}
-use Rattle.circuit_model.specs.FullNames.{name_in}
-use Rattle.element_tree.specs.declared.tree.TreeElement.{TreeElement}
-use Rattle.element_tree.specs.Trees.{IsTreeOfElements}
-use Rattle.full_names.specs.declared.names.FullNames.{FullNames}
+use Rattle.full_names.proofs.Common.{◌≡◌, ℕ, ◌+◌, ◌<◌, true, false, not, List, [], ◌++◌, length, get_or, Some, refl, sym, ◌∙◌, ap, subst, arith}
+use Rattle.full_names.proofs.Common.{slice_get, slice_index, vec_len, option_map, length-map, slice_get-map, slice_get-get_or, slice_get_within}
+use Rattle.full_names.proofs.Common.{get_or_from_slice_get, same_Some, In, In-slice_get, slice_get-In, slice_get-append_left, slice_get-append_right}
+use Rattle.full_names.proofs.Common.{CellExt, path_text, node_names, IsLawful, Element, ids_of, name_in, TreeElement, IsTreeOfElements, FullNames}
+use Rattle.full_names.proofs.Common.{OwnName, RecordNames, GlobalName, IsFullNameList, is_marked, texts_of, locals_of, AreOwnNames, HasOwnNames}
+use Rattle.full_names.proofs.Common.{no_element, flat_at, global_texts, place_at, texts_at, text_at, StandsAt, StandsWhere, elements_in, place_name}
+use Rattle.full_names.proofs.Common.{AreNames, IsSpotOf}
 use Rattle.full_names.specs.declared.names.Spot.TheVariants.{Local, Global}
-use Rattle.full_names.specs.declared.own_names.OwnName.{OwnName}
-use Rattle.full_names.specs.declared.own_names.RecordNames.{RecordNames}
-use Rattle.full_names.specs.declared.globals.GlobalName.{GlobalName}
-use Rattle.full_names.specs.NameLists.{IsFullNameList}
-use Rattle.full_names.specs.OwnNames.{is_marked, texts_of, locals_of, AreOwnNames, HasOwnNames}
-use Rattle.full_names.specs.Reached.{no_element, flat_at}
-use Rattle.full_names.specs.Globals.{global_texts}
-use Rattle.full_names.specs.Places.{place_at, texts_at, text_at, StandsAt}
-use Rattle.full_names.specs.Orders.{StandsWhere}
-use Rattle.full_names.specs.Names.{elements_in, place_name, local_names, AreNames, IsReached}
-use Rattle.full_names.specs.Names.{IsSpotOf, LacksName, IsElement}
+use Rattle.full_names.specs.Names.{local_names, IsReached}
+use Rattle.full_names.specs.Names.{LacksName, IsElement}
 use Rattle.full_names.proofs.ListOrders.{same_in_order}
 use Rattle.full_names.proofs.NameForms.{global_name_of, full_name-marked, full_name-local}
 use Rattle.full_names.proofs.NamesMade.{tree_under}

@@ -1,15 +1,9 @@
 -- The records of the first so many elements.
-use Rattle.std.proofs.Common.{◌≡◌, ℕ, ◌+◌, ◌<◌, Bool, true, false, List, [], ◌∷◌}
-use Rattle.std.proofs.Common.{◌++◌, length, inl, inr, sym, ◌∙◌, ap, subst, arith}
-use Rattle.std.proofs.Common.{get_or-set_same, get_or-set_other}
-use Rattle.std.proofs.Math.ListN.{set, replicate}
-use Rattle.std.proofs.lemmas.Bool.{false≢true, cases_eq, cases_lt}
+use Rattle.full_names.proofs.Common.{◌≡◌, ℕ, ◌+◌, ◌<◌, Bool, true, false, List, [], ◌∷◌, ◌++◌, length, inl, inr, sym, ◌∙◌, ap, subst, arith}
+use Rattle.full_names.proofs.Common.{get_or-set_same, get_or-set_other, set, false≢true, cases_eq, cases_lt, In, In-push_cases, In-append_left}
+use Rattle.full_names.proofs.Common.{In-push, TreeElement, is_reached, flat_at, AreReachedBelow}
+use Rattle.std.proofs.Math.ListN.{replicate}
 use Rattle.std.proofs.lemmas.List.{get_or-replicate, get_or_past, length-replicate}
-use Rattle.ext_model.specs.FiniteSets.Lists.{In}
-use Rattle.ext_model.proofs.FiniteSets.Members.{In-push_cases, In-append_left, In-push}
-use Rattle.element_tree.specs.declared.tree.TreeElement.{TreeElement}
-use Rattle.full_names.specs.OwnNames.{is_reached}
-use Rattle.full_names.specs.Reached.{flat_at, AreReachedBelow}
 
 -- One of the first elements is of the record.
 pub record IsListed (flats : List TreeElement) (end : ℕ) (firsts : List ℕ) (cell : ℕ) : Type 0 where

@@ -1,15 +1,7 @@
 -- What is read of an element's record.
-use Rattle.std.proofs.Common.{◌≡◌, ℕ, ◌<◌, List, [], Option, Some, None, length, get_or, refl, sym, ◌∙◌, ap, subst, arith}
-use Rattle.std.specs.Prelude.{slice_get, vec_len}
-use Rattle.std.proofs.lemmas.List.{length-map, get_or-map}
-use Rattle.std.proofs.lemmas.Option.{slice_get_read}
-use Rattle.element_tree.specs.declared.tree.TreeElement.{TreeElement}
-use Rattle.full_names.specs.declared.own_names.OwnName.{OwnName}
-use Rattle.full_names.specs.declared.own_names.RecordNames.{RecordNames}
-use Rattle.full_names.specs.OwnNames.{locals_of, globals_of}
-use Rattle.full_names.specs.Reached.{no_element, flat_at, AreOfRecords}
-use Rattle.full_names.specs.declared.places.Place.{Place}
-use Rattle.full_names.specs.Places.{count_at, text_at}
+use Rattle.full_names.proofs.Common.{◌≡◌, ℕ, ◌<◌, List, [], Option, Some, None, length, get_or, refl, sym, ◌∙◌, ap, subst, arith, slice_get, vec_len}
+use Rattle.full_names.proofs.Common.{length-map, get_or-map, slice_get_read, TreeElement, OwnName, RecordNames, locals_of, globals_of, no_element}
+use Rattle.full_names.proofs.Common.{flat_at, AreOfRecords, Place, count_at, text_at}
 
 pub locals_known : (records : List RecordNames) (cell : ℕ) (own : RecordNames) → slice_get records cell ≡ Some own
     → locals_of records cell ≡ own.locals.items

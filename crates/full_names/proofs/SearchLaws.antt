@@ -1,21 +1,11 @@
 -- What a binary search among texts in order tells.
-use Rattle.std.proofs.Common.{◌≡◌, ℕ, inl, inr, List, Option, Some, Result}
-use Rattle.std.proofs.Common.{Ok, Err, length, map, get_or, sym, ◌∙◌, ap, subst, arith}
-use Rattle.std.specs.Prelude.{slice_get, IfSome, IfNone}
-use Rattle.std.specs.Cmp.{IsTotalOrder}
+use Rattle.full_names.proofs.Common.{◌≡◌, ℕ, inl, inr, List, Option, Some, Result, Ok, Err, length, map, get_or, sym, ◌∙◌, ap, subst, arith}
+use Rattle.full_names.proofs.Common.{slice_get, IsTotalOrder, option_map, is_lt, Ordering, Less, Equal, Greater, cases_lt, tied_itself}
+use Rattle.full_names.proofs.Common.{slice_get-map, get_or_from_slice_get, In, In-map_source, In-index, slice_get-below}
+use Rattle.std.specs.Prelude.{IfSome, IfNone}
 use Rattle.std.specs.List.Sorted.{IsBinarySearchResult, IsSearchInRange, IsSorted}
-use Rattle.std.specs.Option.{option_map}
-use Rattle.std.specs.Ordering.{is_lt}
 use Rattle.std.specs.Result.{result_ok}
-use Rattle.std.specs.declared.cmp.Ordering.{Ordering}
-use Rattle.std.specs.declared.cmp.Ordering.TheVariants.{Less, Equal, Greater}
-use Rattle.std.proofs.lemmas.Bool.{cases_lt}
-use Rattle.std.proofs.lemmas.Cmp.{tied_itself}
 use Rattle.std.proofs.lemmas.List.Sorted.{searchable_from_sorted}
-use Rattle.std.proofs.lemmas.Option.{slice_get-map, get_or_from_slice_get}
-use Rattle.ext_model.specs.FiniteSets.Lists.{In}
-use Rattle.ext_model.proofs.FiniteSets.Members.{In-map_source, In-index}
-use Rattle.ext_model.proofs.FiniteSets.Places.{slice_get-below}
 use Rattle.full_names.proofs.Lookups.{sorted_unmap}
 
 -- Of things that are in the order of their texts, an order that tells texts apart.

@@ -1,24 +1,11 @@
 -- The texts of a record's own names, in order.
-use Rattle.std.proofs.Common.{◌≡◌, ◌≢◌, ℕ, ◌<◌, Bool, true, List}
-use Rattle.std.proofs.Common.{length, get_or, filter, inl, inr, sym, ◌∙◌, ap, arith}
+use Rattle.full_names.proofs.Common.{◌≡◌, ◌≢◌, ℕ, ◌<◌, Bool, true, List, length, get_or, filter, inl, inr, sym, ◌∙◌, ap, arith, Less, Equal, Greater}
+use Rattle.full_names.proofs.Common.{nat_cmp-IsAntisymmetric, slice_cmp-IsAntisymmetric, nat_cmp, ordering_reverse, slice_cmp, cases_lt, nat_tests}
+use Rattle.full_names.proofs.Common.{nat_list_cmp_total, tied_itself, IsPermutation-sym, In, Distinct, In-permutation, In-filter, In-filter_source}
+use Rattle.full_names.proofs.Common.{In-filter_passes, IsSorted-pairs, AllPairs-permutation, CellExt, node_names, OwnName, is_wanted, texts_of}
+use Rattle.full_names.proofs.Common.{AreOwnNames}
 use Rattle.std.specs.Prelude.{AllPairs}
-use Rattle.std.specs.declared.cmp.Ordering.TheVariants.{Less, Equal, Greater}
-use Rattle.std.specs.FinMap.{nat_cmp-IsAntisymmetric, slice_cmp-IsAntisymmetric}
-use Rattle.std.specs.Ordering.{nat_cmp, ordering_reverse}
-use Rattle.std.specs.Cmp.Lexicographic.{slice_cmp}
-use Rattle.std.proofs.lemmas.Bool.{cases_lt}
-use Rattle.std.proofs.lemmas.Bool.Decides.{nat_tests}
-use Rattle.std.proofs.lemmas.Cmp.{nat_list_cmp_total, tied_itself}
-use Rattle.std.proofs.lemmas.List.Sorted.{IsPermutation-sym}
-use Rattle.ext_model.specs.FiniteSets.Lists.{In, Distinct}
 use Rattle.ext_model.proofs.FiniteSets.Distincts.{Distinct-filter, Distinct-places}
-use Rattle.ext_model.proofs.FiniteSets.Members.{In-permutation, In-filter, In-filter_source, In-filter_passes}
-use Rattle.ext_model.proofs.FiniteSets.Orders.{IsSorted-pairs}
-use Rattle.ext_model.proofs.FiniteSets.Pairs.{AllPairs-permutation}
-use Rattle.ext_model.specs.declared.records.CellExt.{CellExt}
-use Rattle.ext_model.specs.RecordNames.{node_names}
-use Rattle.full_names.specs.declared.own_names.OwnName.{OwnName}
-use Rattle.full_names.specs.OwnNames.{is_wanted, texts_of, AreOwnNames}
 use Rattle.full_names.proofs.GlobalLaws.{less_from_reverse}
 
 less_is : (m n : ℕ) → m < n → nat_cmp m n ≡ Less

@@ -1,17 +1,9 @@
 -- What a tree tells of its elements, by their numbers.
-use Rattle.std.proofs.Common.{◌≡◌, ◌≢◌, ℕ, ◌<◌, List, [], ◌∷◌, ◌++◌, Some}
-use Rattle.std.proofs.Common.{length, map, inl, inr, sym, ◌∙◌, ap, subst, arith}
-use Rattle.std.specs.Prelude.{slice_get}
-use Rattle.std.proofs.lemmas.List.{map-append, nil_from_length}
-use Rattle.std.proofs.lemmas.Option.{slice_get-get_or, slice_get_within, same_Some}
-use Rattle.ext_model.proofs.FiniteSets.Places.{slice_get-below}
-use Rattle.ext_model.specs.declared.records.UseRec.{UseRec}
-use Rattle.ext_model.specs.declared.records.CellExt.{CellExt}
-use Rattle.circuit_model.specs.Elements.{Element, ids_of}
-use Rattle.element_tree.specs.declared.tree.TreeElement.{TreeElement}
-use Rattle.element_tree.specs.declared.tree.ElementTree.{ElementTree}
-use Rattle.element_tree.specs.Trees.{AreAt, StandsFor, StandsIn, IsTreeOfElements}
-use Rattle.full_names.specs.Reached.{no_element, flat_at}
+use Rattle.full_names.proofs.Common.{◌≡◌, ◌≢◌, ℕ, ◌<◌, List, [], ◌∷◌, ◌++◌, Some, length, map, inl, inr, sym, ◌∙◌, ap, subst, arith, slice_get}
+use Rattle.full_names.proofs.Common.{map-append, slice_get-get_or, slice_get_within, same_Some, slice_get-below, UseRec, CellExt, Element, ids_of}
+use Rattle.full_names.proofs.Common.{TreeElement, ElementTree, StandsFor, IsTreeOfElements, no_element, flat_at}
+use Rattle.std.proofs.lemmas.List.{nil_from_length}
+use Rattle.element_tree.specs.Trees.{AreAt, StandsIn}
 use Rattle.full_names.specs.steps.Paths.{IsTree, IsAtRoot, LeadsFrom}
 
 module _ (exts : List CellExt) (elements : List Element) (tree : ElementTree) (is : IsTreeOfElements exts elements tree) where

@@ -1,21 +1,10 @@
 -- The elements of a tree of lawful records: their records, and the names that lead to them.
-use Rattle.std.proofs.Common.{◌≡◌, ℕ, zero, suc, ◌<◌, List, [], ◌∷◌}
-use Rattle.std.proofs.Common.{◌++◌, Some, map, inl, inr, sym, ◌∙◌, ap, subst, arith}
-use Rattle.std.specs.Prelude.{slice_get}
-use Rattle.std.proofs.lemmas.List.{map-append}
-use Rattle.std.proofs.lemmas.Option.{slice_get-map}
-use Rattle.std.specs.Option.{option_map}
+use Rattle.full_names.proofs.Common.{◌≡◌, ℕ, zero, suc, ◌<◌, List, [], ◌∷◌, ◌++◌, Some, map, inl, inr, sym, ◌∙◌, ap, subst, arith, slice_get}
+use Rattle.full_names.proofs.Common.{map-append, slice_get-map, option_map, UseRec, CellExt, slashes_in, AreWhole, IsLawful, Element, ids_of}
+use Rattle.full_names.proofs.Common.{AreRecords, ElementTree, IsTreeOfElements, flat_at}
 use Rattle.ext_model.proofs.FiniteSets.Places.{one_place, All-slice_get}
-use Rattle.ext_model.specs.declared.records.UseRec.{UseRec}
-use Rattle.ext_model.specs.declared.records.CellExt.{CellExt}
-use Rattle.ext_model.specs.NodeNames.{slashes_in}
-use Rattle.ext_model.specs.NameParts.{AreWhole}
-use Rattle.ext_model.specs.Lawful.{IsLawful, IsLawfulUse}
+use Rattle.ext_model.specs.Lawful.{IsLawfulUse}
 use Rattle.ext_model.proofs.RecordNameLaws.{slashes_in-node_name}
-use Rattle.circuit_model.specs.Elements.{Element, ids_of, AreRecords}
-use Rattle.element_tree.specs.declared.tree.ElementTree.{ElementTree}
-use Rattle.element_tree.specs.Trees.{IsTreeOfElements}
-use Rattle.full_names.specs.Reached.{flat_at}
 use Rattle.full_names.proofs.TreeLaws.{are_at, stands_for}
 
 AreWhole-push : (ids : List (List ℕ)) (id : List ℕ) → AreWhole ids → slashes_in id ≡ 0 → AreWhole (ids ++ id ∷ [])

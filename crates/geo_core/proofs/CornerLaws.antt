@@ -1,18 +1,14 @@
 -- Pieces sorted by their lower left squares.
-use Rattle.std.proofs.Common.{◌≡◌, ℤ, pos, ◌<ℤ◌, ◌≤ℤ◌, List, get_or, Ordering, inl, inr, refl, arith}
-use Rattle.std.specs.Prelude.{All, AllPairs}
+use Rattle.geo_core.proofs.Common.{◌≡◌, ℤ, pos, List, get_or, inl, inr, refl, arith, AllPairs, ints, Square, Rect, Piece, AreDisjoint, Covers}
+use Rattle.geo_core.proofs.Common.{IsProper, StandsBefore}
+use Rattle.std.proofs.Common.{◌<ℤ◌, ◌≤ℤ◌, Ordering}
+use Rattle.std.specs.Prelude.{All}
 use Rattle.std.specs.Cmp.{IsTotalOrder}
 use Rattle.std.specs.List.Sorted.{IsSortedByKey}
 use Rattle.std.specs.Ordering.{int_cmp, ordering_then}
 use Rattle.std.proofs.lemmas.Cmp.{int_cmp_total, on_total, then_total}
-use Rattle.std.proofs.lemmas.Int.{ints, by_lt_z}
+use Rattle.std.proofs.lemmas.Int.{by_lt_z}
 use Rattle.finite_sets.proofs.Orders.{int_cmp-not_less, ordering_then-not_less, IsSortedByKey-pairs}
-use Rattle.geo_core.specs.declared.squares.Square.{Square}
-use Rattle.geo_core.specs.declared.squares.Rect.{Rect}
-use Rattle.geo_core.specs.declared.squares.Piece.{Piece}
-use Rattle.geo_core.specs.Areas.{AreDisjoint}
-use Rattle.geo_core.specs.Covering.{Covers, IsProper}
-use Rattle.geo_core.specs.Strips.{StandsBefore}
 
 -- what stands past the end of a list of pieces
 abbrev pub no_piece : Piece

@@ -1,11 +1,9 @@
 -- The tests of covering and of having a square and the facts say the same, what a common part covers, and what lies within what.
-use Rattle.std.proofs.Common.{◌≡◌, true, ◌≤ℤ◌, ◌<ℤ◌, arith, pos, ◌-ℤ◌}
-use Rattle.std.proofs.lemmas.Int.{ints, clamps}
+use Rattle.geo_core.proofs.Common.{◌≡◌, arith, pos, ◌-ℤ◌, ints, clamps, Square, Rect, common_rect, joined_rect, LiesWithin, Covers, IsProper}
+use Rattle.std.proofs.Common.{true, ◌≤ℤ◌, ◌<ℤ◌}
 use Rattle.finite_sets.proofs.Orders.{at_most-trans, equal_from_both}
-use Rattle.geo_core.specs.declared.squares.Square.{Square}
-use Rattle.geo_core.specs.declared.squares.Rect.{Rect}
-use Rattle.geo_core.specs.Areas.{common_rect, corner_of, has_square, joined_rect, widened, LiesWithin}
-use Rattle.geo_core.specs.Covering.{Covers, is_covered, IsProper}
+use Rattle.geo_core.specs.Areas.{corner_of, has_square, widened}
+use Rattle.geo_core.specs.Covering.{is_covered}
 use Rattle.geo_core.proofs.SquareLaws.{rect_is}
 
 -- what passes the test is covered

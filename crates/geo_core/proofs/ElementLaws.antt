@@ -1,14 +1,13 @@
 -- The elements of a grid by their place in its list.
-use Rattle.std.proofs.Common.{◌≡◌, inl, inr, ℕ, zero, suc, ◌+◌, ◌-◌, ◌*◌, ◌/◌, ◌%◌, ◌<◌, ◌≤◌, ℤ, pos, ◌+ℤ◌, ◌-ℤ◌, ◌*ℤ◌, Bool}
-use Rattle.std.proofs.Common.{true, false, cond, List, [], ◌∷◌, ◌++◌, map, length, get_or, Some, refl, sym, ◌∙◌, ap, arith}
+use Rattle.geo_core.proofs.Common.{◌≡◌, inl, inr, ℕ, ◌*◌, ◌/◌, ◌%◌, ◌<◌, ℤ, pos, ◌+ℤ◌, ◌-ℤ◌, List, length, get_or, Some, refl, sym, ◌∙◌, ap, arith}
+use Rattle.geo_core.proofs.Common.{to_z, of_z, w64, ints, Grid, indices, elements_of, IsLawful}
+use Rattle.std.proofs.Common.{zero, suc, ◌+◌, ◌-◌, ◌≤◌, ◌*ℤ◌, Bool}
+use Rattle.std.proofs.Common.{true, false, cond, [], ◌∷◌, ◌++◌, map}
 use Rattle.std.specs.Prelude.{slice_get, int_le}
-use Rattle.std.proofs.Common.{to_z, of_z}
-use Rattle.std.specs.Int.{w64}
 use Rattle.std.specs.Option.{option_map}
 use Rattle.std.proofs.Math.ListN.{get_or-map}
 use Rattle.std.proofs.Math.Nat.{div-lt_iff_lt-mul, div-le_self, div-add-mod, mod-lt, mod-add-div}
 use Rattle.std.proofs.lemmas.Bool.{cases_lt}
-use Rattle.std.proofs.lemmas.Int.{ints}
 use Rattle.std.proofs.lemmas.List.{length-map, get_or_default, get_or_append_left, get_or-append_right}
 use Rattle.std.proofs.lemmas.Nat.{mul-add-lt}
 use Rattle.std.proofs.lemmas.Option.{slice_get-map, slice_get-get_or, slice_get_within, get_or_from_slice_get}
@@ -17,8 +16,7 @@ use Rattle.finite_sets.specs.Range.{extent, integers_from, integer_range, pairs_
 use Rattle.finite_sets.proofs.Distincts.{Distinct-map, Distinct-places}
 use Rattle.finite_sets.proofs.Ranges.{extent_up, length-integer_range, length-pairs_of, Lists-rectangle}
 use Rattle.geo_core.specs.declared.limits.TheConstants.{MOST_ELEMENTS}
-use Rattle.geo_core.specs.declared.grids.Grid.{Grid}
-use Rattle.geo_core.specs.Elements.{indices, nth_index, element_of, elements_of, IsLawful}
+use Rattle.geo_core.specs.Elements.{nth_index, element_of}
 
 -- how many columns the grid has
 abbrev pub columns : Grid → ℕ

@@ -1,16 +1,9 @@
 -- Transforms on squares and rectangles: what each orientation does, and that transforms follow and undo each other.
-use Rattle.std.proofs.Common.{◌≡◌, inl, inr, ◌∙◌, arith, refl, sym, ap, ℤ, pos, neg_ℤ, ◌+ℤ◌, ◌-ℤ◌, Bool, cond}
-use Rattle.std.proofs.lemmas.Int.{ints, clamps}
-use Rattle.std.specs.Int.{int_min}
-use Rattle.geo_core.specs.declared.orients.Orient.{Orient}
-use Rattle.geo_core.specs.declared.orients.Orient.TheVariants.{R0, R90, R180, R270, Mx, My, Mx90, My90}
-use Rattle.geo_core.specs.declared.squares.Square.{Square}
-use Rattle.geo_core.specs.declared.squares.Rect.{Rect}
-use Rattle.geo_core.specs.declared.transforms.Transform.{Transform}
+use Rattle.geo_core.proofs.Common.{◌≡◌, inl, inr, ◌∙◌, arith, refl, sym, ap, ℤ, pos, ◌+ℤ◌, ◌-ℤ◌, ints, clamps, int_min, Orient, R0, R90, R180, R270}
+use Rattle.geo_core.proofs.Common.{Mx, My, Mx90, My90, Square, Rect, Transform, Covers, AreEdgeNeighbours}
+use Rattle.std.proofs.Common.{neg_ℤ, Bool, cond}
 use Rattle.geo_core.specs.Orientation.{orient_then, orient_inverse}
-use Rattle.geo_core.specs.Covering.{Covers}
 use Rattle.geo_core.specs.Images.{point_x, point_y, turns_x, turns_y, image, rect_image, composed, inverted, CentreGoesTo}
-use Rattle.geo_core.specs.Neighbours.{AreEdgeNeighbours}
 use Rattle.geo_core.proofs.SquareLaws.{square_is, rect_is}
 
 -- the transform of these parts

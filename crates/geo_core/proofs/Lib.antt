@@ -1,5 +1,6 @@
 -- what crates above name of those below
 pub use Rattle.finite_sets.proofs as FiniteSets
+mod Common
 pub mod CornerLaws
 pub mod CoveringLaws
 pub mod ElementLaws

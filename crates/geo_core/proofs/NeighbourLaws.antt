@@ -1,7 +1,6 @@
 -- Edge neighbours as a relation and as a list of four squares.
-use Rattle.std.proofs.Common.{inl, inr, refl, sym}
-use Rattle.geo_core.specs.declared.squares.Square.{Square}
-use Rattle.geo_core.specs.Neighbours.{AreEdgeNeighbours, right_of, above}
+use Rattle.geo_core.proofs.Common.{inl, inr, refl, sym, Square, AreEdgeNeighbours}
+use Rattle.geo_core.specs.Neighbours.{right_of, above}
 
 -- neighbours are neighbours of each other
 pub AreEdgeNeighbours-sym : (a b : Square) → AreEdgeNeighbours a b → AreEdgeNeighbours b a

@@ -1,5 +1,6 @@
 -- A transform has the factors of an orientation, and each orientation is one of a transform.
-use Rattle.std.proofs.Common.{◌≡◌, ◌≢◌, ℤ, pos, true, List, [], ◌∷◌, length, Option, slice_index_or, refl, sym, ap, ◌∙◌, arith, true≢false}
+use Rattle.geo_core.proofs.Common.{◌≡◌, ℤ, pos, List, length, refl, sym, ap, ◌∙◌, arith, Orient, R0, R90, R180, R270, Mx, My, Mx90, My90, Transform}
+use Rattle.std.proofs.Common.{◌≢◌, true, [], ◌∷◌, Option, slice_index_or, true≢false}
 use Rattle.std.specs.Prelude.{◌&&◌, Some, None}
 use Rattle.std.specs.Option.{is_some}
 use Rattle.std.specs.Ordering.{int_eq}
@@ -7,9 +8,6 @@ use Rattle.std.proofs.lemmas.Bool.{and_parts}
 use Rattle.std.proofs.lemmas.Option.{none-some}
 use Rattle.std.proofs.lemmas.Bool.Decides.{Decides-int_eq}
 use Rattle.finite_sets.proofs.Searches.{find-passes}
-use Rattle.geo_core.specs.declared.orients.Orient.{Orient}
-use Rattle.geo_core.specs.declared.orients.Orient.TheVariants.{R0, R90, R180, R270, Mx, My, Mx90, My90}
-use Rattle.geo_core.specs.declared.transforms.Transform.{Transform}
 use Rattle.geo_core.specs.Images.{six_of}
 use Rattle.geo_core.specs.Orientation.{matrix, all_orients, has_factors, orient_of, is_orientation}
 

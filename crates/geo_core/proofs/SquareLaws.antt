@@ -1,8 +1,5 @@
 -- Squares, rectangles and pieces are equal where their parts are.
-use Rattle.std.proofs.Common.{◌≡◌, refl}
-use Rattle.geo_core.specs.declared.squares.Square.{Square}
-use Rattle.geo_core.specs.declared.squares.Rect.{Rect}
-use Rattle.geo_core.specs.declared.squares.Piece.{Piece}
+use Rattle.geo_core.proofs.Common.{◌≡◌, refl, Square, Rect, Piece}
 
 pub square_is : (a b : Square) → a.x ≡ b.x → a.y ≡ b.y → a ≡ b
 square_is a b columns rows = let whole : record { x = a.x; y = a.y } ≡ b = rw (columns, rows) refl in whole

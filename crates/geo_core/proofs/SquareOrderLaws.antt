@@ -1,6 +1,6 @@
 -- The order of squares is strict.
 use Rattle.finite_sets.proofs.Orders.{Lexicographic-irreflexive, Lexicographic-trans, less-irreflexive, less-trans}
-use Rattle.geo_core.specs.declared.squares.Square.{Square}
+use Rattle.geo_core.proofs.Common.{Square}
 use Rattle.geo_core.specs.SquareOrder.{ComesBefore}
 
 -- no square comes before itself

@@ -1,16 +1,11 @@
 -- Strips of sets: of two sets with the same squares, of a set within a band of rows, and that each run lies in a strip.
-use Rattle.std.proofs.Common.{◌≡◌, ◌⊎◌, inl, inr, ℕ, zero, suc, ℤ, pos, negsuc, ◌+ℤ◌, ◌-ℤ◌, ◌≤ℤ◌, ◌<ℤ◌, List, refl, sym, subst, arith, get_or}
-use Rattle.std.specs.Int.{int_min, int_max}
-use Rattle.std.proofs.lemmas.Int.{ints, clamps}
-use Rattle.std.specs.Prelude.{AllPairs}
+use Rattle.geo_core.proofs.Common.{◌≡◌, inl, inr, ℕ, ℤ, pos, ◌+ℤ◌, ◌-ℤ◌, List, refl, sym, subst, arith, get_or, int_min, ints, clamps, AllPairs}
+use Rattle.geo_core.proofs.Common.{In-get_or, Square, Rect, Covers, IsProper, IsStrip, StandsBefore, AreDisjoint}
+use Rattle.std.proofs.Common.{◌⊎◌, zero, suc, negsuc, ◌≤ℤ◌, ◌<ℤ◌}
+use Rattle.std.specs.Int.{int_max}
 use Rattle.finite_sets.proofs.Orders.{Lexicographic-irreflexive, at_most_or_greater, equal_from_both, less-irreflexive}
-use Rattle.finite_sets.proofs.Members.{In-get_or}
-use Rattle.geo_core.specs.declared.squares.Square.{Square}
-use Rattle.geo_core.specs.declared.squares.Rect.{Rect}
-use Rattle.geo_core.specs.Covering.{Covers, IsProper}
-use Rattle.geo_core.specs.Strips.{IsRun, IsStrip, IsStrips, StandsBefore}
+use Rattle.geo_core.specs.Strips.{IsRun, IsStrips}
 use Rattle.geo_core.proofs.SquareLaws.{rect_is}
-use Rattle.geo_core.specs.Areas.{AreDisjoint}
 
 -- a strip has a square
 pub strip_is_proper : (S : Square → Type 0) (strip : Rect) → IsStrip S strip → IsProper strip

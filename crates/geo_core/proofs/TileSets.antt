@@ -1,15 +1,7 @@
 -- Tiles of a plane in an area: they lie apart, inside the area, and each square of one has its value.
-use Rattle.std.proofs.Common.{◌≡◌, ℕ, List, get_or, sym, ◌∙◌, ap, subst, arith}
-use Rattle.std.specs.Prelude.{AllPairs}
-use Rattle.std.proofs.lemmas.Int.{ints, clamps}
-use Rattle.finite_sets.proofs.Members.{In-get_or}
-use Rattle.geo_core.specs.declared.squares.Square.{Square}
-use Rattle.geo_core.specs.declared.squares.Rect.{Rect}
-use Rattle.geo_core.specs.declared.squares.Piece.{Piece}
-use Rattle.geo_core.specs.Areas.{AreDisjoint, common_rect, LiesWithin}
-use Rattle.geo_core.specs.Covering.{Covers}
+use Rattle.geo_core.proofs.Common.{◌≡◌, ℕ, List, get_or, sym, ◌∙◌, ap, subst, arith, AllPairs, ints, clamps, In-get_or, Square, Rect, Piece}
+use Rattle.geo_core.proofs.Common.{AreDisjoint, common_rect, LiesWithin, Covers, IsStrip, StandsBefore}
 use Rattle.geo_core.specs.Planes.{HasValue, IsTileIn, AreTilesIn}
-use Rattle.geo_core.specs.Strips.{IsStrip, StandsBefore}
 use Rattle.geo_core.proofs.CoveringLaws.{covers_first}
 use Rattle.geo_core.proofs.StripSets.{StandsBefore-irreflexive, one_strip_at, strip_within}
 

@@ -1,13 +1,8 @@
 -- The order of bars.
-use Rattle.std.proofs.Common.{◌≡◌, false, List, get_or}
-use Rattle.std.specs.Prelude.{IsSorted}
-use Rattle.std.specs.Cmp.{IsTotalOrder}
-use Rattle.std.specs.Ordering.{is_lt, int_cmp, ordering_then}
-use Rattle.std.proofs.lemmas.Cmp.{int_cmp_total, on_total, then_total}
-use Rattle.geo_core.proofs.FiniteSets.Orders.{ordering_then-not_less, int_then-not_less, Lexicographic-map, IsSorted-pairs}
-use Rattle.geo_core.proofs.FiniteSets.Pairs.{Pairwise, Pairwise-from_AllPairs}
-use Rattle.geo_strips.specs.declared.bars.Bar.{Bar}
-use Rattle.geo_strips.specs.Bars.{bar_cmp}
+use Rattle.geo_strips.proofs.Common.{◌≡◌, false, List, get_or, IsSorted, IsTotalOrder, is_lt, int_cmp, ordering_then, int_cmp_total, on_total}
+use Rattle.geo_strips.proofs.Common.{then_total, int_then-not_less, IsSorted-pairs, Pairwise, Bar, bar_cmp}
+use Rattle.geo_core.proofs.FiniteSets.Orders.{ordering_then-not_less, Lexicographic-map}
+use Rattle.geo_core.proofs.FiniteSets.Pairs.{Pairwise-from_AllPairs}
 use Rattle.geo_strips.proofs.JoinLaws.{NoLater}
 
 bar_cmp_total : IsTotalOrder bar_cmp

@@ -1,21 +1,17 @@
 -- Columns that are cut in two: what is known of the whole from its sides.
-use Rattle.std.proofs.Common.{◌≡◌, ◌⊎◌, inl, inr, ℕ, suc, ◌+◌, ◌-◌, ◌<◌, length, take, drop, get_or, length-drop}
-use Rattle.std.proofs.Common.{ℤ, ◌≤ℤ◌, ◌<ℤ◌, Bool, true, false, cond, List, [], ◌∷◌, ◌++◌, Box, Global, Option}
-use Rattle.std.proofs.Common.{Some, None, Result, Ok, Err, refl, sym, ◌∙◌, ap, subst, arith, to_z, of_z}
-use Rattle.std.specs.Prelude.{◌&&◌, int_le, int_lt, AllPairs}
+use Rattle.geo_strips.proofs.Common.{◌≡◌, ◌⊎◌, inl, inr, ◌<◌, length, take, drop, get_or, ℤ, ◌≤ℤ◌, ◌<ℤ◌, Bool, true, false, cond, List, [], ◌∷◌}
+use Rattle.geo_strips.proofs.Common.{◌++◌, Box, Global, Some, None, refl, sym, ◌∙◌, ap, subst, arith, to_z, of_z, ◌&&◌, int_le, int_lt, AllPairs}
+use Rattle.geo_strips.proofs.Common.{int_max, int_min, w64, FitsSigned, cases_Bool, ints, clamps, by_lt_z, to_z-of_z, In, In-append_left, In-push}
+use Rattle.geo_strips.proofs.Common.{In-push_cases, In-index, In-get_or, Gap, until, least_of, most_of, IsTopped, IsCut, IsCutAt, end_before}
+use Rattle.std.proofs.Common.{ℕ, suc, ◌+◌, ◌-◌, length-drop}
+use Rattle.std.proofs.Common.{Option}
+use Rattle.std.proofs.Common.{Result, Ok, Err}
 use Rattle.std.specs.Result.{OnOk}
-use Rattle.std.specs.Int.{int_max, int_min, w64}
-use Rattle.std.specs.Int.RustNames.{FitsSigned}
-use Rattle.std.proofs.lemmas.Bool.{cases_Bool}
-use Rattle.std.proofs.lemmas.Int.{ints, clamps, by_lt_z, to_z-of_z}
 use Rattle.std.proofs.lemmas.List.{get_or-take, get_or-drop, length-take}
 use Rattle.std.proofs.Math.Seq.{take-length}
-use Rattle.geo_core.specs.FiniteSets.Lists.{In}
-use Rattle.geo_core.proofs.FiniteSets.Members.{In-append_left, In-push, In-push_cases, In-index, In-get_or}
-use Rattle.geo_strips.specs.declared.coverage.Gap.{Gap}
 use Rattle.geo_strips.specs.declared.coverage.Coverage.{Coverage, Even, Cut'}
-use Rattle.geo_strips.specs.Coverage.{until, least_of, most_of, IsTopped, IsCut, IsCutAt, is_from, is_before, raised, begins_before}
-use Rattle.geo_strips.specs.Coverage.{ends_after, begin_after, end_before, IsRaised, AddsColumns, IsGap}
+use Rattle.geo_strips.specs.Coverage.{is_from, is_before, raised, begins_before}
+use Rattle.geo_strips.specs.Coverage.{ends_after, begin_after, IsRaised, AddsColumns, IsGap}
 
 -- numbers that are kept in 64 bits
 pub stored_max : (out a b : ℤ) → FitsSigned w64 out → FitsSigned w64 a → FitsSigned w64 b

@@ -1,13 +1,9 @@
 -- Joined bars have the points of the bars they were joined from, and lie apart.
-use Rattle.std.proofs.Common.{◌≡◌, ◌⊎◌, inl, inr, ℤ, ◌≤ℤ◌, ◌<ℤ◌, true, false, cond, List, [], ◌∷◌, refl, sym, ◌∙◌, ap, subst, arith}
-use Rattle.std.proofs.lemmas.Bool.{cases_Bool}
-use Rattle.std.proofs.lemmas.Int.{ints, clamps, by_lt_z}
-use Rattle.geo_core.specs.FiniteSets.Lists.{In}
+use Rattle.geo_strips.proofs.Common.{◌≡◌, ◌⊎◌, inl, inr, ℤ, ◌≤ℤ◌, ◌<ℤ◌, true, false, cond, List, [], ◌∷◌, refl, sym, ◌∙◌, ap, subst, arith}
+use Rattle.geo_strips.proofs.Common.{cases_Bool, ints, clamps, by_lt_z, In, Pairwise, Bar, joined_from, joined}
 use Rattle.geo_core.specs.FiniteSets.Order.{Lexicographic}
 use Rattle.geo_core.proofs.FiniteSets.Orders.{Lexicographic-trans, at_most-trans}
-use Rattle.geo_core.proofs.FiniteSets.Pairs.{Pairwise}
-use Rattle.geo_strips.specs.declared.bars.Bar.{Bar}
-use Rattle.geo_strips.specs.Bars.{meets, reaching, joined_from, joined}
+use Rattle.geo_strips.specs.Bars.{meets, reaching}
 
 -- the bar has the point z of the lines from low to high
 pub record HasPoint (bar : Bar) (low high z : ℤ) : Type 0 where

@@ -1,4 +1,5 @@
 mod BarOrderLaws
+mod Common
 pub mod CoverageLaws
 mod JoinLaws
 pub mod RowEventLaws

@@ -1,28 +1,22 @@
 -- The events of rectangles are those of their beginnings and tops, in order.
-use Rattle.std.proofs.Common.{◌≡◌, inl, inr, ℤ, ◌≤ℤ◌, ◌<ℤ◌, Bool, true, false, List, ◌++◌, map, get_or, refl, sym, ◌∙◌, ap, subst, arith}
-use Rattle.std.specs.Prelude.{filter, AllPairs, IsSorted, IsPermutation}
-use Rattle.std.specs.Cmp.{IsTotalOrder}
+use Rattle.geo_strips.proofs.Common.{◌≡◌, inl, inr, ℤ, ◌≤ℤ◌, ◌<ℤ◌, Bool, true, false, List, ◌++◌, map, get_or, refl, sym, ◌∙◌, ap, subst, arith}
+use Rattle.geo_strips.proofs.Common.{AllPairs, IsSorted, IsPermutation, IsTotalOrder, int_cmp, ordering_then, false≢true, int_cmp_total, on_total}
+use Rattle.geo_strips.proofs.Common.{then_total, ints, In, In-append_left, In-map, int_then-not_less, IsSorted-pairs, Rect, Bar, Event, bar_cmp}
+use Rattle.geo_strips.proofs.Common.{joined, end_of, AreEvents}
+use Rattle.std.specs.Prelude.{filter}
 use Rattle.std.specs.declared.cmp.Ordering.TheVariants.{Less, Equal}
-use Rattle.std.specs.Ordering.{int_cmp, int_eq, eq_by_cmp, bool_cmp, ordering_then, ordering_reverse}
+use Rattle.std.specs.Ordering.{int_eq, eq_by_cmp, bool_cmp, ordering_reverse}
 use Rattle.std.specs.List.{dedup}
 use Rattle.std.specs.List.Sorted.{IsStrictlySortedBy}
-use Rattle.std.proofs.lemmas.Bool.{false≢true}
-use Rattle.std.proofs.lemmas.Cmp.{int_cmp_total, int_eq_equiv, on_total, then_total, int_ranked}
-use Rattle.std.proofs.lemmas.Int.{ints}
+use Rattle.std.proofs.lemmas.Cmp.{int_eq_equiv, int_ranked}
 use Rattle.std.proofs.lemmas.List.Kept.{Contains-dedup, IsStrictlySortedBy-dedup}
 use Rattle.std.proofs.lemmas.List.Sorted.{IsPermutation-sym}
 use Rattle.std.proofs.lemmas.Map.Keys.{Less-from_sorted}
-use Rattle.geo_core.specs.FiniteSets.Lists.{In}
-use Rattle.geo_core.proofs.FiniteSets.Members.{In-append_cases, In-append_left, In-append_right, In-map, In-map_source, In-filter, In-filter_source}
+use Rattle.geo_core.proofs.FiniteSets.Members.{In-append_cases, In-append_right, In-map_source, In-filter, In-filter_source}
 use Rattle.geo_core.proofs.FiniteSets.Members.{In-filter_passes, In-from_Contains, Contains-from_In, In-permutation}
-use Rattle.geo_core.proofs.FiniteSets.Orders.{int_then-not_less, IsSorted-pairs}
-use Rattle.geo_core.specs.declared.squares.Rect.{Rect}
-use Rattle.geo_strips.specs.declared.bars.Bar.{Bar}
-use Rattle.geo_strips.specs.declared.row_events.Event.{Event}
-use Rattle.geo_strips.specs.Bars.{bar_cmp, joined}
 use Rattle.geo_core.specs.Areas.{has_square}
 use Rattle.geo_core.proofs.CoveringLaws.{IsProper-has_square, has_square-IsProper}
-use Rattle.geo_strips.specs.steps.RowEvents.{begin_of, top_of, end_of, event_cmp, IsAtNoLaterRow, IsBegin, AreEvents}
+use Rattle.geo_strips.specs.steps.RowEvents.{begin_of, top_of, event_cmp, IsAtNoLaterRow, IsBegin}
 use Rattle.geo_strips.proofs.JoinLaws.{IsLong, AreLong, joined-are}
 use Rattle.geo_strips.proofs.BarOrderLaws.{bars_in_order}
 

@@ -1,12 +1,9 @@
 -- The runs of a row as they are taken out and put in.
-use Rattle.std.proofs.Common.{◌≡◌, ◌⊎◌, inl, inr, ℤ, ◌≤ℤ◌, ◌<ℤ◌, ◌+ℤ◌, pos, true, false, List, Some, None, cond, sym, ◌∙◌, ap, subst, arith}
-use Rattle.std.specs.Ordering.{is_lt, is_eq, is_gt, int_cmp}
-use Rattle.std.specs.Int.{int_max, int_min}
-use Rattle.std.proofs.lemmas.Int.{ints, clamps, by_lt_z}
-use Rattle.geo_core.specs.FiniteSets.Lists.{In}
-use Rattle.geo_strips.specs.declared.bars.Bar.{Bar}
-use Rattle.geo_strips.specs.declared.row_runs.Run.{Run}
-use Rattle.geo_strips.specs.RowRuns.{Row, IsInRow, AreRuns, bar_of, IsWritten, Changes, IsTaken, IsLastRun, Touches, without, LiesClear, IsPlaced, IsCovered, IsUncovered}
+use Rattle.geo_strips.proofs.Common.{◌≡◌, ◌⊎◌, inl, inr, ℤ, ◌≤ℤ◌, ◌<ℤ◌, ◌+ℤ◌, pos, true, false, List, Some, None, cond, sym, ◌∙◌, ap, subst, arith}
+use Rattle.geo_strips.proofs.Common.{is_lt, int_cmp, int_max, int_min, ints, clamps, by_lt_z, In, Bar, Run, Row, IsInRow, AreRuns, bar_of, IsWritten}
+use Rattle.geo_strips.proofs.Common.{Changes, IsLastRun, without, IsCovered, IsUncovered}
+use Rattle.std.specs.Ordering.{is_eq, is_gt}
+use Rattle.geo_strips.specs.RowRuns.{IsTaken, Touches, LiesClear, IsPlaced}
 
 -- not greater
 pub from_not_gt : (a b : ℤ) → is_gt (int_cmp a b) ≡ false → a ≤ℤ b

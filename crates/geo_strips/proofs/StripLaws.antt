@@ -1,14 +1,6 @@
 -- From bars of a set of squares to its strips.
-use Rattle.std.proofs.Common.{◌≡◌, ◌⊎◌, inl, inr, ℤ, pos, ◌-ℤ◌, ◌≤ℤ◌, ◌<ℤ◌, List, [], ◌∷◌, map, refl, sym, ◌∙◌, ap, subst, arith}
-use Rattle.std.proofs.lemmas.Int.{ints, by_lt_z}
-use Rattle.geo_core.specs.FiniteSets.Lists.{In}
-use Rattle.geo_core.proofs.FiniteSets.Members.{In-map}
-use Rattle.geo_core.specs.declared.squares.Square.{Square}
-use Rattle.geo_core.specs.declared.squares.Rect.{Rect}
-use Rattle.geo_strips.specs.declared.bars.Bar.{Bar}
-use Rattle.geo_core.specs.Strips.{IsRun, IsStrip}
-use Rattle.geo_strips.specs.steps.Sweeping.{HaveSquare, AreRunBars}
-use Rattle.geo_core.proofs.FiniteSets.Pairs.{Pairwise}
+use Rattle.geo_strips.proofs.Common.{◌≡◌, ◌⊎◌, inl, inr, ℤ, pos, ◌-ℤ◌, ◌≤ℤ◌, ◌<ℤ◌, List, [], ◌∷◌, map, refl, sym, ◌∙◌, ap, subst, arith, ints}
+use Rattle.geo_strips.proofs.Common.{by_lt_z, In, In-map, Square, Rect, Bar, IsRun, IsStrip, HaveSquare, AreRunBars, Pairwise}
 use Rattle.geo_core.proofs.SquareLaws.{rect_is}
 use Rattle.geo_strips.proofs.JoinLaws.{LieApart, AreLong, AreJoined}
 

@@ -1,28 +1,21 @@
 -- The list that the sorts and joins make has exactly the strips, in order; and a set has one list of strips.
-use Rattle.std.proofs.Common.{◌≡◌, ◌⊎◌, inl, inr, ◌<◌, ◌≤ℤ◌, ◌<ℤ◌, false, List, length, map, get_or, refl, sym, ◌∙◌, ap, subst, arith}
-use Rattle.std.specs.Prelude.{AllPairs, IsSorted, IsPermutation}
-use Rattle.std.specs.Cmp.{IsTotalOrder}
-use Rattle.std.specs.Ordering.{is_lt, int_cmp, ordering_then}
+use Rattle.geo_strips.proofs.Common.{◌≡◌, ◌⊎◌, inl, inr, ◌<◌, ◌≤ℤ◌, ◌<ℤ◌, false, List, length, map, get_or, refl, sym, ◌∙◌, ap, subst, arith}
+use Rattle.geo_strips.proofs.Common.{AllPairs, IsSorted, IsPermutation, IsTotalOrder, is_lt, int_cmp, ordering_then, int_cmp_total, on_total}
+use Rattle.geo_strips.proofs.Common.{then_total, ints, by_lt_z, In, In-get_or, In-map, int_then-not_less, IsSorted-pairs, Pairwise, Square, Rect}
+use Rattle.geo_strips.proofs.Common.{Bar, bar_cmp, joined, strip_of, rect_of, AreStripsOf, IsStrip, IsStrips, IsInUnion, AreRunBars}
 use Rattle.std.proofs.Math.ListN.{get_or-map}
-use Rattle.std.proofs.lemmas.Cmp.{int_cmp_total, on_total, then_total}
-use Rattle.std.proofs.lemmas.Int.{ints, by_lt_z}
 use Rattle.std.proofs.lemmas.List.{length-map}
 use Rattle.std.proofs.lemmas.List.Sorted.{IsPermutation-sym}
-use Rattle.geo_core.specs.FiniteSets.Lists.{In}
-use Rattle.geo_core.proofs.FiniteSets.Members.{In-get_or, In-map, In-map_source, In-permutation}
+use Rattle.geo_core.proofs.FiniteSets.Members.{In-map_source, In-permutation}
 use Rattle.geo_core.proofs.FiniteSets.Orders.{Lexicographic-irreflexive, Lexicographic-trans, less-irreflexive, less-trans}
-use Rattle.geo_core.proofs.FiniteSets.Orders.{equal_from_both, int_then-not_less, ordering_then-not_less, IsSorted-pairs}
-use Rattle.geo_core.proofs.FiniteSets.Pairs.{Pairwise, AllPairs-from_Pairwise, Pairwise-from_AllPairs, Pairwise-map, AllPairs-permutation}
+use Rattle.geo_core.proofs.FiniteSets.Orders.{equal_from_both, ordering_then-not_less}
+use Rattle.geo_core.proofs.FiniteSets.Pairs.{AllPairs-from_Pairwise, Pairwise-from_AllPairs, Pairwise-map, AllPairs-permutation}
 use Rattle.geo_core.proofs.FiniteSets.InOrder.{same_by_order}
 use Rattle.geo_core.specs.FiniteSets.Laws.{IsTransitive}
-use Rattle.geo_core.specs.declared.squares.Square.{Square}
-use Rattle.geo_core.specs.declared.squares.Rect.{Rect}
-use Rattle.geo_strips.specs.declared.bars.Bar.{Bar}
 use Rattle.geo_strips.specs.declared.strip_lists.Strip.{Strip}
-use Rattle.geo_strips.specs.Bars.{bar_cmp, strip_cmp, joined, strip_of, rect_of, AreStripsOf}
-use Rattle.geo_core.specs.Strips.{IsStrip, IsStrips, IsInUnion, StandsBefore, StripsAreUnique}
+use Rattle.geo_strips.specs.Bars.{strip_cmp}
+use Rattle.geo_core.specs.Strips.{StandsBefore, StripsAreUnique}
 use Rattle.geo_core.proofs.StripSets.{StandsBefore-irreflexive}
-use Rattle.geo_strips.specs.steps.Sweeping.{AreRunBars}
 use Rattle.geo_strips.proofs.JoinLaws.{AreJoined, joined-are}
 use Rattle.geo_strips.proofs.BarOrderLaws.{bars_in_order}
 use Rattle.geo_strips.proofs.StripLaws.{AreColumns, columns_from_bars, same_right, rect_of_column, column_is_strip, strip_is_column}

@@ -1,26 +1,19 @@
 -- The sweep keeps track of what rectangles cover, row by row.
-use Rattle.std.proofs.Common.{◌≡◌, ◌⊎◌, inl, inr, ℕ, zero, suc, ◌+◌, ◌<◌, ℤ, pos, ◌-ℤ◌, ◌≤ℤ◌, ◌<ℤ◌, Bool, true, false, cond, List, [], ◌∷◌, ◌++◌}
-use Rattle.std.proofs.Common.{length, length-drop, take, drop, drop-cons, add-one, get_or, Some, None, refl, sym, ◌∙◌, ap, subst, arith}
-use Rattle.std.specs.Prelude.{◌&&◌, ◌^◌, neg_ℤ, int_le, int_lt}
-use Rattle.std.specs.Int.{int_max}
-use Rattle.std.proofs.lemmas.Bool.{cases_Bool, false≢true}
-use Rattle.std.proofs.lemmas.Int.{ints, clamps, by_lt_z}
-use Rattle.std.proofs.lemmas.List.{take_more, take-append-drop, get_or-drop}
-use Rattle.geo_core.specs.FiniteSets.Lists.{In}
-use Rattle.geo_core.proofs.FiniteSets.Members.{In-append_left, In-append_cases, In-push, In-push_cases, In-index, In-get_or}
-use Rattle.geo_core.specs.declared.squares.Square.{Square}
-use Rattle.geo_core.specs.declared.squares.Rect.{Rect}
-use Rattle.geo_strips.specs.declared.bars.Bar.{Bar}
-use Rattle.geo_strips.specs.declared.coverage.Gap.{Gap}
-use Rattle.geo_strips.specs.declared.row_events.Event.{Event}
-use Rattle.geo_strips.specs.declared.row_runs.Run.{Run}
-use Rattle.geo_strips.specs.Coverage.{until, raised, IsTopped, IsCut, HaveColumn, AddsColumns, IsGap}
+use Rattle.geo_strips.proofs.Common.{◌≡◌, ◌⊎◌, inl, inr, ◌<◌, ℤ, pos, ◌-ℤ◌, ◌≤ℤ◌, ◌<ℤ◌, Bool, true, false, cond, List, [], ◌∷◌, ◌++◌, length, take}
+use Rattle.geo_strips.proofs.Common.{drop, get_or, Some, None, refl, sym, ◌∙◌, ap, subst, arith, ◌&&◌, int_le, int_lt, int_max, cases_Bool}
+use Rattle.geo_strips.proofs.Common.{false≢true, ints, clamps, by_lt_z, take_more, In, In-append_left, In-push, In-push_cases, In-index, In-get_or}
+use Rattle.geo_strips.proofs.Common.{Square, Rect, Bar, Gap, Event, Run, until, IsTopped, IsCut, AreEvents, sides_of, Row, IsInRow, AreRuns, bar_of}
+use Rattle.geo_strips.proofs.Common.{IsWritten, Changes, IsCovered, IsUncovered, IsRun, IsInUnion, row_of, HaveSquare, AreRunBars}
+use Rattle.std.proofs.Common.{ℕ, zero, suc, ◌+◌}
+use Rattle.std.proofs.Common.{length-drop, drop-cons, add-one}
+use Rattle.std.specs.Prelude.{◌^◌, neg_ℤ}
+use Rattle.std.proofs.lemmas.List.{take-append-drop, get_or-drop}
+use Rattle.geo_core.proofs.FiniteSets.Members.{In-append_cases}
+use Rattle.geo_strips.specs.Coverage.{raised, HaveColumn, AddsColumns, IsGap}
 use Rattle.geo_core.specs.Covering.{Covers, IsProper}
-use Rattle.geo_strips.specs.steps.RowEvents.{begin_of, HaveEnd, AreEvents, sides_of}
-use Rattle.geo_strips.specs.RowRuns.{Row, IsInRow, AreRuns, bar_of, IsWritten, Changes, IsCovered, IsUncovered}
-use Rattle.geo_core.specs.Strips.{IsRun, IsInUnion}
+use Rattle.geo_strips.specs.steps.RowEvents.{begin_of, HaveEnd}
 use Rattle.geo_strips.specs.declared.sweeping.Sweep.{Sweep}
-use Rattle.geo_strips.specs.steps.Sweeping.{row_of, RectBegins, RectsEnd, HaveSquare, AreRunBars}
+use Rattle.geo_strips.specs.steps.Sweeping.{RectBegins, RectsEnd}
 use Rattle.geo_strips.proofs.RowLaws.{changes_both, same_run}
 
 -- below all rows: the least signed number of 64 bits

@@ -1,12 +1,8 @@
 -- What a group adds to its members is counted where parts meet: the law of area, perimeter and capacitance.
-use Rattle.std.proofs.Common.{Bool, List, inl, inr, sym, subst}
-use Rattle.tech_model.specs.GeoCore.declared.squares.Square.{Square}
-use Rattle.tech_model.specs.declared.raw.RawTech.{RawTech}
+use Rattle.group_meetings.proofs.Common.{Bool, List, inl, inr, sym, subst, Square, RawTech, PlaceWeight, IsCountedWithin}
 use Rattle.group_meetings.proofs.NameClasses.ClassLaws.{distinct_in_order}
 use Rattle.group_meetings.specs.Offences.Offences.{SetLayout}
 use Rattle.group_meetings.specs.HierarchyModel.Restrictions.{IsRestriction}
-use Rattle.group_meetings.specs.TreeRecords.PlaceWeights.{PlaceWeight}
-use Rattle.group_meetings.specs.MeetingLaws.Laws.{IsCountedWithin}
 use Rattle.group_meetings.specs.MeetingLaws.PartLayouts.{Passes, HoldsAllMeetings}
 use Rattle.group_meetings.proofs.MeetingLaws.QuantityLaws.{area_counted, perimeter_counted, capacitance_counted}
 use Rattle.group_meetings.specs.AdjustmentLaws.{AdjustmentsAreCountedWithin, CountsWithinAreAdjustments, IsOfClasses}

@@ -1,27 +1,16 @@
 -- A group has finitely many places, and what they count beyond the restricted parts is what it adds to its members.
-use Rattle.std.proofs.Common.{ℕ, ℤ, ◌-ℤ◌, Bool, List, map, refl, subst, ◌∙◌, IsTrue}
-use Rattle.finite_sets.specs.Lists.{Distinct, Lists}
-use Rattle.finite_sets.specs.Total.{sum_on, Total}
+use Rattle.group_meetings.proofs.Common.{ℕ, ℤ, ◌-ℤ◌, Bool, List, map, refl, subst, ◌∙◌, IsTrue, Distinct, Lists, sum_on, Total, Square, RawTech}
+use Rattle.group_meetings.proofs.Common.{KeepsRules, IsWellFormed, Place, IsGroupName, PlaceWeight, AreMemberTotals, IsAdjustment, IsCleanTree}
+use Rattle.group_meetings.proofs.Common.{IsCountedWithin, tree_parts, PartsHaveMembers, AreMembersOf}
 use Rattle.finite_sets.proofs.Members.{In-map, In-map_source}
 use Rattle.finite_sets.proofs.Totals.{Total-from_list, Total-unique}
-use Rattle.tech_model.specs.GeoCore.declared.squares.Square.{Square}
-use Rattle.tech_model.specs.declared.raw.RawTech.{RawTech}
-use Rattle.tech_model.specs.Rules.{KeepsRules}
-use Rattle.tech_model.specs.WellFormed.{IsWellFormed}
-use Rattle.tree_names.specs.LayoutModel.Places.{Place}
 use Rattle.group_meetings.specs.Offences.Offences.{SetLayout}
 use Rattle.group_meetings.specs.TreeRecords.NamedTrees.{NamedTree}
 use Rattle.group_meetings.specs.TreeRecords.FlatLayouts.{flat_layout}
-use Rattle.group_meetings.specs.TreeRecords.MemberGroups.{IsGroupName}
-use Rattle.group_meetings.specs.TreeRecords.PlaceWeights.{PlaceWeight, AreMemberTotals, IsAdjustment}
-use Rattle.group_meetings.specs.TreeNames.CleanTrees.{IsCleanTree}
 use Rattle.group_meetings.specs.MeetingLaws.PartLayouts.{excess}
-use Rattle.group_meetings.specs.MeetingLaws.Laws.{IsCountedWithin}
 use Rattle.group_meetings.proofs.MeetingLaws.LinkLaws.{someone_stands}
-use Rattle.group_meetings.specs.Members.{tree_parts, PartsHaveMembers}
 use Rattle.group_meetings.proofs.PartMembers.{flat_is_of_parts}
 use Rattle.group_meetings.proofs.MemberMaterial.{named_is_material}
-use Rattle.group_meetings.specs.AdjustmentLaws.{AreMembersOf}
 use Rattle.group_meetings.proofs.LocalQuantities.{IsLocal}
 use Rattle.group_meetings.proofs.GroupSums.{PartPlace, members_stand, adjustment_within}
 use Rattle.group_meetings.proofs.PlacesOnce.{once_each, place_told}

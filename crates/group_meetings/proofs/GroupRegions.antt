@@ -1,12 +1,7 @@
 -- The laws of groups and of the squares at which parts meet, of any cell.
-use Rattle.std.proofs.Common.{inl, inr, subst}
-use Rattle.finite_sets.proofs.Chains.{Chain-append}
-use Rattle.tech_model.specs.declared.raw.RawTech.{RawTech}
-use Rattle.tree_names.specs.LayoutModel.Places.{Place}
-use Rattle.meeting_laws.specs.TreeRecords.NamedTrees.NamedTree.{named_tree}
+use Rattle.group_meetings.proofs.Common.{inl, inr, subst, Chain-append, RawTech, Place, named_tree, IsMemberOfPart}
 use Rattle.meeting_laws.specs.PartLayouts.{Passes}
 use Rattle.tree_names.proofs.GroupNodes.{group_back}
-use Rattle.group_meetings.specs.Members.{IsMemberOfPart}
 use Rattle.group_meetings.specs.Laws.{DifferentMembersMeetInRegions, MembersAreJoinedByRegions, RegionsAreInGroups, MembersOfLargerGroupsAreWithin}
 use Rattle.group_meetings.proofs.PartMembers.{part_of_member}
 use Rattle.group_meetings.proofs.RegionLaws.{region_in_group}

@@ -1,40 +1,30 @@
 -- What the members of a group have together is what the parts count at its places, and what the group adds is counted where parts meet.
-use Rattle.std.proofs.Common.{◌≡◌, ◌≢◌, ◌<◌, ◌+◌, ◌==◌, ◌⊎◌, ℕ, ℤ, ◌+ℤ◌, ◌-ℤ◌, Bool, true, false, List, [], ◌∷◌, length, inl, inr, refl, sym, ap, subst}
-use Rattle.std.proofs.Common.{◌∙◌, arith, eq-eqb, ne_eqb, true≢false, IsTrue}
+use Rattle.group_meetings.proofs.Common.{◌≡◌, ◌≢◌, ◌+◌, ◌⊎◌, ℕ, ℤ, ◌+ℤ◌, ◌-ℤ◌, Bool, List, [], ◌∷◌, length, inl, inr, refl, sym, ap, subst, ◌∙◌}
+use Rattle.group_meetings.proofs.Common.{arith, IsTrue, cases_eq, In, Distinct, Lists, sum_on, Total, Square, RawTech, KeepsRules, IsWellFormed}
+use Rattle.group_meetings.proofs.Common.{Place, IsGroupName, PlaceWeight, AreMemberTotals, IsAdjustment, IsCleanTree, IsCountedWithin, tree_parts}
+use Rattle.group_meetings.proofs.Common.{IsMemberOfPart, PartsHaveMembers, AreMembersOf}
+use Rattle.std.proofs.Common.{◌<◌, ◌==◌, true, false}
+use Rattle.std.proofs.Common.{eq-eqb, ne_eqb, true≢false}
 use Rattle.std.specs.Prelude.{not}
 use Rattle.std.specs.List.{range_with_len}
-use Rattle.std.proofs.lemmas.Bool.{cases_eq}
 use Rattle.std.proofs.lemmas.Option.{slice_get_within, slice_get-get_or, get_or_from_slice_get}
-use Rattle.finite_sets.specs.Lists.{In, Distinct, Lists}
 use Rattle.finite_sets.specs.Range.{pairs_of}
-use Rattle.finite_sets.specs.Total.{sum_on, Total}
 use Rattle.finite_sets.proofs.Ranges.{Lists-pairs_of}
 use Rattle.finite_sets.proofs.Sums.{sum_on-same, sum_on-swap}
 use Rattle.finite_sets.proofs.Totals.{Total-at, Total-from_list, Total-iff, Total-none, Total-same, Total-sub, Total-support, Total-union, Total-unique}
-use Rattle.tech_model.specs.GeoCore.declared.squares.Square.{Square}
-use Rattle.tech_model.specs.declared.raw.RawTech.{RawTech}
-use Rattle.tech_model.specs.Rules.{KeepsRules}
-use Rattle.tech_model.specs.WellFormed.{IsWellFormed}
-use Rattle.tree_names.specs.LayoutModel.Places.{Place}
 use Rattle.tree_names.proofs.LayoutModel.Families.{InFamily}
 use Rattle.tree_names.proofs.RectContacts.BothWays.{Lists-below, sum_on-nested}
 use Rattle.group_meetings.specs.Offences.Offences.{SetLayout}
 use Rattle.group_meetings.specs.HierarchyModel.Restrictions.{PartStands}
 use Rattle.group_meetings.specs.TreeRecords.NamedTrees.{NamedTree}
 use Rattle.group_meetings.specs.TreeRecords.FlatLayouts.{flat_layout}
-use Rattle.group_meetings.specs.TreeRecords.MemberGroups.{IsGroupName}
-use Rattle.group_meetings.specs.TreeRecords.PlaceWeights.{PlaceWeight, AreMemberTotals, IsAdjustment}
-use Rattle.group_meetings.specs.TreeNames.CleanTrees.{IsCleanTree}
 use Rattle.group_meetings.proofs.TreeNames.GroupNames.{group_name_along, members_together, one_group}
 use Rattle.group_meetings.proofs.TreeNames.GroupNodes.{group_back}
 use Rattle.group_meetings.specs.MeetingLaws.PartLayouts.{part_layout, parts_layout, excess}
-use Rattle.group_meetings.specs.MeetingLaws.Laws.{IsCountedWithin}
 use Rattle.group_meetings.proofs.MeetingLaws.LinkLaws.{part_of_empty}
-use Rattle.group_meetings.specs.Members.{tree_parts, IsMemberOfPart, PartsHaveMembers}
 use Rattle.group_meetings.proofs.PartMembers.{flat_is_of_parts, member_at_part}
 use Rattle.group_meetings.proofs.MemberMaterial.{member_is_material, part_stands}
 use Rattle.group_meetings.proofs.MemberSteps.{one_of_part}
-use Rattle.group_meetings.specs.AdjustmentLaws.{AreMembersOf}
 use Rattle.group_meetings.proofs.LocalQuantities.{IsLocal}
 use Rattle.group_meetings.proofs.MemberTotals.{part_at, counted, member_by_pairs}
 use Rattle.group_meetings.proofs.PartSums.{sum_of_positions}

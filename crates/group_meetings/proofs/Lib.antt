@@ -10,6 +10,7 @@ pub use Rattle.tree_names.proofs.NameClasses as NameClasses
 pub use Rattle.tree_names.proofs.OwnRecordLaws as OwnRecordLaws
 pub use Rattle.tree_names.proofs as TreeNames
 pub use Rattle.meeting_laws.proofs.TreeRecords as TreeRecords
+mod Common
 pub mod LocalQuantities
 mod PartSums
 pub mod MemberTotals

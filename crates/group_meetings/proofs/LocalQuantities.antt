@@ -1,22 +1,18 @@
 -- Quantities that the layout around a place tells: area, perimeter and capacitance, which go along with transforms.
-use Rattle.std.proofs.Common.{◌≡◌, ℕ, suc, ℤ, pos, ◌+ℤ◌, List, [], ◌∷◌, map, false, sym, ap, subst, ◌∙◌, arith}
+use Rattle.group_meetings.proofs.Common.{◌≡◌, ℕ, suc, ℤ, ◌+ℤ◌, List, [], ◌∷◌, map, sym, ap, subst, ◌∙◌, arith, ints, Lists, sum_on, Transform}
+use Rattle.group_meetings.proofs.Common.{Layout, Place, place_back, PlaceWeight}
+use Rattle.std.proofs.Common.{pos, false}
 use Rattle.std.specs.Prelude.{◌*ℤ◌, All}
-use Rattle.std.proofs.lemmas.Int.{ints}
 use Rattle.std.proofs.Math.IntN.{zero-*ℤ}
-use Rattle.finite_sets.specs.Lists.{Lists}
-use Rattle.finite_sets.specs.Total.{sum_on}
 use Rattle.finite_sets.proofs.Listings.{Lists-iff, Lists-image}
 use Rattle.finite_sets.proofs.Sums.{sum_on-map, sum_on-same, sum_on-nothing}
 use Rattle.finite_sets.proofs.Totals.{Total-of_list, Total-from_list}
-use Rattle.tech_model.specs.GeoCore.declared.transforms.Transform.{Transform}
-use Rattle.tree_names.specs.LayoutModel.Layouts.{Layout}
-use Rattle.tree_names.specs.LayoutModel.Places.{Place, AreNeighbours, neighbours}
+use Rattle.tree_names.specs.LayoutModel.Places.{AreNeighbours, neighbours}
 use Rattle.tree_names.specs.LayoutModel.Technologies.{Class}
-use Rattle.tree_names.specs.LayoutModel.CellTrees.{place_back}
 use Rattle.group_meetings.proofs.FloodNodes.OpenEdges.{Lists-neighbours}
 use Rattle.group_meetings.specs.TreeRecords.NamedTrees.{place_forth}
 use Rattle.group_meetings.proofs.TreeRecords.MoveLaws.{back_from_above, above_from_back, neighbours_above, neighbours_back}
-use Rattle.group_meetings.specs.TreeRecords.PlaceWeights.{PlaceWeight, area_weight, perimeter_weight, capacitance_weight}
+use Rattle.group_meetings.specs.TreeRecords.PlaceWeights.{area_weight, perimeter_weight, capacitance_weight}
 use Rattle.group_meetings.proofs.MeetingLaws.QuantityLaws.{IsByTypes, combined, area_by_types, perimeter_by_types, nothing_by_types}
 
 -- A place counts by the layout alone, nothing where it is space, and the same where a transform takes it.

@@ -1,31 +1,16 @@
 -- Members of one group meet in the squares at which parts do.
-use Rattle.std.proofs.Common.{◌≢◌, ◌⊎◌, ℕ, zero, suc, List, inl, inr, sym, subst, ◌∙◌}
-use Rattle.std.proofs.lemmas.Bool.{cases_eq}
+use Rattle.group_meetings.proofs.Common.{◌≢◌, ◌⊎◌, ℕ, zero, suc, List, inl, inr, sym, subst, ◌∙◌, cases_eq, Chain-one, Square, RawTech, KeepsRules}
+use Rattle.group_meetings.proofs.Common.{connects, IsWellFormed, IsMaterial, AreLinked, Place, sets_in, IsTyped, AreOneNamedNode, SetLayout, IsClean}
+use Rattle.group_meetings.proofs.Common.{PartStands, IsRestriction, NamedTree, NamedElements, OwnBody, layouts_of, named_tree, flat_layout}
+use Rattle.group_meetings.proofs.Common.{AreOneGroupBelow, IsMemberAt, parts_layout, tree_parts, IsMemberOfPart, PartsHaveMembers}
 use Rattle.finite_sets.specs.Chain.{Chain}
 use Rattle.finite_sets.specs.Chain.Chain.{stay, go}
-use Rattle.finite_sets.proofs.Chains.{Chain-one, Chain-same}
-use Rattle.tech_model.specs.GeoCore.declared.squares.Square.{Square}
-use Rattle.tech_model.specs.declared.raw.RawTech.{RawTech}
-use Rattle.tech_model.specs.Rules.{KeepsRules}
-use Rattle.tech_model.specs.Types.{connects}
-use Rattle.tech_model.specs.WellFormed.{IsWellFormed}
-use Rattle.tree_names.specs.LayoutModel.Layouts.{IsMaterial}
-use Rattle.tree_names.specs.LayoutModel.Links.{AreLinked}
-use Rattle.tree_names.specs.LayoutModel.Places.{Place}
-use Rattle.tree_names.specs.LayoutModel.FlatSets.{sets_in, IsTyped}
-use Rattle.tree_names.specs.Names.NamedNodes.{AreOneNamedNode}
-use Rattle.meeting_laws.specs.Offences.Offences.{SetLayout}
-use Rattle.meeting_laws.specs.HierarchyModel.CleanCells.{IsClean}
-use Rattle.meeting_laws.specs.HierarchyModel.Restrictions.{PartStands, IsRestriction}
-use Rattle.meeting_laws.specs.TreeRecords.NamedTrees.{NamedTree, NamedElements, OwnBody, layouts_of}
-use Rattle.meeting_laws.specs.TreeRecords.NamedTrees.NamedTree.{named_tree}
-use Rattle.meeting_laws.specs.TreeRecords.FlatLayouts.{flat_layout}
-use Rattle.meeting_laws.specs.TreeRecords.MemberGroups.{AreOneGroupBelow, IsMemberAt}
-use Rattle.meeting_laws.specs.PartLayouts.{parts_layout, HoldsAllMeetings, IsPartLink}
+use Rattle.finite_sets.proofs.Chains.{Chain-same}
+use Rattle.meeting_laws.specs.PartLayouts.{HoldsAllMeetings, IsPartLink}
 use Rattle.meeting_laws.proofs.LinkLaws.{meet_near, link_of_part, material_stands, someone_stands}
 use Rattle.meeting_laws.proofs.RestrictionLaws.{layout_inside}
 use Rattle.meeting_laws.proofs.PartLinks.{link_restricted}
-use Rattle.group_meetings.specs.Members.{tree_parts, IsMemberOfPart, PartsHaveMembers, MeetInRegion}
+use Rattle.group_meetings.specs.Members.{MeetInRegion}
 use Rattle.group_meetings.proofs.PartMembers.{flat_is_of_parts, parts_below, own_one_or_material, element_of_group, member_at_part}
 use Rattle.group_meetings.proofs.MemberMaterial.{part_stands, part_is_later, AreOneOrOfPart, own_is_material, element_is_material}
 use Rattle.group_meetings.proofs.MemberMaterial.{flat_of_part, member_is_material}

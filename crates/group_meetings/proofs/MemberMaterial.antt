@@ -1,27 +1,12 @@
 -- Where a member has a place, its part has material, and so has the flat layout.
-use Rattle.std.proofs.Common.{◌≡◌, ◌⊎◌, ℕ, zero, suc, List, ◌∷◌, slice_get, inl, inr, refl, sym, subst, ◌∙◌}
-use Rattle.std.specs.Prelude.{Some}
-use Rattle.finite_sets.proofs.Chains.{Chain-carries}
-use Rattle.tech_model.specs.declared.raw.RawTech.{RawTech}
-use Rattle.tech_model.specs.Rules.{KeepsRules}
-use Rattle.tech_model.specs.WellFormed.{IsWellFormed}
-use Rattle.tree_names.specs.LayoutModel.Layouts.{IsMaterial}
-use Rattle.tree_names.specs.LayoutModel.Places.{Place}
-use Rattle.tree_names.specs.LayoutModel.CellTrees.{place_back}
-use Rattle.tree_names.specs.LayoutModel.FlatSets.{sets_in, IsTyped, AreTyped}
-use Rattle.meeting_laws.specs.Offences.Offences.{SetLayout}
-use Rattle.meeting_laws.specs.HierarchyModel.CleanCells.{IsClean, AreClean}
-use Rattle.meeting_laws.specs.HierarchyModel.Restrictions.{PartStands}
-use Rattle.tree_names.specs.TreeRecords.FetRecords.{IsOfNode}
-use Rattle.meeting_laws.specs.TreeRecords.NamedTrees.{NamedTree, NamedElements, OwnBody, layouts_of, layouts_below}
-use Rattle.meeting_laws.specs.TreeRecords.NamedTrees.NamedTree.{named_tree}
-use Rattle.meeting_laws.specs.TreeRecords.NamedTrees.NamedElements.{no_more, element_then}
-use Rattle.meeting_laws.specs.TreeRecords.FlatLayouts.{flat_layout}
-use Rattle.meeting_laws.specs.TreeRecords.MemberGroups.{AreOneGroup, IsGroupName, IsMemberBelow}
-use Rattle.meeting_laws.specs.PartLayouts.{part_layout}
+use Rattle.group_meetings.proofs.Common.{◌≡◌, ◌⊎◌, ℕ, zero, suc, List, ◌∷◌, slice_get, inl, inr, refl, sym, subst, ◌∙◌, Some, Chain-carries, RawTech}
+use Rattle.group_meetings.proofs.Common.{KeepsRules, IsWellFormed, IsMaterial, Place, place_back, sets_in, IsTyped, SetLayout, IsClean, AreClean}
+use Rattle.group_meetings.proofs.Common.{PartStands, IsOfNode, NamedTree, NamedElements, OwnBody, layouts_of, layouts_below, named_tree, no_more}
+use Rattle.group_meetings.proofs.Common.{element_then, flat_layout, AreOneGroup, part_layout, tree_parts, IsMemberOfElement, IsMemberOfPart}
+use Rattle.tree_names.specs.LayoutModel.FlatSets.{AreTyped}
+use Rattle.meeting_laws.specs.TreeRecords.MemberGroups.{IsGroupName, IsMemberBelow}
 use Rattle.meeting_laws.proofs.LinkLaws.{material_stands}
 use Rattle.meeting_laws.proofs.PartLinks.{part_material}
-use Rattle.group_meetings.specs.Members.{tree_parts, IsMemberOfElement, IsMemberOfPart}
 use Rattle.group_meetings.proofs.PartMembers.{AreOneOrMaterial, one_or_material_then, flat_is_of_parts, own_part, element_part, parts_below}
 use Rattle.group_meetings.proofs.PartMembers.{one_from_back, own_one_or_material, AreOneGroupOfElement, element_of_group, element_of_member}
 

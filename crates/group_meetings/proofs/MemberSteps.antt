@@ -1,31 +1,14 @@
 -- Members along links of their part and along its nodes and groups: they keep their names.
-use Rattle.std.proofs.Common.{◌≡◌, ℕ, zero, suc, List, [], ◌∷◌, slice_get, inl, inr, refl, sym, ap, subst, ◌∙◌}
-use Rattle.std.specs.Prelude.{Some}
-use Rattle.finite_sets.proofs.Chains.{Chain-append, Chain-one}
+use Rattle.group_meetings.proofs.Common.{◌≡◌, ℕ, zero, suc, List, [], ◌∷◌, slice_get, inl, inr, refl, sym, ap, subst, ◌∙◌, Some, Chain-append}
+use Rattle.group_meetings.proofs.Common.{Chain-one, RawTech, KeepsRules, connects, IsWellFormed, Layout, AreLinked, Place, place_back, sets_in}
+use Rattle.group_meetings.proofs.Common.{IsTyped, AreOneNamedNode, SetLayout, IsOfNode, NamedTree, NamedElements, layouts_of, named_tree, no_more}
+use Rattle.group_meetings.proofs.Common.{element_then, path_text, part_layout, link_of_same, tree_parts, IsMemberOfElement, IsMemberOfPart}
 use Rattle.finite_sets.proofs.Leasts.{IsLeast-iff}
 use Rattle.tech_model.specs.declared.raw.Label.{Label}
-use Rattle.tech_model.specs.declared.raw.RawTech.{RawTech}
-use Rattle.tech_model.specs.Rules.{KeepsRules}
-use Rattle.tech_model.specs.Types.{connects}
-use Rattle.tech_model.specs.WellFormed.{IsWellFormed}
-use Rattle.tree_names.specs.LayoutModel.Layouts.{Layout}
-use Rattle.tree_names.specs.LayoutModel.Links.{AreLinked}
-use Rattle.tree_names.specs.LayoutModel.Places.{Place, IsNoLater}
-use Rattle.tree_names.specs.LayoutModel.CellTrees.{place_back}
-use Rattle.tree_names.specs.LayoutModel.FlatSets.{sets_in, IsTyped}
-use Rattle.tree_names.specs.Names.NamedNodes.{AreOneNamedNode}
-use Rattle.meeting_laws.specs.Offences.Offences.{SetLayout}
+use Rattle.tree_names.specs.LayoutModel.Places.{IsNoLater}
 use Rattle.meeting_laws.proofs.HierarchyModel.PartSearch.{one_part}
-use Rattle.tree_names.specs.TreeRecords.FetRecords.{IsOfNode}
 use Rattle.tree_names.proofs.CellNodes.NodePlaces.{AreOneNamedNode-sym, material_along}
-use Rattle.meeting_laws.specs.TreeRecords.NamedTrees.{NamedTree, NamedElements, layouts_of}
-use Rattle.meeting_laws.specs.TreeRecords.NamedTrees.NamedTree.{named_tree}
-use Rattle.meeting_laws.specs.TreeRecords.NamedTrees.NamedElements.{no_more, element_then}
-use Rattle.tree_names.specs.ExtModel.Paths.{path_text}
 use Rattle.meeting_laws.proofs.TreeRecords.MoveLaws.{neighbours_back, stacked_back}
-use Rattle.meeting_laws.specs.PartLayouts.{part_layout}
-use Rattle.meeting_laws.proofs.PartLinks.{link_of_same}
-use Rattle.group_meetings.specs.Members.{tree_parts, IsMemberOfElement, IsMemberOfPart}
 use Rattle.group_meetings.proofs.PartMembers.{AreOneGroupOfElement, element_part, parts_below, own_part}
 use Rattle.tree_names.proofs.GroupNodes.{flat_link_group}
 use Rattle.tree_names.proofs.GroupNames.{one_group_name, group_name_along}

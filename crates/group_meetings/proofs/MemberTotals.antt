@@ -1,32 +1,22 @@
 -- What a member has of a quantity is its total over the places of the member in its part.
-use Rattle.std.proofs.Common.{◌≡◌, ℕ, zero, suc, ℤ, List, [], ◌∷◌, get_or, inl, inr, refl, sym, ap, subst, ◌∙◌}
-use Rattle.finite_sets.specs.Lists.{Distinct}
-use Rattle.finite_sets.specs.Total.{Total}
+use Rattle.group_meetings.proofs.Common.{◌≡◌, ℕ, zero, suc, ℤ, List, [], ◌∷◌, inl, inr, refl, sym, ap, subst, ◌∙◌, Distinct, Total, Transform}
+use Rattle.group_meetings.proofs.Common.{RawTech, KeepsRules, IsWellFormed, path_text, Layout, Place, place_back, sets_in, IsGroupName, PlaceWeight}
+use Rattle.group_meetings.proofs.Common.{IsCleanTree, tree_parts, IsMemberOfElement, IsMemberOfPart}
+use Rattle.std.proofs.Common.{get_or}
 use Rattle.finite_sets.proofs.Totals.{Total-iff, Total-same, Total-map, Total-image}
-use Rattle.tech_model.specs.GeoCore.declared.transforms.Transform.{Transform}
-use Rattle.tech_model.specs.declared.raw.RawTech.{RawTech}
-use Rattle.tech_model.specs.Rules.{KeepsRules}
-use Rattle.tech_model.specs.WellFormed.{IsWellFormed}
 use Rattle.tree_names.specs.ExtModel.NodeNames.{slashes_in}
-use Rattle.tree_names.specs.ExtModel.Paths.{path_text}
-use Rattle.tree_names.specs.LayoutModel.Layouts.{Layout}
-use Rattle.tree_names.specs.LayoutModel.Places.{Place}
-use Rattle.tree_names.specs.LayoutModel.CellTrees.{place_back}
-use Rattle.tree_names.specs.LayoutModel.FlatSets.{sets_in}
 use Rattle.group_meetings.specs.Offences.Offences.{SetLayout}
 use Rattle.group_meetings.specs.TreeRecords.FetRecords.{IsOfNode}
 use Rattle.group_meetings.specs.TreeRecords.NamedTrees.{NamedTree, NamedElements, place_forth}
 use Rattle.group_meetings.specs.TreeRecords.NamedTrees.NamedTree.{named_tree}
 use Rattle.group_meetings.specs.TreeRecords.NamedTrees.NamedElements.{no_more, element_then}
 use Rattle.group_meetings.specs.TreeRecords.FlatLayouts.{flat_layout}
-use Rattle.group_meetings.specs.TreeRecords.MemberGroups.{IsGroupName}
 use Rattle.group_meetings.proofs.TreeRecords.MoveLaws.{back_from_above, above_from_back}
-use Rattle.group_meetings.specs.TreeRecords.PlaceWeights.{PlaceWeight, IsGroupTotal, IsTotalBelow, IsMemberTotal}
-use Rattle.group_meetings.specs.TreeNames.CleanTrees.{IsCleanTree, HaveElementNames, ids_in}
+use Rattle.group_meetings.specs.TreeRecords.PlaceWeights.{IsGroupTotal, IsTotalBelow, IsMemberTotal}
+use Rattle.group_meetings.specs.TreeNames.CleanTrees.{HaveElementNames, ids_in}
 use Rattle.group_meetings.proofs.TreeNames.OwnNames.{goes_by_own, own_name_whole}
 use Rattle.group_meetings.proofs.TreeNames.Paths.{BeginsIn, begins_later, begins_once, begins_with_slash, one_split}
 use Rattle.group_meetings.specs.MeetingLaws.PartLayouts.{part_layout}
-use Rattle.group_meetings.specs.Members.{tree_parts, IsMemberOfElement, IsMemberOfPart}
 use Rattle.group_meetings.proofs.PartMembers.{element_part, own_part, parts_below}
 use Rattle.group_meetings.proofs.LocalQuantities.{IsLocal}
 

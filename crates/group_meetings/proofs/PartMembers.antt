@@ -1,29 +1,18 @@
 -- Members stand where they have places: their part has material there.
-use Rattle.std.proofs.Common.{◌≡◌, ◌⊎◌, ℕ, zero, suc, List, inl, inr, refl, sym, ap, subst, ◌∙◌}
-use Rattle.finite_sets.proofs.Chains.{Chain-carries}
-use Rattle.tech_model.specs.GeoCore.declared.transforms.Transform.{Transform}
-use Rattle.tech_model.specs.declared.raw.RawTech.{RawTech}
-use Rattle.tech_model.specs.Rules.{KeepsRules}
-use Rattle.tech_model.specs.WellFormed.{IsWellFormed}
+use Rattle.group_meetings.proofs.Common.{◌≡◌, ◌⊎◌, ℕ, zero, suc, List, inl, inr, refl, sym, ap, subst, ◌∙◌, Chain-carries, Transform, RawTech}
+use Rattle.group_meetings.proofs.Common.{KeepsRules, IsWellFormed, Layout, IsMaterial, Place, place_back, sets_in, flat_sets, AreOneNamedNode}
+use Rattle.group_meetings.proofs.Common.{SetLayout, NamedTree, NamedElements, OwnBody, layouts_of, layouts_below, named_tree, no_more, element_then}
+use Rattle.group_meetings.proofs.Common.{flat_layout, AreOneGroup, AreOneGroupBelow, IsMemberAt, part_layout, parts_layout, tree_parts}
+use Rattle.group_meetings.proofs.Common.{IsMemberOfElement, IsMemberOfPart}
 use Rattle.tree_names.specs.LayoutModel.LayerTypes.{or_space, HasTypesOf}
-use Rattle.tree_names.specs.LayoutModel.Layouts.{Layout, IsMaterial}
-use Rattle.tree_names.specs.LayoutModel.Places.{Place}
-use Rattle.tree_names.specs.LayoutModel.CellTrees.{place_back}
-use Rattle.tree_names.specs.LayoutModel.FlatSets.{sets_in, flat_sets, element_parts}
+use Rattle.tree_names.specs.LayoutModel.FlatSets.{element_parts}
 use Rattle.tree_names.specs.Names.Attachments.{label_at}
-use Rattle.tree_names.specs.Names.NamedNodes.{AreOneNamedNode}
 use Rattle.tree_names.proofs.Names.AttachLaws.{suits_material}
-use Rattle.meeting_laws.specs.Offences.Offences.{SetLayout}
 use Rattle.meeting_laws.proofs.HierarchyModel.CleanLaws.{flat_of_parts}
 use Rattle.meeting_laws.proofs.HierarchyModel.KindLaws.{type_in_layout}
-use Rattle.meeting_laws.specs.TreeRecords.NamedTrees.{NamedTree, NamedElements, OwnBody, layouts_of, layouts_below, place_forth}
-use Rattle.meeting_laws.specs.TreeRecords.NamedTrees.NamedTree.{named_tree}
-use Rattle.meeting_laws.specs.TreeRecords.NamedTrees.NamedElements.{no_more, element_then}
-use Rattle.meeting_laws.specs.TreeRecords.FlatLayouts.{flat_layout}
-use Rattle.meeting_laws.specs.TreeRecords.MemberGroups.{AreOneGroup, AreOneGroupBelow, IsMemberAt, IsMemberBelow}
+use Rattle.meeting_laws.specs.TreeRecords.NamedTrees.{place_forth}
+use Rattle.meeting_laws.specs.TreeRecords.MemberGroups.{IsMemberBelow}
 use Rattle.meeting_laws.proofs.TreeRecords.MoveLaws.{above_from_back}
-use Rattle.meeting_laws.specs.PartLayouts.{part_layout, parts_layout}
-use Rattle.group_meetings.specs.Members.{tree_parts, IsMemberOfElement, IsMemberOfPart}
 
 -- The places are one, or the layout has material at both.
 abbrev pub AreOneOrMaterial : Layout → Place → Place → Type 0

@@ -1,8 +1,6 @@
 -- Sums over the positions of a list.
-use Rattle.std.proofs.Common.{◌≡◌, ◌+◌, ℕ, zero, suc, ℤ, ◌+ℤ◌, List, [], ◌∷◌, length, slice_get, refl, ap, ◌∙◌, arith}
-use Rattle.std.specs.Prelude.{Some}
+use Rattle.group_meetings.proofs.Common.{◌≡◌, ◌+◌, ℕ, zero, suc, ℤ, ◌+ℤ◌, List, [], ◌∷◌, length, slice_get, refl, ap, ◌∙◌, arith, Some, sum_on}
 use Rattle.std.specs.List.{range_with_len}
-use Rattle.finite_sets.specs.Total.{sum_on}
 
 -- a sum over positions is one over the list
 pub sum_of_positions : {X : Type 0} (g : ℕ → ℤ) (f : X → ℤ) (start : ℕ) (xs : List X)

@@ -1,11 +1,8 @@
 -- Lists of places that have each place once.
-use Rattle.std.proofs.Common.{◌≡◌, ◌⊎◌, ℕ, ℤ, List, [], ◌∷◌, inl, inr, ap, subst, ◌∙◌, arith}
+use Rattle.group_meetings.proofs.Common.{◌≡◌, ◌⊎◌, ℕ, ℤ, List, [], ◌∷◌, inl, inr, ap, subst, ◌∙◌, arith, ints, cases_eq, In, Distinct, Place}
 use Rattle.std.specs.Ordering.{int_eq}
-use Rattle.std.proofs.lemmas.Int.{ints}
-use Rattle.std.proofs.lemmas.Bool.{cases_eq, cases_Bool}
-use Rattle.finite_sets.specs.Lists.{In, Distinct}
+use Rattle.std.proofs.lemmas.Bool.{cases_Bool}
 use Rattle.tech_model.proofs.GeoCore.SquareLaws.{square_is}
-use Rattle.tree_names.specs.LayoutModel.Places.{Place}
 use Rattle.group_meetings.proofs.FloodNodes.TileEdges.{place_on}
 
 -- Two things are one, or they differ.

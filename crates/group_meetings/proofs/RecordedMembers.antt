@@ -1,33 +1,22 @@
 -- Where the nodes of the own layout and the cells of the elements have records, each part has members.
-use Rattle.std.proofs.Common.{◌≡◌, ◌≢◌, ℕ, zero, suc, List, ◌∷◌, inl, inr, refl, sym, ap, ◌∙◌}
-use Rattle.std.specs.Prelude.{Some}
-use Rattle.tech_model.specs.declared.raw.RawTech.{RawTech}
+use Rattle.group_meetings.proofs.Common.{◌≡◌, ◌≢◌, ℕ, zero, suc, List, ◌∷◌, inl, inr, refl, sym, ap, ◌∙◌, Some, RawTech, IsWellFormed, IsMaterial}
+use Rattle.group_meetings.proofs.Common.{Place, place_back, sets_in, flat_sets, SetLayout, IsClean, AreClean, PartStands, NamedTree, NamedElements}
+use Rattle.group_meetings.proofs.Common.{OwnBody, layouts_of, layouts_below, named_tree, no_more, element_then, flat_layout, IsMemberOfElement}
+use Rattle.group_meetings.proofs.Common.{PartsHaveMembers}
 use Rattle.tech_model.specs.Types.{joined, parts_of}
-use Rattle.tech_model.specs.WellFormed.{IsWellFormed}
 use Rattle.tech_model.proofs.JoinedLaws.{joined-found}
 use Rattle.tree_names.specs.LayoutModel.LayerTypes.{or_space}
-use Rattle.tree_names.specs.LayoutModel.Layouts.{IsMaterial}
-use Rattle.tree_names.specs.LayoutModel.Places.{Place}
-use Rattle.tree_names.specs.LayoutModel.CellTrees.{place_back}
-use Rattle.tree_names.specs.LayoutModel.FlatSets.{sets_in, flat_sets}
 use Rattle.tree_names.specs.ExtModel.declared.records.CellExt.{CellExt}
 use Rattle.tree_names.specs.ExtModel.declared.records.NodeRec.{NodeRec}
 use Rattle.tree_names.specs.CellNodes.NodeRecords.{AreNodeRecords}
-use Rattle.meeting_laws.specs.Offences.Offences.{SetLayout, joined_at}
-use Rattle.meeting_laws.specs.HierarchyModel.CleanCells.{IsClean, AreClean}
-use Rattle.meeting_laws.specs.HierarchyModel.Restrictions.{PartStands}
+use Rattle.meeting_laws.specs.Offences.Offences.{joined_at}
 use Rattle.meeting_laws.proofs.HierarchyModel.CleanLaws.{has_flat_type}
 use Rattle.meeting_laws.proofs.HierarchyModel.KindLaws.{defined_or_not}
 use Rattle.meeting_laws.proofs.HierarchyModel.PartSearch.{earlier, one_part}
-use Rattle.meeting_laws.specs.TreeRecords.NamedTrees.{NamedTree, NamedElements, OwnBody, layouts_of, layouts_below}
-use Rattle.meeting_laws.specs.TreeRecords.NamedTrees.NamedTree.{named_tree}
-use Rattle.meeting_laws.specs.TreeRecords.NamedTrees.NamedElements.{no_more, element_then}
-use Rattle.meeting_laws.specs.TreeRecords.FlatLayouts.{flat_layout}
 use Rattle.meeting_laws.specs.TreeRecords.TreeRecords.{HaveTreeRecords}
 use Rattle.tree_names.proofs.GroupMerges.{has_group}
 use Rattle.tree_names.proofs.RecordedNodes.{record_at}
 use Rattle.tree_names.proofs.TreeElements.{top_record}
-use Rattle.group_meetings.specs.Members.{IsMemberOfElement, PartsHaveMembers}
 use Rattle.group_meetings.specs.Laws.{RecordedPartsHaveMembers}
 use Rattle.group_meetings.proofs.PartMembers.{element_part, parts_below}
 

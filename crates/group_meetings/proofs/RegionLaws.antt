@@ -1,22 +1,9 @@
 -- Links of the restricted flat layout of a cell are links of its flat layout, and join places of one group.
-use Rattle.std.proofs.Common.{◌≡◌, List, inl, inr, sym}
+use Rattle.group_meetings.proofs.Common.{◌≡◌, List, inl, inr, sym, Square, RawTech, connects, IsMaterial, AreLinked, Place, SetLayout, IsRestriction}
+use Rattle.group_meetings.proofs.Common.{NamedTree, named_tree, flat_layout, AreOneGroup, parts_layout, link_of_same, tree_parts}
 use Rattle.finite_sets.proofs.Chains.{Chain-weaker}
-use Rattle.tech_model.specs.GeoCore.declared.squares.Square.{Square}
-use Rattle.tech_model.specs.declared.raw.RawTech.{RawTech}
-use Rattle.tech_model.specs.Types.{connects}
-use Rattle.tree_names.specs.LayoutModel.Layouts.{IsMaterial}
-use Rattle.tree_names.specs.LayoutModel.Links.{AreLinked, AreOneNode}
-use Rattle.tree_names.specs.LayoutModel.Places.{Place}
-use Rattle.meeting_laws.specs.Offences.Offences.{SetLayout}
-use Rattle.meeting_laws.specs.HierarchyModel.Restrictions.{IsRestriction}
-use Rattle.meeting_laws.specs.TreeRecords.NamedTrees.{NamedTree}
-use Rattle.meeting_laws.specs.TreeRecords.NamedTrees.NamedTree.{named_tree}
-use Rattle.meeting_laws.specs.TreeRecords.FlatLayouts.{flat_layout}
-use Rattle.meeting_laws.specs.TreeRecords.MemberGroups.{AreOneGroup}
-use Rattle.meeting_laws.specs.PartLayouts.{parts_layout}
+use Rattle.tree_names.specs.LayoutModel.Links.{AreOneNode}
 use Rattle.meeting_laws.proofs.RestrictionLaws.{layout_inside, layout_elsewhere}
-use Rattle.meeting_laws.proofs.PartLinks.{link_of_same}
-use Rattle.group_meetings.specs.Members.{tree_parts}
 use Rattle.group_meetings.proofs.PartMembers.{flat_is_of_parts}
 
 -- a link of the flat layout of a cell is one of that of its parts

@@ -1,25 +1,20 @@
 -- Library orders: their cells are cells of the library, and each stands behind those that are below it.
-use Rattle.std.proofs.Common.{◌≡◌, ◌<◌, ◌+◌, ◌∙◌, ℕ, ℤ, suc, refl, sym, ap, subst, arith}
-use Rattle.std.proofs.Common.{List, [], ◌∷◌, ◌++◌, length, map, take, drop, get_or}
-use Rattle.std.specs.Prelude.{All, Some, slice_get}
-use Rattle.std.proofs.lemmas.List.{drop_more, get_or-map, length-map, take-append-drop}
+use Rattle.hier_merge.proofs.Common.{◌≡◌, ◌<◌, ◌+◌, ◌∙◌, ℕ, suc, refl, sym, ap, subst, arith, List, [], ◌∷◌, ◌++◌, length, map, take, drop, get_or}
+use Rattle.hier_merge.proofs.Common.{All, Some, slice_get, length-map, take-append-drop, In, In-get_or, RawTech, CellTree, Elements, cell_tree}
+use Rattle.hier_merge.proofs.Common.{AreClean, IsClean, IsCleanBelow, own_cell, tree_at, IsLawfulLibrary, LibraryParts, seen, LibraryView, view_at}
+use Rattle.std.proofs.Common.{ℤ}
+use Rattle.std.proofs.lemmas.List.{drop_more, get_or-map}
 use Rattle.std.proofs.lemmas.List.Elements.{All-get_or, All-more}
-use Rattle.finite_sets.specs.Lists.{In, Lists}
-use Rattle.finite_sets.proofs.Members.{In-get_or, In-index}
+use Rattle.finite_sets.specs.Lists.{Lists}
+use Rattle.finite_sets.proofs.Members.{In-index}
 use Rattle.geo_core.specs.declared.transforms.Transform.{Transform}
-use Rattle.tech_model.specs.declared.raw.RawTech.{RawTech}
 use Rattle.ext_model.specs.declared.tables.CellKey.{CellKey}
 use Rattle.cell_library.specs.UseOrders.Uses.{AreBehindChildren, IsAtOrBelow, UsesCell}
-use Rattle.cell_library.specs.LayoutModel.CellTrees.{CellTree, Elements}
-use Rattle.cell_library.specs.LayoutModel.CellTrees.CellTree.{cell_tree}
-use Rattle.meeting_laws.specs.HierarchyModel.CleanCells.{AreClean, IsClean, IsCleanBelow}
 use Rattle.hier_merge.specs.UncleanCells.{IsCleanCell, IsFirstUnclean}
 use Rattle.cell_library.specs.CellTree.declared.use_tables.UseBody.{UseBody}
 use Rattle.cell_library.specs.CellTree.Uses.{displacements}
 use Rattle.cell_library.specs.Additions.{children_in}
-use Rattle.cell_library.specs.LayoutTrees.{elements_at, elements_from, own_cell, tree_at}
-use Rattle.cell_library.specs.Libraries.{IsLawfulLibrary, LibraryParts, seen}
-use Rattle.cell_library.specs.Views.{LibraryView, view_at}
+use Rattle.cell_library.specs.LayoutTrees.{elements_at, elements_from}
 use Rattle.cell_library.proofs.ChildLaws.{below_there, child_of, child_used}
 
 -- ---- clean trees

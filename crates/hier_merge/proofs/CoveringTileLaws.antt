@@ -1,44 +1,22 @@
 -- The tiles that cover the pieces at which the parts of a cell meet.
-use Rattle.std.proofs.Common.{◌≡◌, ◌≢◌, ◌⊎◌, ◌<◌, ℕ, suc, List, [], ◌∷◌, length, map, inl, inr, refl, sym, ap, subst, ◌∙◌, arith}
-use Rattle.std.specs.Prelude.{Some, slice_get, All}
-use Rattle.std.specs.Int.{bit_at}
-use Rattle.std.proofs.lemmas.Bool.{cases_Bool, cases_eq, false≢true}
-use Rattle.std.proofs.lemmas.List.FromFn.{length-map-range_with_len}
-use Rattle.std.proofs.lemmas.Option.{slice_get_within}
-use Rattle.finite_sets.specs.Lists.{In}
-use Rattle.finite_sets.proofs.Members.{In-append_cases, In-map_source}
-use Rattle.finite_sets.proofs.Searches.{All-In}
+use Rattle.hier_merge.proofs.Common.{◌≡◌, ◌≢◌, ◌⊎◌, ◌<◌, ℕ, suc, List, [], ◌∷◌, length, map, inl, inr, refl, sym, ap, subst, ◌∙◌, arith, Some}
+use Rattle.hier_merge.proofs.Common.{slice_get, All, bit_at, cases_Bool, cases_eq, false≢true, length-map-range_with_len, slice_get_within, In}
+use Rattle.hier_merge.proofs.Common.{In-append_cases, In-map_source, All-In, Square, IsNear, Covers, is_covered, Covers-is_covered}
+use Rattle.hier_merge.proofs.Common.{is_covered-Covers, strip_is_proper, strip_within, RawTech, joined, parts_of, IsWellFormed, HasTypesOf, Place}
+use Rattle.hier_merge.proofs.Common.{CellTree, Elements, cell_tree, no_elements, element_and, AreTyped, IsTyped, SetTile, TypedStack, tile_part}
+use Rattle.hier_merge.proofs.Common.{AreTypedStacks, IsTypedStack, on_plane, part_bit, part_kept, no_part, same_sets, PartTile, set_of_tiles}
+use Rattle.hier_merge.proofs.Common.{HasTiles, AreOfParts, set_tile, tiles_on}
 use Rattle.finite_sets.proofs.Places.{In-slice_get, slice_get-In, slice_get-one}
-use Rattle.geo_core.specs.declared.squares.Square.{Square}
-use Rattle.geo_core.specs.Areas.{corner_of, IsNear}
-use Rattle.geo_core.specs.Covering.{Covers, is_covered}
+use Rattle.geo_core.specs.Areas.{corner_of}
 use Rattle.geo_core.proofs.CornerLaws.{corner_covers}
-use Rattle.geo_core.proofs.CoveringLaws.{Covers-is_covered, is_covered-Covers}
-use Rattle.geo_core.proofs.StripSets.{strip_is_proper, strip_within}
-use Rattle.tech_model.specs.declared.raw.RawTech.{RawTech}
-use Rattle.tech_model.specs.Types.{is_type, joined, parts_of, plane_of}
-use Rattle.tech_model.specs.WellFormed.{IsWellFormed}
+use Rattle.tech_model.specs.Types.{is_type, plane_of}
 use Rattle.tech_model.proofs.JoinedLaws.{joined-found}
 use Rattle.tech_model.proofs.SetLaws.{set_not_empty}
-use Rattle.cell_library.specs.LayoutModel.LayerTypes.{HasTypesOf}
-use Rattle.cell_library.specs.LayoutModel.Places.{Place}
-use Rattle.cell_library.specs.LayoutModel.CellTrees.{CellTree, Elements, Standing, standings, standings_from, under}
-use Rattle.cell_library.specs.LayoutModel.CellTrees.CellTree.{cell_tree}
-use Rattle.cell_library.specs.LayoutModel.CellTrees.Elements.{no_elements, element_and}
-use Rattle.cell_library.specs.LayoutModel.FlatSets.{AreTyped, IsTyped}
-use Rattle.meeting_laws.specs.Offences.declared.set_tiles.SetTile.{SetTile}
-use Rattle.meeting_laws.specs.Offences.declared.stacks.TypedStack.{TypedStack}
-use Rattle.meeting_laws.specs.Offences.SetTiles.{tile_part}
-use Rattle.meeting_laws.specs.Offences.TypedStacks.{AreTypedStacks, IsTypedStack, kind_in, on_plane}
+use Rattle.cell_library.specs.LayoutModel.CellTrees.{Standing, standings, standings_from, under}
+use Rattle.meeting_laws.specs.Offences.TypedStacks.{kind_in}
 use Rattle.meeting_laws.proofs.Offences.KindLaws.{kind_in-listed, kind_is_listed}
-use Rattle.meeting_laws.proofs.Offences.TileLaws.{part_bit, part_kept}
-use Rattle.meeting_laws.proofs.Offences.UnionLaws.{no_part, same_sets}
 use Rattle.meeting_laws.proofs.HierarchyModel.KindLaws.{material_set}
-use Rattle.cell_library.specs.declared.part_tiles.PartTile.{PartTile}
-use Rattle.cell_library.specs.PartTiles.{set_of_tiles}
 use Rattle.hier_merge.specs.MeetingPieces.{CoversPiece, HasCoveringTiles, IsPartTile}
-use Rattle.hier_merge.specs.steps.PlanePieces.{HasTiles}
-use Rattle.hier_merge.specs.steps.Visits.{AreOfParts, set_tile, tiles_on}
 use Rattle.hier_merge.proofs.MeetingBoxes.{parts_of_tiles}
 use Rattle.hier_merge.proofs.NumberedParts.{stands_made}
 use Rattle.hier_merge.proofs.PlaneTiles.{from_tiles, on_tiles, set_on_plane}

@@ -1,29 +1,12 @@
 -- The tiles that are found where the parts of a cell meet, and the pieces that are found of them.
-use Rattle.std.proofs.Common.{◌≡◌, ◌≤◌, ◌<◌, ℕ, List, length, inl, inr, refl, ◌∙◌, arith}
-use Rattle.std.specs.Prelude.{All, Some, slice_get}
-use Rattle.std.proofs.lemmas.Option.{slice_get_within, slice_get-get_or}
-use Rattle.finite_sets.specs.Lists.{In}
-use Rattle.finite_sets.proofs.Searches.{All-from_In, All-In}
-use Rattle.finite_sets.proofs.Places.{In-slice_get, slice_get-below}
-use Rattle.geo_core.specs.declared.squares.Rect.{Rect}
-use Rattle.tech_model.specs.declared.raw.RawTech.{RawTech}
-use Rattle.tech_model.specs.Rules.{KeepsRules}
-use Rattle.tech_model.specs.WellFormed.{IsWellFormed}
-use Rattle.cell_library.specs.LayoutModel.Places.{Place}
-use Rattle.cell_library.specs.LayoutModel.CellTrees.{CellTree}
-use Rattle.cell_library.specs.LayoutModel.FlatSets.{IsTyped, parts_in}
-use Rattle.meeting_laws.specs.Offences.declared.plane_stacks.PlaneStack.{PlaneStack}
-use Rattle.meeting_laws.specs.Offences.Offences.{HaveTypes, OffendsOn, SetLayout}
-use Rattle.meeting_laws.specs.Offences.SetTiles.{tile_parts}
-use Rattle.meeting_laws.specs.HierarchyModel.CleanCells.{IsCleanBelow}
+use Rattle.hier_merge.proofs.Common.{◌≡◌, ◌≤◌, ◌<◌, ℕ, List, length, inl, inr, refl, ◌∙◌, arith, All, Some, slice_get, slice_get_within}
+use Rattle.hier_merge.proofs.Common.{slice_get-get_or, In, All-from_In, All-In, slice_get-below, Rect, RawTech, KeepsRules, IsWellFormed, Place}
+use Rattle.hier_merge.proofs.Common.{CellTree, IsTyped, parts_in, PlaneStack, HaveTypes, OffendsOn, SetLayout, tile_parts, IsCleanBelow, PartTile}
+use Rattle.hier_merge.proofs.Common.{AreMeetingTiles, ArePiecesFrom, HasTiles, HaveTypedParts, plane_stack, AreStripsByPlane, AreOfParts, tiles_on}
+use Rattle.finite_sets.proofs.Places.{In-slice_get}
 use Rattle.meeting_laws.proofs.HierarchyModel.MeetingLaws.{meetings_decide}
 use Rattle.meeting_laws.specs.PartLayouts.{Passes}
-use Rattle.cell_library.specs.declared.part_tiles.PartTile.{PartTile}
 use Rattle.hier_merge.specs.MeetingPieces.{AreMeetingPieces, CoversSomePiece, HasCoveringTiles, IsPartTile}
-use Rattle.hier_merge.specs.steps.MeetingTiles.{AreMeetingTiles}
-use Rattle.hier_merge.specs.steps.PlanePieces.{ArePiecesFrom, HasTiles, HaveTypedParts, plane_stack}
-use Rattle.hier_merge.specs.StripLists.{AreStripsByPlane}
-use Rattle.hier_merge.specs.steps.Visits.{AreOfParts, tiles_on}
 use Rattle.hier_merge.proofs.CoveringTileLaws.{covering_tiles, tile_is_member, tile_type}
 use Rattle.hier_merge.proofs.MeetingBoxes.{parts_of_tiles}
 use Rattle.hier_merge.proofs.MeetingOffences.{plane_has_types}

@@ -1,33 +1,16 @@
 -- Pieces of two lists of tiles that share no square are pieces of both lists together.
-use Rattle.std.proofs.Common.{◌≡◌, ◌≢◌, ◌⊎◌, ◌<◌, ℕ, List, [], ◌∷◌, ◌++◌, map, inl, inr, refl, sym, ap, subst, ◌∙◌, arith}
-use Rattle.std.specs.Prelude.{All, AllPairs, IsPermutation}
-use Rattle.std.specs.Int.{bit_at}
-use Rattle.std.specs.List.{range_with_len}
-use Rattle.std.proofs.lemmas.Bool.{cases_Bool, cases_eq, false≢true}
-use Rattle.std.proofs.lemmas.List.{map-append}
+use Rattle.hier_merge.proofs.Common.{◌≡◌, ◌≢◌, ◌⊎◌, ◌<◌, ℕ, List, [], ◌∷◌, ◌++◌, map, inl, inr, refl, sym, ap, subst, ◌∙◌, arith, All, AllPairs}
+use Rattle.hier_merge.proofs.Common.{IsPermutation, bit_at, range_with_len, cases_Bool, cases_eq, false≢true, map-append, IsPermutation-sym, In}
+use Rattle.hier_merge.proofs.Common.{In-append_cases, In-append_left, In-append_right, In-map, In-map_source, In-permutation, AllPairs-from_Pairwise}
+use Rattle.hier_merge.proofs.Common.{Pairwise-append, Pairwise-from_AllPairs, All-from_In, All-In, Rect, Square, AreDisjoint, IsNear, Covers}
+use Rattle.hier_merge.proofs.Common.{is_covered, Covers-is_covered, is_covered-Covers, RawTech, joined, SetTile, TypedStack, HaveTypes, SetLayout}
+use Rattle.hier_merge.proofs.Common.{tile_part, tile_parts, AreTypedStacks, HasMembers, IsTypedStack, StandForTiles, on_plane, typed_stack_areas}
+use Rattle.hier_merge.proofs.Common.{part_bit, part_kept, no_part, same_sets, AreTilePieces, renumbered}
 use Rattle.std.proofs.lemmas.Simd.{map-map}
-use Rattle.std.proofs.lemmas.List.Sorted.{IsPermutation-sym}
-use Rattle.finite_sets.specs.Lists.{In}
-use Rattle.finite_sets.proofs.Members.{In-append_cases, In-append_left, In-append_right, In-map, In-map_source, In-permutation}
-use Rattle.finite_sets.proofs.Pairs.{AllPairs-from_Pairwise, Pairwise-append, Pairwise-from_AllPairs}
-use Rattle.finite_sets.proofs.Searches.{All-from_In, All-In}
-use Rattle.geo_core.specs.declared.squares.Rect.{Rect}
-use Rattle.geo_core.specs.declared.squares.Square.{Square}
-use Rattle.geo_core.specs.Areas.{AreDisjoint, IsNear}
-use Rattle.geo_core.specs.Covering.{Covers, is_covered}
-use Rattle.geo_core.proofs.CoveringLaws.{Covers-is_covered, is_covered-Covers}
-use Rattle.tech_model.specs.declared.raw.RawTech.{RawTech}
-use Rattle.tech_model.specs.Types.{joined}
-use Rattle.meeting_laws.specs.Offences.declared.set_tiles.SetTile.{SetTile}
-use Rattle.meeting_laws.specs.Offences.declared.stacks.TypedStack.{TypedStack}
-use Rattle.meeting_laws.specs.Offences.Offences.{HaveTypes, SetLayout}
-use Rattle.meeting_laws.specs.Offences.SetTiles.{tile_part, tile_parts}
-use Rattle.meeting_laws.specs.Offences.TypedStacks.{AreTypedStacks, HasMembers, IsTypedStack, StandForTiles, on_plane, typed_stack_areas}
 use Rattle.meeting_laws.proofs.Offences.MemberLaws.{of_moved}
 use Rattle.meeting_laws.proofs.Offences.StackLaws.{In-tile_at}
-use Rattle.meeting_laws.proofs.Offences.TileLaws.{HasTile, at_part, length-parts, part_at, part_bit, part_kept}
-use Rattle.meeting_laws.proofs.Offences.UnionLaws.{no_part, same_sets}
-use Rattle.hier_merge.specs.steps.Seams.{AreTilePieces, IsOnTile, renumbered}
+use Rattle.meeting_laws.proofs.Offences.TileLaws.{HasTile, at_part, length-parts, part_at}
+use Rattle.hier_merge.specs.steps.Seams.{IsOnTile}
 use Rattle.hier_merge.proofs.PartTypes.{space_is_defined}
 use Rattle.hier_merge.proofs.PlanePieceLaws.{union_made}
 use Rattle.hier_merge.proofs.PlaneTiles.{nothing_off_plane}

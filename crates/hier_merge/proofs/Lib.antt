@@ -2,6 +2,7 @@
 pub use Rattle.cell_library.proofs.CellTree as CellTree
 pub use Rattle.cell_library.proofs as CellLibrary
 pub mod CleanOrders
+mod Common
 mod CoveringTileLaws
 mod FoundPieces
 mod JoinedPieces

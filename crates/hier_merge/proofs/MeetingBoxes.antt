@@ -1,29 +1,13 @@
 -- Where parts meet the boxes that hold them are near each other, so the tiles found there are enough.
-use Rattle.std.proofs.Common.{◌⊎◌, ◌≤ℤ◌, ◌<ℤ◌, ℕ, List, length, inl, inr, sym, ap, ◌∙◌, arith}
+use Rattle.hier_merge.proofs.Common.{◌⊎◌, ◌≤ℤ◌, ◌<ℤ◌, ℕ, List, length, inl, inr, sym, ap, ◌∙◌, arith, ints, get_or_from_slice_get}
+use Rattle.hier_merge.proofs.Common.{length-map-range_with_len, Square, Rect, Covers, IsStrips, IsInUnion, strip_within, RawTech, Place, CellTree}
+use Rattle.hier_merge.proofs.Common.{parts_in, IsShared, widened, covers_widened, SetLayout, HoldsMeetings, IsRestriction, PartTile, HoldParts}
+use Rattle.hier_merge.proofs.Common.{set_of_tiles, AreVisits}
 use Rattle.std.specs.Option.{option_map}
-use Rattle.std.proofs.lemmas.Int.{ints}
-use Rattle.std.proofs.lemmas.Option.{slice_get-map, get_or_from_slice_get}
-use Rattle.std.proofs.lemmas.List.FromFn.{length-map-range_with_len}
-use Rattle.geo_core.specs.declared.squares.Square.{Square}
-use Rattle.geo_core.specs.declared.squares.Rect.{Rect}
-use Rattle.geo_core.specs.Covering.{Covers}
+use Rattle.std.proofs.lemmas.Option.{slice_get-map}
 use Rattle.geo_core.specs.Neighbours.{AreEdgeNeighbours}
-use Rattle.geo_core.specs.Strips.{IsStrips, IsInUnion}
-use Rattle.geo_core.proofs.StripSets.{strip_within}
 use Rattle.geo_core.proofs.NeighbourLaws.{AreEdgeNeighbours-sym}
-use Rattle.tech_model.specs.declared.raw.RawTech.{RawTech}
-use Rattle.cell_library.specs.LayoutModel.Places.{Place}
-use Rattle.cell_library.specs.LayoutModel.CellTrees.{CellTree}
-use Rattle.cell_library.specs.LayoutModel.FlatSets.{parts_in}
-use Rattle.interact.specs.NearBoxes.{IsShared}
-use Rattle.geo_core.specs.Areas.{widened}
-use Rattle.geo_core.proofs.CoveringLaws.{covers_widened}
-use Rattle.meeting_laws.specs.Offences.Offences.{SetLayout}
-use Rattle.meeting_laws.specs.HierarchyModel.Restrictions.{HoldsMeetings, IsRestriction, PartStands}
-use Rattle.cell_library.specs.declared.part_tiles.PartTile.{PartTile}
-use Rattle.cell_library.specs.ElementBoxes.{HoldParts}
-use Rattle.cell_library.specs.PartTiles.{set_of_tiles}
-use Rattle.hier_merge.specs.steps.Visits.{AreVisits}
+use Rattle.meeting_laws.specs.HierarchyModel.Restrictions.{PartStands}
 use Rattle.hier_merge.proofs.NumberedParts.{numbered, made_from}
 use Rattle.cell_library.proofs.PartLaws.{HasPartAt, HaveTwoBoxes, parts_have_boxes}
 use Rattle.hier_merge.proofs.VisitLaws.{in_union_or_not, visits_inside, visits_outside}

@@ -1,31 +1,10 @@
 -- The tiles that are found where parts interact tell which squares of each plane offend.
-use Rattle.std.proofs.Common.{◌≡◌, ◌<◌, ℕ, List, [], length, inl, inr, refl, sym, ap, ◌∙◌, arith}
-use Rattle.std.specs.Prelude.{◌↔◌}
-use Rattle.std.proofs.lemmas.Bool.{cases_eq, cases_lt}
-use Rattle.std.proofs.lemmas.Option.{slice_get_within}
-use Rattle.std.proofs.lemmas.List.FromFn.{length-map-range_with_len}
-use Rattle.geo_core.specs.declared.squares.Rect.{Rect}
-use Rattle.geo_core.specs.declared.squares.Square.{Square}
-use Rattle.tech_model.specs.declared.raw.RawTech.{RawTech}
-use Rattle.tech_model.specs.Types.{joined}
-use Rattle.tech_model.specs.Rules.{KeepsRules}
-use Rattle.tech_model.specs.WellFormed.{IsWellFormed}
-use Rattle.cell_library.specs.LayoutModel.Places.{Place}
-use Rattle.cell_library.specs.LayoutModel.CellTrees.{CellTree}
-use Rattle.cell_library.specs.LayoutModel.CellTrees.CellTree.{cell_tree}
-use Rattle.cell_library.specs.LayoutModel.FlatSets.{parts_in, IsTyped}
-use Rattle.interact.specs.NearBoxes.{IsShared}
-use Rattle.meeting_laws.specs.Offences.Offences.{HaveTypes, Offends, OffendsOn, SetLayout, joined_at}
-use Rattle.meeting_laws.specs.Offences.SetTiles.{tile_part}
-use Rattle.meeting_laws.specs.HierarchyModel.CleanCells.{IsClean, IsCleanBelow}
-use Rattle.meeting_laws.specs.HierarchyModel.Restrictions.{IsRestriction}
+use Rattle.hier_merge.proofs.Common.{◌≡◌, ◌<◌, ℕ, List, [], length, inl, inr, refl, sym, ap, ◌∙◌, arith, ◌↔◌, cases_eq, cases_lt, slice_get_within}
+use Rattle.hier_merge.proofs.Common.{length-map-range_with_len, Rect, Square, RawTech, joined, KeepsRules, IsWellFormed, Place, CellTree, cell_tree}
+use Rattle.hier_merge.proofs.Common.{parts_in, IsTyped, IsShared, HaveTypes, OffendsOn, SetLayout, joined_at, tile_part, IsClean, IsCleanBelow}
+use Rattle.hier_merge.proofs.Common.{IsRestriction, PartTile, set_of_tiles, AreMeetingTiles, parts_of_plane, AreStripsByPlane, tiles_on, AreOfParts}
+use Rattle.meeting_laws.specs.Offences.Offences.{Offends}
 use Rattle.meeting_laws.proofs.HierarchyModel.MeetingLaws.{meetings_decide, none_offends, offences_on_plane, AreAlikeAt}
-use Rattle.cell_library.specs.declared.part_tiles.PartTile.{PartTile}
-use Rattle.cell_library.specs.PartTiles.{set_of_tiles}
-use Rattle.hier_merge.specs.steps.MeetingTiles.{AreMeetingTiles}
-use Rattle.hier_merge.specs.steps.PlanePieces.{parts_of_plane}
-use Rattle.hier_merge.specs.StripLists.{AreStripsByPlane}
-use Rattle.hier_merge.specs.steps.Visits.{tiles_on, AreOfParts}
 use Rattle.hier_merge.proofs.MeetingBoxes.{meetings_held, parts_of_tiles, visits_restrict}
 use Rattle.hier_merge.proofs.NearAreas.{tiles_are_of_parts}
 use Rattle.hier_merge.proofs.NumberedParts.{made_from, stands_made}

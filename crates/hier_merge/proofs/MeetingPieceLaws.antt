@@ -1,24 +1,11 @@
 -- The pieces of all planes are those at which the parts of the cell meet, and tiles cover them.
-use Rattle.std.proofs.Common.{◌≡◌, ◌≤◌, ◌<◌, ◌+◌, ℕ, zero, suc, List, [], ◌∷◌, map, inl, inr, refl, sym, ap, subst, arith}
-use Rattle.std.specs.Prelude.{Some, slice_get, AllPairs}
-use Rattle.std.proofs.lemmas.Bool.{cases_eq, cases_lt}
-use Rattle.finite_sets.specs.Lists.{In}
-use Rattle.finite_sets.proofs.Members.{In-append_cases, In-append_left, In-append_right, In-map, In-map_source}
-use Rattle.finite_sets.proofs.Pairs.{AllPairs-from_Pairwise, Pairwise, Pairwise-append, Pairwise-from_AllPairs}
-use Rattle.geo_core.specs.declared.squares.Rect.{Rect}
-use Rattle.geo_core.specs.Areas.{AreDisjoint}
-use Rattle.tech_model.specs.declared.raw.RawTech.{RawTech}
-use Rattle.cell_library.specs.LayoutModel.Places.{Place}
-use Rattle.meeting_laws.specs.Offences.declared.plane_stacks.PlaneStack.{PlaneStack}
-use Rattle.meeting_laws.specs.Offences.declared.stacks.TypedStack.{TypedStack}
-use Rattle.meeting_laws.specs.Offences.Offences.{HaveTypes, OffendsOn, SetLayout}
+use Rattle.hier_merge.proofs.Common.{◌≡◌, ◌≤◌, ◌<◌, ◌+◌, ℕ, zero, suc, List, [], ◌∷◌, map, inl, inr, refl, sym, ap, subst, arith, Some, slice_get}
+use Rattle.hier_merge.proofs.Common.{AllPairs, cases_eq, cases_lt, In, In-append_cases, In-append_left, In-append_right, In-map, In-map_source}
+use Rattle.hier_merge.proofs.Common.{AllPairs-from_Pairwise, Pairwise, Pairwise-append, Pairwise-from_AllPairs, Rect, AreDisjoint, RawTech, Place}
+use Rattle.hier_merge.proofs.Common.{PlaneStack, TypedStack, HaveTypes, OffendsOn, SetLayout, tile_parts, AreTypedStacks, typed_stack_areas}
+use Rattle.hier_merge.proofs.Common.{PartTile, ArePiecesFrom, plane_stack, AreStripsFrom, AreOfParts, tiles_on}
 use Rattle.meeting_laws.specs.Offences.PlaneStacks.{ArePlaneStacks}
-use Rattle.meeting_laws.specs.Offences.SetTiles.{tile_parts}
-use Rattle.meeting_laws.specs.Offences.TypedStacks.{AreTypedStacks, typed_stack_areas}
-use Rattle.cell_library.specs.declared.part_tiles.PartTile.{PartTile}
-use Rattle.hier_merge.specs.steps.PlanePieces.{ArePiecesFrom, HasPlanePieces, plane_stack}
-use Rattle.hier_merge.specs.StripLists.{AreStripsFrom}
-use Rattle.hier_merge.specs.steps.Visits.{AreOfParts, tiles_on}
+use Rattle.hier_merge.specs.steps.PlanePieces.{HasPlanePieces}
 use Rattle.hier_merge.proofs.MeetingBoxes.{parts_of_tiles}
 use Rattle.hier_merge.proofs.PlanePieceLaws.{pieces_of_all}
 use Rattle.hier_merge.proofs.PlaneTiles.{parts_on_plane}

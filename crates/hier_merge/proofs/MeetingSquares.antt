@@ -1,25 +1,11 @@
 -- The squares in which tiles of a cell's parts are found have all places at which the parts meet.
-use Rattle.std.proofs.Common.{Bool, List, length, inl, inr, sym, subst, ◌∙◌}
+use Rattle.hier_merge.proofs.Common.{Bool, List, length, inl, inr, sym, subst, ◌∙◌, cases_Bool, false≢true, In, Rect, Square, Covers, is_covered}
+use Rattle.hier_merge.proofs.Common.{IsInUnion, IsStrips, Covers-is_covered, is_covered-Covers, covers_widened, RawTech, CellTree, parts_in}
+use Rattle.hier_merge.proofs.Common.{IsShared, SetLayout, HoldsMeetings, IsRestriction, PartTile, HoldParts, AreMeetingTiles}
 use Rattle.std.specs.List.{list_any}
-use Rattle.std.proofs.lemmas.Bool.{cases_Bool, false≢true}
-use Rattle.finite_sets.specs.Lists.{In}
 use Rattle.finite_sets.proofs.Searches.{list_any-In, list_any-source}
-use Rattle.geo_core.specs.declared.squares.Rect.{Rect}
-use Rattle.geo_core.specs.declared.squares.Square.{Square}
-use Rattle.geo_core.specs.Covering.{Covers, is_covered}
-use Rattle.geo_core.specs.Strips.{IsInUnion, IsStrips}
-use Rattle.geo_core.proofs.CoveringLaws.{Covers-is_covered, is_covered-Covers, covers_widened}
-use Rattle.tech_model.specs.declared.raw.RawTech.{RawTech}
-use Rattle.cell_library.specs.LayoutModel.CellTrees.{CellTree}
-use Rattle.cell_library.specs.LayoutModel.FlatSets.{parts_in}
-use Rattle.interact.specs.NearBoxes.{IsShared}
-use Rattle.meeting_laws.specs.Offences.Offences.{SetLayout}
-use Rattle.meeting_laws.specs.HierarchyModel.Restrictions.{HoldsMeetings, IsRestriction}
 use Rattle.meeting_laws.specs.PartLayouts.{HoldsAllMeetings, Passes}
-use Rattle.cell_library.specs.declared.part_tiles.PartTile.{PartTile}
-use Rattle.cell_library.specs.ElementBoxes.{HoldParts}
 use Rattle.cell_library.proofs.PartLaws.{parts_have_boxes}
-use Rattle.hier_merge.specs.steps.MeetingTiles.{AreMeetingTiles}
 use Rattle.hier_merge.proofs.MeetingBoxes.{both_share, has_part, meetings_held, of_strips, parts_of_tiles, visits_restrict}
 
 -- ---- the squares

@@ -1,25 +1,11 @@
 -- Areas that lie near, and the tiles that are found in them.
-use Rattle.std.proofs.Common.{◌<◌, ◌≤ℤ◌, ◌<ℤ◌, ◌-ℤ◌, ◌+ℤ◌, pos, neg_ℤ, List, [], ◌∷◌, length, inl, inr, refl, sym, subst, arith}
-use Rattle.std.specs.Prelude.{All}
-use Rattle.std.proofs.lemmas.Int.{ints, clamps}
-use Rattle.finite_sets.specs.Lists.{In}
-use Rattle.finite_sets.proofs.Members.{In-append_cases}
-use Rattle.finite_sets.proofs.Searches.{All-from_In, All-In}
+use Rattle.hier_merge.proofs.Common.{◌<◌, ◌≤ℤ◌, ◌<ℤ◌, pos, List, [], ◌∷◌, length, inl, inr, refl, sym, subst, arith, All, ints, In, In-append_cases}
+use Rattle.hier_merge.proofs.Common.{All-from_In, All-In, Square, Rect, widened, IsNear, IsProper, rect_image, IsStrips, strip_is_proper, RawTech}
+use Rattle.hier_merge.proofs.Common.{CellTree, parts_in, IsLawfulBox, PartTile, IsPartTileIn, AreOfParts, AreVisits}
+use Rattle.std.proofs.Common.{◌-ℤ◌, ◌+ℤ◌, neg_ℤ}
+use Rattle.std.proofs.lemmas.Int.{clamps}
 use Rattle.geo_core.specs.declared.limits.TheConstants.{PAINT_EDGE, PLANE_EDGE}
-use Rattle.geo_core.specs.declared.squares.Square.{Square}
-use Rattle.geo_core.specs.declared.squares.Rect.{Rect}
-use Rattle.geo_core.specs.Areas.{common_rect, widened, IsNear, LiesWithin}
-use Rattle.geo_core.specs.Covering.{IsProper}
-use Rattle.geo_core.specs.Images.{rect_image}
-use Rattle.geo_core.specs.Strips.{IsStrips}
-use Rattle.geo_core.proofs.StripSets.{strip_is_proper}
-use Rattle.tech_model.specs.declared.raw.RawTech.{RawTech}
-use Rattle.cell_library.specs.LayoutModel.CellTrees.{CellTree}
-use Rattle.cell_library.specs.LayoutModel.FlatSets.{parts_in}
-use Rattle.cell_library.specs.CellTree.Hulls.{IsLawfulBox}
-use Rattle.cell_library.specs.declared.part_tiles.PartTile.{PartTile}
-use Rattle.cell_library.specs.PartTiles.{IsPartTileIn}
-use Rattle.hier_merge.specs.steps.Visits.{AreOfParts, AreVisits}
+use Rattle.geo_core.specs.Areas.{common_rect, LiesWithin}
 use Rattle.cell_library.proofs.PartLaws.{part_is_there}
 
 -- the range of paint, and one square more on every side

@@ -1,10 +1,7 @@
 -- Parts that are made from their positions.
-use Rattle.std.proofs.Common.{◌≡◌, ◌<◌, ℕ, List, length, map, sym, ◌∙◌, ap, arith}
-use Rattle.std.specs.Prelude.{Some, slice_get}
-use Rattle.std.specs.List.{range_with_len}
-use Rattle.std.proofs.lemmas.Option.{slice_get_within, slice_get-get_or, get_or_from_slice_get}
-use Rattle.std.proofs.lemmas.List.FromFn.{length-map-range_with_len, get_or-map-range_with_len}
-use Rattle.meeting_laws.specs.Offences.Offences.{SetLayout}
+use Rattle.hier_merge.proofs.Common.{◌≡◌, ◌<◌, ℕ, List, length, map, sym, ◌∙◌, ap, arith, Some, slice_get, range_with_len, slice_get_within}
+use Rattle.hier_merge.proofs.Common.{slice_get-get_or, get_or_from_slice_get, length-map-range_with_len, SetLayout}
+use Rattle.std.proofs.lemmas.List.FromFn.{get_or-map-range_with_len}
 
 -- the parts of the first so many positions
 abbrev pub numbered : (ℕ → SetLayout) → ℕ → List SetLayout

@@ -1,32 +1,18 @@
 -- Tiles of a plane by their numbers: where they stand among all tiles, and which of them cover a piece.
-use Rattle.std.proofs.Common.{◌≡◌, ◌≢◌, ◌≤◌, ◌<◌, ◌⊎◌, ◌+◌, ◌-◌, ℕ, zero, suc, Bool, cond, List, [], ◌∷◌, length, map, take, drop, inl, inr, refl, sym, ap, subst, ◌∙◌, arith}
-use Rattle.std.proofs.Common.{get_or, ne_eqb}
-use Rattle.std.specs.Prelude.{Some, slice_get, slice_index, All, IsPermutation}
+use Rattle.hier_merge.proofs.Common.{◌≡◌, ◌≢◌, ◌≤◌, ◌<◌, ◌⊎◌, ◌+◌, ◌-◌, ℕ, zero, suc, Bool, cond, List, [], ◌∷◌, length, map, take, drop, inl, inr}
+use Rattle.hier_merge.proofs.Common.{refl, sym, ap, subst, ◌∙◌, arith, get_or, ne_eqb, Some, slice_get, slice_index, All, IsPermutation, cases_eq}
+use Rattle.hier_merge.proofs.Common.{cases_lt, eq-eqb, length-map, IsPermutation-sym, slice_get_within, get_or_from_slice_get, In, In-map}
+use Rattle.hier_merge.proofs.Common.{In-map_source, In-permutation, AllPairs-from_Pairwise, Pairwise-from_AllPairs, slice_get-below, All-from_In}
+use Rattle.hier_merge.proofs.Common.{All-In, IsNear, Covers, RawTech, SetTile, TypedStack, HasMembers, PartTile, NumberedTile, HasTiles, IsSeam}
+use Rattle.hier_merge.proofs.Common.{numbered_on, renumbered, set_tile, tiles_on}
 use Rattle.std.specs.List.Sorted.{IsSortedByKey}
 use Rattle.std.specs.Ordering.{nat_cmp}
-use Rattle.std.proofs.lemmas.Bool.{cases_eq, cases_lt, eq-eqb}
 use Rattle.std.proofs.lemmas.Cmp.{nat_cmp_total}
-use Rattle.std.proofs.lemmas.List.{length-map}
-use Rattle.std.proofs.lemmas.List.Sorted.{IsPermutation-sym}
-use Rattle.std.proofs.lemmas.Option.{slice_get_within, get_or_from_slice_get}
-use Rattle.finite_sets.specs.Lists.{In}
-use Rattle.finite_sets.proofs.Members.{In-map, In-map_source, In-permutation, In-some}
+use Rattle.finite_sets.proofs.Members.{In-some}
 use Rattle.finite_sets.proofs.Orders.{IsSortedByKey-pairs, nat_cmp-not_less}
-use Rattle.finite_sets.proofs.Pairs.{AllPairs-from_Pairwise, Pairwise-from_AllPairs, Pairwise-map}
-use Rattle.finite_sets.proofs.Places.{In-slice_get, slice_get-In, slice_get-below, slice_get-map_there}
-use Rattle.finite_sets.proofs.Searches.{All-from_In, All-In}
-use Rattle.geo_core.specs.Areas.{IsNear}
-use Rattle.geo_core.specs.Covering.{Covers}
-use Rattle.tech_model.specs.declared.raw.RawTech.{RawTech}
-use Rattle.meeting_laws.specs.Offences.declared.set_tiles.SetTile.{SetTile}
-use Rattle.meeting_laws.specs.Offences.declared.stacks.TypedStack.{TypedStack}
+use Rattle.finite_sets.proofs.Pairs.{Pairwise-map}
+use Rattle.finite_sets.proofs.Places.{In-slice_get, slice_get-In, slice_get-map_there}
 use Rattle.meeting_laws.specs.Offences.PartSets.{AreInPartOrder, no_tile, tile_at}
-use Rattle.meeting_laws.specs.Offences.TypedStacks.{HasMembers}
-use Rattle.cell_library.specs.declared.part_tiles.PartTile.{PartTile}
-use Rattle.hier_merge.specs.declared.plane_tiles.NumberedTile.{NumberedTile}
-use Rattle.hier_merge.specs.steps.PlanePieces.{HasTiles}
-use Rattle.hier_merge.specs.steps.Seams.{IsSeam, numbered_on, renumbered}
-use Rattle.hier_merge.specs.steps.Visits.{set_tile, tiles_on}
 
 -- ---- places of a part of a list
 

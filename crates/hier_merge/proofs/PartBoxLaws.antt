@@ -1,25 +1,14 @@
 -- The boxes of the parts of a cell, its own first.
-use Rattle.std.proofs.Common.{◌≡◌, ℕ, zero, suc, List, ◌∷◌, ◌++◌, inl, inr, refl, sym, ap, subst, arith}
-use Rattle.std.proofs.lemmas.Int.{ints}
-use Rattle.std.specs.Prelude.{Option, Some, None, IsNone, IfSome, All, ◌↔◌, ◌<◌, length, slice_index_or}
-use Rattle.std.specs.Option.{option_to_list}
-use Rattle.geo_core.specs.declared.squares.Rect.{Rect}
+use Rattle.hier_merge.proofs.Common.{◌≡◌, ℕ, zero, suc, List, ◌∷◌, ◌++◌, inl, inr, refl, sym, ap, subst, arith, ints, Option, Some, None, All, ◌↔◌}
+use Rattle.hier_merge.proofs.Common.{slice_index_or, option_to_list, Rect, RawTech, parts_of, Place, Layout, CellTree, cell_tree, parts_in}
+use Rattle.hier_merge.proofs.Common.{IsLawfulBox, HoldParts, own_cell, tree_at, LibraryView, view_at, PaintBoxIs}
+use Rattle.std.specs.Prelude.{IsNone, IfSome, ◌<◌, length}
 use Rattle.geo_core.specs.Areas.{LiesWithin}
-use Rattle.tech_model.specs.declared.raw.RawTech.{RawTech}
 use Rattle.tech_model.specs.declared.raw.TypeRec.{TypeRec}
-use Rattle.tech_model.specs.Types.{parts_of}
-use Rattle.cell_library.specs.LayoutModel.Places.{Place}
-use Rattle.cell_library.specs.LayoutModel.Layouts.{Layout}
-use Rattle.cell_library.specs.LayoutModel.CellTrees.{CellTree}
-use Rattle.cell_library.specs.LayoutModel.CellTrees.CellTree.{cell_tree}
-use Rattle.cell_library.specs.LayoutModel.FlatSets.{element_parts, elements_in, parts_in, sets_in}
+use Rattle.cell_library.specs.LayoutModel.FlatSets.{element_parts, elements_in, sets_in}
 use Rattle.cell_library.specs.CellPaint.Painting.{paint_range}
 use Rattle.cell_library.specs.CellPaint.Paints.{IsPaintBox, IsSoundPaint}
-use Rattle.cell_library.specs.CellTree.Hulls.{IsLawfulBox}
-use Rattle.cell_library.specs.ElementBoxes.{HoldParts}
-use Rattle.cell_library.specs.LayoutTrees.{elements_from, own_cell, tree_at}
-use Rattle.cell_library.specs.Views.{LibraryView, view_at}
-use Rattle.hier_merge.specs.Interactions.{PaintBoxIs}
+use Rattle.cell_library.specs.LayoutTrees.{elements_from}
 
 -- what a search for the box of paint tells
 pub paint_box : (layout : Layout) (found : Option Rect) → (IsNone found ↔ ((place : Place) → layout place ≡ 0)) → IfSome found (IsPaintBox layout)

@@ -1,24 +1,11 @@
 -- Parts of which each has a type everywhere, and planes on which no part stands.
-use Rattle.std.proofs.Common.{◌≡◌, ◌≤◌, ◌<◌, ℕ, zero, suc, bit_or, List, length, inl, inr, refl, sym, ap, ◌∙◌, arith}
-use Rattle.std.specs.Prelude.{Some, None, slice_get}
-use Rattle.std.proofs.lemmas.Bool.{cases_eq}
-use Rattle.std.proofs.lemmas.Option.{slice_get_within, slice_get-get_or}
-use Rattle.geo_core.specs.declared.squares.Square.{Square}
-use Rattle.tech_model.specs.declared.raw.RawTech.{RawTech}
-use Rattle.tech_model.specs.Types.{joined, parts_of}
-use Rattle.tech_model.specs.Rules.{KeepsRules}
-use Rattle.tech_model.specs.WellFormed.{IsWellFormed}
-use Rattle.cell_library.specs.LayoutModel.Layouts.{Layout}
-use Rattle.cell_library.specs.LayoutModel.LayerTypes.{HasTypesOf}
-use Rattle.cell_library.specs.LayoutModel.Places.{Place}
-use Rattle.cell_library.specs.LayoutModel.CellTrees.{CellTree, Elements, place_back}
-use Rattle.cell_library.specs.LayoutModel.CellTrees.CellTree.{cell_tree}
-use Rattle.cell_library.specs.LayoutModel.CellTrees.Elements.{no_elements, element_and}
-use Rattle.cell_library.specs.LayoutModel.FlatSets.{element_parts, flat_sets, parts_in, sets_below, sets_in, AreTyped, IsTyped}
-use Rattle.meeting_laws.specs.Offences.Offences.{HaveTypes, SetLayout, joined_at}
+use Rattle.hier_merge.proofs.Common.{◌≡◌, ◌≤◌, ◌<◌, ℕ, zero, suc, bit_or, List, length, inl, inr, refl, sym, ap, ◌∙◌, arith, Some, None, slice_get}
+use Rattle.hier_merge.proofs.Common.{cases_eq, slice_get_within, slice_get-get_or, Square, RawTech, joined, parts_of, KeepsRules, IsWellFormed}
+use Rattle.hier_merge.proofs.Common.{Layout, HasTypesOf, Place, CellTree, Elements, cell_tree, no_elements, element_and, parts_in, AreTyped, IsTyped}
+use Rattle.hier_merge.proofs.Common.{HaveTypes, SetLayout, joined_at, AreClean, IsCleanBelow, IsRestriction}
+use Rattle.cell_library.specs.LayoutModel.CellTrees.{place_back}
+use Rattle.cell_library.specs.LayoutModel.FlatSets.{element_parts, flat_sets, sets_below, sets_in}
 use Rattle.meeting_laws.proofs.Offences.SpoiledLaws.{some_is_not_none}
-use Rattle.meeting_laws.specs.HierarchyModel.CleanCells.{AreClean, IsCleanBelow}
-use Rattle.meeting_laws.specs.HierarchyModel.Restrictions.{IsRestriction}
 use Rattle.meeting_laws.proofs.HierarchyModel.CleanLaws.{has_flat_type}
 use Rattle.meeting_laws.proofs.HierarchyModel.KindLaws.{type_in_layout}
 use Rattle.meeting_laws.proofs.HierarchyModel.PartSearch.{type_of_empty, NoneStands}

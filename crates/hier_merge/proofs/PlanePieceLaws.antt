@@ -1,24 +1,10 @@
 -- Pieces that are found plane by plane, and what they are of the parts that all tiles make.
-use Rattle.std.proofs.Common.{◌≡◌, ◌<◌, ◌+◌, ℕ, zero, suc, bit_or, List, [], ◌∷◌, ◌++◌, length, map, refl, sym, ap, subst, ◌∙◌, arith}
-use Rattle.std.specs.Prelude.{Some, slice_get}
-use Rattle.std.specs.List.{range_with_len}
-use Rattle.std.proofs.lemmas.List.{append-nil, append_assoc}
-use Rattle.std.proofs.lemmas.List.FromFn.{length-map-range_with_len}
-use Rattle.std.proofs.lemmas.Option.{slice_get_within}
-use Rattle.geo_core.specs.declared.squares.Rect.{Rect}
-use Rattle.geo_core.specs.declared.squares.Square.{Square}
-use Rattle.tech_model.specs.declared.raw.RawTech.{RawTech}
-use Rattle.tech_model.specs.Types.{joined}
-use Rattle.cell_library.specs.LayoutModel.Places.{Place}
-use Rattle.meeting_laws.specs.Offences.declared.plane_stacks.PlaneStack.{PlaneStack}
-use Rattle.meeting_laws.specs.Offences.declared.stacks.TypedStack.{TypedStack}
-use Rattle.meeting_laws.specs.Offences.Offences.{SetLayout, flat_type, union_of}
-use Rattle.meeting_laws.specs.Offences.SetTiles.{tile_part, tile_parts}
-use Rattle.meeting_laws.specs.Offences.TypedStacks.{AreTypedStacks, IsTypedStack, on_plane}
-use Rattle.cell_library.specs.declared.part_tiles.PartTile.{PartTile}
-use Rattle.cell_library.specs.PartTiles.{set_of_tiles}
-use Rattle.hier_merge.specs.steps.PlanePieces.{AddsPlane, ArePiecesFrom, HasPlanePieces, plane_stack}
-use Rattle.hier_merge.specs.steps.Visits.{tiles_on}
+use Rattle.hier_merge.proofs.Common.{◌≡◌, ◌<◌, ◌+◌, ℕ, zero, suc, bit_or, List, [], ◌∷◌, ◌++◌, length, map, refl, sym, ap, subst, ◌∙◌, arith, Some}
+use Rattle.hier_merge.proofs.Common.{slice_get, range_with_len, append-nil, append_assoc, length-map-range_with_len, slice_get_within, Rect, Square}
+use Rattle.hier_merge.proofs.Common.{RawTech, joined, Place, PlaneStack, TypedStack, SetLayout, tile_part, tile_parts, AreTypedStacks, IsTypedStack}
+use Rattle.hier_merge.proofs.Common.{on_plane, PartTile, set_of_tiles, ArePiecesFrom, plane_stack, tiles_on}
+use Rattle.meeting_laws.specs.Offences.Offences.{flat_type, union_of}
+use Rattle.hier_merge.specs.steps.PlanePieces.{AddsPlane, HasPlanePieces}
 use Rattle.hier_merge.specs.declared.meetings.Pieces.{Pieces}
 use Rattle.hier_merge.proofs.MeetingBoxes.{parts_of_tiles}
 use Rattle.hier_merge.proofs.NumberedParts.{made_from, stands_made}

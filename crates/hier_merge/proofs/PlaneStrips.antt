@@ -1,14 +1,7 @@
 -- Strips of sets on several planes: of one plane more, of no square, and of sets with the same squares.
-use Rattle.std.proofs.Common.{◌≡◌, ◌≤◌, ◌<◌, ◌+◌, ℕ, zero, suc, List, [], ◌∷◌, ◌++◌, map, inl, inr, refl, sym, ap, subst, ◌∙◌, arith}
-use Rattle.std.specs.Prelude.{◌↔◌}
-use Rattle.std.proofs.lemmas.Bool.{cases_eq}
-use Rattle.std.proofs.lemmas.Int.{ints}
-use Rattle.std.proofs.lemmas.List.{append-nil, append_assoc}
-use Rattle.geo_core.specs.declared.squares.Square.{Square}
-use Rattle.geo_core.specs.declared.squares.Rect.{Rect}
-use Rattle.geo_core.specs.Strips.{IsStrips, IsInUnion}
-use Rattle.geo_core.proofs.StripSets.{strip_is_proper, strips_same}
-use Rattle.hier_merge.specs.StripLists.{AreStripsFrom}
+use Rattle.hier_merge.proofs.Common.{◌≡◌, ◌≤◌, ◌<◌, ◌+◌, ℕ, zero, suc, List, [], ◌∷◌, ◌++◌, map, inl, inr, refl, sym, ap, subst, ◌∙◌, arith, ◌↔◌}
+use Rattle.hier_merge.proofs.Common.{cases_eq, ints, append-nil, append_assoc, Square, Rect, IsStrips, IsInUnion, strip_is_proper, strips_same}
+use Rattle.hier_merge.proofs.Common.{AreStripsFrom}
 
 -- strips of one plane more
 pub plane_more : (Set : ℕ → Square → Type 0) (plane count last : ℕ) (found : List (ℕ × Rect)) (strips : List Rect) → last ≡ plane + count

@@ -1,21 +1,11 @@
 -- The tiles of one plane, and what they make of the parts there.
-use Rattle.std.proofs.Common.{◌≡◌, ◌≢◌, ◌&&◌, ◌<◌, ℕ, Bool, true, false, cond, bit_or, List, [], ◌∷◌, inl, inr, refl, sym, ap, subst, ◌∙◌}
-use Rattle.std.proofs.Common.{eqb-true, ne_eqb}
-use Rattle.std.specs.Prelude.{◌==◌}
-use Rattle.std.proofs.lemmas.Bool.{cases_Bool, eq-eqb, eqb-false}
-use Rattle.finite_sets.specs.Lists.{In}
-use Rattle.finite_sets.proofs.Searches.{All-from_In, All-In}
-use Rattle.geo_core.specs.Covering.{is_covered}
-use Rattle.geo_core.specs.Areas.{IsNear}
-use Rattle.tech_model.specs.declared.raw.RawTech.{RawTech}
-use Rattle.tech_model.specs.Types.{parts_of}
-use Rattle.cell_library.specs.LayoutModel.Places.{Place}
+use Rattle.hier_merge.proofs.Common.{◌≡◌, ◌≢◌, ◌&&◌, ◌<◌, ℕ, Bool, true, false, cond, bit_or, List, [], ◌∷◌, inl, inr, refl, sym, ap, subst, ◌∙◌}
+use Rattle.hier_merge.proofs.Common.{ne_eqb, ◌==◌, cases_Bool, eq-eqb, In, All-from_In, All-In, is_covered, IsNear, RawTech, parts_of, Place}
+use Rattle.hier_merge.proofs.Common.{SetTile, tile_part, PartTile, set_from, set_of_tiles, AreOfParts, set_tile, tiles_on}
+use Rattle.std.proofs.Common.{eqb-true}
+use Rattle.std.proofs.lemmas.Bool.{eqb-false}
 use Rattle.cell_library.proofs.LayoutModel.SetUnions.{none_union}
-use Rattle.meeting_laws.specs.Offences.declared.set_tiles.SetTile.{SetTile}
-use Rattle.meeting_laws.specs.Offences.SetTiles.{tile_part, AreTilesOfParts, set_of_set_tile}
-use Rattle.cell_library.specs.declared.part_tiles.PartTile.{PartTile}
-use Rattle.cell_library.specs.PartTiles.{set_from, set_of_tiles}
-use Rattle.hier_merge.specs.steps.Visits.{AreOfParts, set_tile, tiles_on}
+use Rattle.meeting_laws.specs.Offences.SetTiles.{AreTilesOfParts, set_of_set_tile}
 
 -- each tile of the plane is one of the tiles, and lies on the plane
 pub from_tiles : (raw : RawTech) (plane : ℕ) (tiles : List PartTile) (found : SetTile) → In found (tiles_on raw plane tiles)

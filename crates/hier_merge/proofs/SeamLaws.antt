@@ -1,31 +1,15 @@
 -- Tiles of areas that lie apart have seams between the visits, and the tiles of a plane share no square over a seam.
-use Rattle.std.proofs.Common.{◌≡◌, ◌≤◌, ◌<◌, ◌+◌, ◌-◌, ◌⊎◌, ℕ, zero, suc, Bool, cond, List, [], ◌∷◌, ◌++◌, length, take, drop, inl, inr}
-use Rattle.std.proofs.Common.{refl, sym, ap, subst, ◌∙◌, arith}
-use Rattle.std.specs.Prelude.{◌==◌, All, AllPairs, slice_index_or}
-use Rattle.std.proofs.lemmas.Bool.{cases_Bool}
-use Rattle.std.proofs.lemmas.List.{length-append}
+use Rattle.hier_merge.proofs.Common.{◌≡◌, ◌≤◌, ◌<◌, ◌+◌, ◌-◌, ◌⊎◌, ℕ, zero, suc, Bool, cond, List, [], ◌∷◌, ◌++◌, length, take, drop, inl, inr, refl}
+use Rattle.hier_merge.proofs.Common.{sym, ap, subst, ◌∙◌, arith, ◌==◌, All, AllPairs, slice_index_or, cases_Bool, length-append, In, In-append_cases}
+use Rattle.hier_merge.proofs.Common.{AllPairs-from_Pairwise, Pairwise, Pairwise-from_AllPairs, All-from_In, All-In, Rect, Square, AreDisjoint}
+use Rattle.hier_merge.proofs.Common.{Covers, rect_image, covers_second, RawTech, CellTree, SetTile, PartTile, IsPartTileIn, TypedStack}
+use Rattle.hier_merge.proofs.Common.{AreTypedStacks, StandForTiles, HasTiles, HaveTypedParts, parts_of_plane, AreTilePieces, AreSeams, IsSeam}
+use Rattle.hier_merge.proofs.Common.{AreVisits, IsVisit, set_tile, tiles_on}
 use Rattle.std.proofs.Math.Seq.{take-length}
-use Rattle.finite_sets.specs.Lists.{In}
-use Rattle.finite_sets.proofs.Members.{In-append_cases, In-push_cases}
-use Rattle.finite_sets.proofs.Pairs.{AllPairs-from_Pairwise, Pairwise, Pairwise-from_AllPairs, Pairwise-push}
-use Rattle.finite_sets.proofs.Searches.{All-from_In, All-In}
+use Rattle.finite_sets.proofs.Members.{In-push_cases}
+use Rattle.finite_sets.proofs.Pairs.{Pairwise-push}
 use Rattle.finite_sets.proofs.Places.{In-take, take_both}
-use Rattle.geo_core.specs.declared.squares.Rect.{Rect}
-use Rattle.geo_core.specs.declared.squares.Square.{Square}
-use Rattle.geo_core.specs.Areas.{AreDisjoint}
-use Rattle.geo_core.specs.Covering.{Covers}
-use Rattle.geo_core.specs.Images.{rect_image}
-use Rattle.geo_core.proofs.CoveringLaws.{covers_second}
-use Rattle.tech_model.specs.declared.raw.RawTech.{RawTech}
-use Rattle.cell_library.specs.LayoutModel.CellTrees.{CellTree}
-use Rattle.meeting_laws.specs.Offences.declared.set_tiles.SetTile.{SetTile}
-use Rattle.cell_library.specs.declared.part_tiles.PartTile.{PartTile}
-use Rattle.cell_library.specs.PartTiles.{IsPartTileIn}
-use Rattle.meeting_laws.specs.Offences.declared.stacks.TypedStack.{TypedStack}
-use Rattle.meeting_laws.specs.Offences.TypedStacks.{AreTypedStacks, StandForTiles}
-use Rattle.hier_merge.specs.steps.PlanePieces.{HasTiles, HaveTypedParts, parts_of_plane}
-use Rattle.hier_merge.specs.steps.Seams.{AddsPieces, AreTilePieces, AreSeams, IsSeam}
-use Rattle.hier_merge.specs.steps.Visits.{AreVisits, IsVisit, set_tile, tiles_on}
+use Rattle.hier_merge.specs.steps.Seams.{AddsPieces}
 use Rattle.hier_merge.proofs.JoinedPieces.{pieces_joined}
 use Rattle.hier_merge.proofs.NearAreas.{in_some_area}
 use Rattle.hier_merge.proofs.NumberedTiles.{tiles_before_seam, tiles_behind_seam}

@@ -1,27 +1,14 @@
 -- What visits of several areas hand out together.
-use Rattle.std.proofs.Common.{◌≡◌, ◌≤◌, ◌⊎◌, ◌+◌, ◌&&◌, ℕ, suc, Bool, true, false, cond, bit_or, List, [], ◌∷◌, ◌++◌, length, inl, inr, refl}
-use Rattle.std.proofs.Common.{sym, ap, subst, ◌∙◌, arith}
-use Rattle.std.specs.Prelude.{◌==◌, ◌<◌, take, drop, slice_index_or}
-use Rattle.std.proofs.lemmas.Bool.{cases_Bool, false≢true}
-use Rattle.std.proofs.lemmas.List.{append-nil, append_assoc, length-append, take-append-drop}
+use Rattle.hier_merge.proofs.Common.{◌≡◌, ◌≤◌, ◌⊎◌, ◌+◌, ◌&&◌, ℕ, suc, Bool, true, false, cond, bit_or, List, [], ◌∷◌, ◌++◌, length, inl, inr, refl}
+use Rattle.hier_merge.proofs.Common.{sym, ap, subst, ◌∙◌, arith, ◌==◌, slice_index_or, cases_Bool, false≢true, append-nil, append_assoc}
+use Rattle.hier_merge.proofs.Common.{length-append, take-append-drop, In, Rect, Square, rect_image, Covers, is_covered, IsInUnion, Covers-is_covered}
+use Rattle.hier_merge.proofs.Common.{covers_second, is_covered-Covers, RawTech, parts_of, Place, CellTree, PartTile, IsPartTileIn, set_from}
+use Rattle.hier_merge.proofs.Common.{set_of_tiles, IsWorkOver, AreVisits, IsVisit}
+use Rattle.std.specs.Prelude.{◌<◌, take, drop}
 use Rattle.std.proofs.Math.Seq.{take-suc}
-use Rattle.finite_sets.specs.Lists.{In}
 use Rattle.finite_sets.proofs.Totals.{length-same_set}
-use Rattle.geo_core.specs.declared.squares.Rect.{Rect}
-use Rattle.geo_core.specs.declared.squares.Square.{Square}
-use Rattle.geo_core.specs.Images.{rect_image}
-use Rattle.geo_core.specs.Covering.{Covers, is_covered}
-use Rattle.geo_core.specs.Strips.{IsInUnion}
-use Rattle.geo_core.proofs.CoveringLaws.{Covers-is_covered, covers_second, is_covered-Covers}
-use Rattle.tech_model.specs.declared.raw.RawTech.{RawTech}
-use Rattle.tech_model.specs.Types.{parts_of}
-use Rattle.cell_library.specs.LayoutModel.Places.{Place}
-use Rattle.cell_library.specs.LayoutModel.CellTrees.{CellTree}
 use Rattle.cell_library.proofs.LayoutModel.SetUnions.{none_union, union_assoc, union_none, union_same}
-use Rattle.cell_library.specs.declared.part_tiles.PartTile.{PartTile}
-use Rattle.cell_library.specs.PartTiles.{IsPartTileIn, set_from, set_of_part, set_of_tiles}
-use Rattle.hier_merge.specs.Interactions.{IsWorkOver}
-use Rattle.hier_merge.specs.steps.Visits.{AreVisits, IsVisit}
+use Rattle.cell_library.specs.PartTiles.{set_of_part}
 
 -- ---- unions over lists of tiles
 

@@ -1,24 +1,10 @@
 -- The work over the areas in which parts of a cell interact is a work over the strips of what its boxes share.
-use Rattle.std.proofs.Common.{◌≡◌, ◌≤◌, ◌+◌, ◌++◌, ℕ, List, [], ◌∷◌, length, refl, sym, ap, subst, ◌∙◌}
-use Rattle.std.specs.Prelude.{Option, Some, None}
-use Rattle.std.specs.Option.{option_to_list}
-use Rattle.std.proofs.lemmas.List.{length-append}
-use Rattle.geo_core.specs.declared.squares.Square.{Square}
-use Rattle.geo_core.specs.declared.squares.Rect.{Rect}
-use Rattle.geo_core.specs.Strips.{IsStrips}
+use Rattle.hier_merge.proofs.Common.{◌≡◌, ◌≤◌, ◌+◌, ◌++◌, ℕ, List, [], ◌∷◌, length, refl, sym, ap, subst, ◌∙◌, Option, Some, None, option_to_list}
+use Rattle.hier_merge.proofs.Common.{length-append, Square, Rect, IsStrips, strips_same, RawTech, Layout, CellTree, IsShared, PartTile, tree_at}
+use Rattle.hier_merge.proofs.Common.{IsLawfulLibrary, LibraryParts, seen, view_at, IsWorkOver, PaintBoxIs, AreVisits}
 use Rattle.interact.proofs.GeoStrips.StripListLaws.{one_list}
-use Rattle.geo_core.proofs.StripSets.{strips_same}
 use Rattle.geo_core.proofs.CoveringLaws.{within_antisym}
-use Rattle.tech_model.specs.declared.raw.RawTech.{RawTech}
-use Rattle.cell_library.specs.LayoutModel.Layouts.{Layout}
-use Rattle.cell_library.specs.LayoutModel.CellTrees.{CellTree}
-use Rattle.interact.specs.NearBoxes.{IsShared}
-use Rattle.cell_library.specs.declared.part_tiles.PartTile.{PartTile}
-use Rattle.cell_library.specs.LayoutTrees.{tree_at}
-use Rattle.cell_library.specs.Libraries.{IsLawfulLibrary, LibraryParts, seen}
-use Rattle.cell_library.specs.Views.{view_at}
-use Rattle.hier_merge.specs.Interactions.{ArePartBoxes, IsInteraction, IsWork, IsWorkOver, PaintBoxIs}
-use Rattle.hier_merge.specs.steps.Visits.{AreVisits}
+use Rattle.hier_merge.specs.Interactions.{ArePartBoxes, IsInteraction, IsWork}
 use Rattle.cell_library.proofs.PartLaws.{one_list_of_boxes}
 
 -- a layout has one box of paint, or none

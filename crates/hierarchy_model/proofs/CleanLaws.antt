@@ -1,25 +1,17 @@
 -- What clean cells keep: their flat type, their own types within it, and their channels.
-use Rattle.std.proofs.Common.{◌≡◌, ◌≢◌, ◌⊎◌, ◌+◌, ◌==◌, ℕ, zero, suc, Bool, true, false, List, [], ◌∷◌, ◌++◌, Option, bit_or, if◌then◌else◌, inl, inr}
-use Rattle.std.proofs.Common.{refl, sym, ap, subst}
-use Rattle.std.proofs.Common.{◌∙◌, arith, eq-eqb, ne_eqb, eqb-true, true≢false}
-use Rattle.std.specs.Prelude.{Some, None, IsTrue}
-use Rattle.std.proofs.lemmas.Bool.{cases_eq, cases_Bool}
-use Rattle.tech_model.specs.FiniteSets.Lists.{In}
-use Rattle.tech_model.proofs.FiniteSets.Members.{In-append_cases}
-use Rattle.tech_model.specs.declared.raw.RawTech.{RawTech}
-use Rattle.tech_model.specs.Types.{joined, is_within}
-use Rattle.tech_model.specs.Rules.{KeepsRules}
-use Rattle.tech_model.specs.WellFormed.{IsWellFormed}
-use Rattle.tech_model.proofs.TypeLaws.{within_self}
+use Rattle.hierarchy_model.proofs.Common.{◌≡◌, ◌≢◌, ◌⊎◌, ◌+◌, ◌==◌, ℕ, zero, suc, Bool, false, List, [], ◌∷◌, Option, bit_or, if◌then◌else◌, inl}
+use Rattle.hierarchy_model.proofs.Common.{inr, refl, sym, ap, ◌∙◌, arith, eq-eqb, ne_eqb, Some, None, IsTrue, cases_eq, In, In-append_cases, RawTech}
+use Rattle.hierarchy_model.proofs.Common.{joined, KeepsRules, IsWellFormed, within_self, is_channel, Place, SetLayout, joined_at, union_of}
+use Rattle.hierarchy_model.proofs.Common.{flat_type, is_exactly, parts_with, HasKind, Offends, OwnCell, CellTree, Elements, place_back, own_types}
+use Rattle.hierarchy_model.proofs.Common.{own_types_below, cell_tree, no_elements, element_and, sets_in, flat_sets, element_parts, IsTyped, AreTyped}
+use Rattle.hierarchy_model.proofs.Common.{IsClean, AreClean}
+use Rattle.std.proofs.Common.{true, ◌++◌}
+use Rattle.std.proofs.Common.{subst}
+use Rattle.std.proofs.Common.{eqb-true, true≢false}
+use Rattle.std.proofs.lemmas.Bool.{cases_Bool}
+use Rattle.tech_model.specs.Types.{is_within}
 use Rattle.tech_model.proofs.WithinLaws.{within_trans, within_space}
-use Rattle.tech_model.specs.ChannelRoles.{is_channel}
-use Rattle.offences.specs.LayoutModel.Places.{Place}
-use Rattle.offences.specs.Offences.{SetLayout, joined_at, union_of, flat_type, is_exactly, parts_with, HasKind, Offends}
-use Rattle.offences.specs.LayoutModel.CellTrees.{OwnCell, CellTree, Elements, place_back, own_types, own_types_below}
-use Rattle.offences.specs.LayoutModel.CellTrees.CellTree.{cell_tree}
-use Rattle.offences.specs.LayoutModel.CellTrees.Elements.{no_elements, element_and}
-use Rattle.offences.specs.LayoutModel.FlatSets.{sets_in, flat_sets, sets_below, element_parts, IsTyped, AreTyped}
-use Rattle.hierarchy_model.specs.CleanCells.{IsClean, AreClean}
+use Rattle.offences.specs.LayoutModel.FlatSets.{sets_below}
 use Rattle.hierarchy_model.specs.Laws.{times, HasFlatType, OwnTypesAreWithin, ChannelsHaveOneOwner}
 use Rattle.hierarchy_model.proofs.KindLaws.{defined_or_not, type_in_layout}
 

@@ -1,16 +1,11 @@
 -- Types of sets, and the types of channels.
-use Rattle.std.proofs.Common.{◌≡◌, ◌≢◌, ◌⊎◌, ℕ, Option, inl, inr, refl, sym, ap, ◌∙◌}
-use Rattle.std.specs.Prelude.{Some, None}
-use Rattle.std.proofs.lemmas.Bool.{cases_eq}
-use Rattle.tech_model.specs.declared.raw.RawTech.{RawTech}
-use Rattle.tech_model.specs.Types.{parts_of, joined}
-use Rattle.tech_model.specs.Rules.{KeepsRules}
-use Rattle.tech_model.specs.WellFormed.{IsWellFormed}
+use Rattle.hierarchy_model.proofs.Common.{◌≡◌, ◌≢◌, ◌⊎◌, ℕ, Option, inl, inr, refl, sym, ap, ◌∙◌, Some, None, cases_eq, RawTech, joined, KeepsRules}
+use Rattle.hierarchy_model.proofs.Common.{IsWellFormed, Place}
+use Rattle.tech_model.specs.Types.{parts_of}
 use Rattle.tech_model.proofs.SetLaws.{set_not_empty}
 use Rattle.tech_model.proofs.JoinedLaws.{joined-type}
 use Rattle.offences.specs.LayoutModel.LayerTypes.{HasTypesOf}
 use Rattle.offences.specs.LayoutModel.Layouts.{Layout}
-use Rattle.offences.specs.LayoutModel.Places.{Place}
 
 -- a value is defined, or not
 pub defined_or_not : (found : Option ℕ) → ((value : ℕ) × (found ≡ Some value)) ⊎ (found ≡ None)

@@ -1,18 +1,14 @@
 -- The squares at which parts meet are enough to find all places that offend.
-use Rattle.std.proofs.Common.{◌≡◌, ◌≢◌, ◌<◌, ℕ, zero, suc, List, [], ◌∷◌, bit_or, length, slice_get, if◌then◌else◌, ◌+◌, inl, inr, refl, sym, ap, ◌∙◌}
-use Rattle.std.proofs.Common.{arith}
-use Rattle.std.specs.Prelude.{◌↔◌, Some}
-use Rattle.std.proofs.lemmas.Bool.{cases_eq}
+use Rattle.hierarchy_model.proofs.Common.{◌≡◌, ◌≢◌, ℕ, zero, suc, List, [], ◌∷◌, bit_or, slice_get, if◌then◌else◌, ◌+◌, inl, inr, refl, sym, ap, ◌∙◌}
+use Rattle.hierarchy_model.proofs.Common.{arith, Some, cases_eq, RawTech, joined, IsWellFormed, within_self, Place, SetLayout, joined_at, union_of}
+use Rattle.hierarchy_model.proofs.Common.{flat_type, is_exactly, parts_with, HasKind, Offends}
+use Rattle.std.proofs.Common.{◌<◌, length}
+use Rattle.std.specs.Prelude.{◌↔◌}
 use Rattle.std.proofs.lemmas.Option.{slice_get_within, slice_get-get_or}
 use Rattle.tech_model.specs.GeoCore.declared.squares.Square.{Square}
-use Rattle.tech_model.specs.declared.raw.RawTech.{RawTech}
-use Rattle.tech_model.specs.Types.{joined}
-use Rattle.tech_model.specs.WellFormed.{IsWellFormed}
-use Rattle.tech_model.proofs.TypeLaws.{within_self}
-use Rattle.offences.specs.LayoutModel.Places.{Place}
 use Rattle.offences.proofs.LayoutModel.PlaceLaws.{AreNeighbours-sym}
 use Rattle.offences.specs.Roles.{role_of}
-use Rattle.offences.specs.Offences.{SetLayout, joined_at, union_of, flat_type, is_exactly, parts_with, HasKind, ChangesRole, Offends, HaveTypes}
+use Rattle.offences.specs.Offences.{ChangesRole, HaveTypes}
 use Rattle.hierarchy_model.specs.Restrictions.{PartStands, IsRestriction, HoldsMeetings, MeetingsDecide}
 use Rattle.offences.proofs.SpoiledLaws.{channel_is_material}
 use Rattle.hierarchy_model.proofs.PartSearch.{NoneStands, OneStands, who_stands, empty_there, flat_of_none, flat_of_one, type_of_empty, kind_stands}

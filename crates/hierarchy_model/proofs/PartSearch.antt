@@ -1,14 +1,8 @@
 -- Which parts stand at a place: none, one alone, or two. Where one stands alone, all parts together are that part.
-use Rattle.std.proofs.Common.{◌≡◌, ◌≢◌, ◌⊎◌, ◌+◌, ◌==◌, ℕ, zero, suc, Bool, false, List, [], ◌∷◌, bit_or, slice_get, if◌then◌else◌, inl, inr, refl}
-use Rattle.std.proofs.Common.{sym, ap}
-use Rattle.std.proofs.Common.{◌∙◌, arith, eq-eqb, ne_eqb}
-use Rattle.std.specs.Prelude.{Some}
+use Rattle.hierarchy_model.proofs.Common.{◌≡◌, ◌≢◌, ◌⊎◌, ◌+◌, ◌==◌, ℕ, zero, suc, Bool, false, List, [], ◌∷◌, bit_or, slice_get, if◌then◌else◌, inl}
+use Rattle.hierarchy_model.proofs.Common.{inr, refl, sym, ap, ◌∙◌, arith, eq-eqb, ne_eqb, Some, cases_eq, RawTech, joined, Place, SetLayout}
+use Rattle.hierarchy_model.proofs.Common.{joined_at, union_of, flat_type, is_exactly, parts_with, HasKind}
 use Rattle.std.specs.Int.Bits.{or_zero_r}
-use Rattle.std.proofs.lemmas.Bool.{cases_eq}
-use Rattle.tech_model.specs.declared.raw.RawTech.{RawTech}
-use Rattle.tech_model.specs.Types.{joined}
-use Rattle.offences.specs.LayoutModel.Places.{Place}
-use Rattle.offences.specs.Offences.{SetLayout, joined_at, union_of, flat_type, is_exactly, parts_with, HasKind}
 use Rattle.hierarchy_model.specs.Restrictions.{PartStands}
 use Rattle.hierarchy_model.proofs.KindLaws.{material_set}
 

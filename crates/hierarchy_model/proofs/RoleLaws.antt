@@ -1,25 +1,16 @@
 -- The roles beside channels in a clean cell are those beside the own types that are the channels.
-use Rattle.std.proofs.Common.{◌≡◌, ◌≢◌, ◌⊎◌, ℕ, suc, List, ◌∷◌, ◌++◌, map, inl, inr, refl, ap, ◌∙◌}
-use Rattle.std.specs.Prelude.{Some, IsTrue}
+use Rattle.hierarchy_model.proofs.Common.{◌≡◌, ◌≢◌, ◌⊎◌, ℕ, suc, List, ◌∷◌, inl, inr, refl, ap, ◌∙◌, Some, IsTrue, In, In-append_cases, RawTech}
+use Rattle.hierarchy_model.proofs.Common.{KeepsRules, IsWellFormed, is_channel, Place, SetLayout, joined_at, flat_type, HasKind, Offends, OwnCell}
+use Rattle.hierarchy_model.proofs.Common.{CellTree, Elements, place_back, own_types, own_types_below, cell_tree, no_elements, element_and, sets_in}
+use Rattle.hierarchy_model.proofs.Common.{flat_sets, element_parts, IsTyped, AreTyped, IsClean, AreClean}
+use Rattle.std.proofs.Common.{◌++◌, map}
 use Rattle.std.proofs.lemmas.List.{map-append}
-use Rattle.tech_model.specs.FiniteSets.Lists.{In}
-use Rattle.tech_model.proofs.FiniteSets.Members.{In-append_cases}
 use Rattle.tech_model.specs.GeoCore.declared.transforms.Transform.{Transform}
 use Rattle.tech_model.specs.GeoCore.Images.{inverted}
 use Rattle.tech_model.proofs.GeoCore.ImageLaws.{neighbours-image}
-use Rattle.tech_model.specs.declared.raw.RawTech.{RawTech}
-use Rattle.tech_model.specs.Rules.{KeepsRules}
-use Rattle.tech_model.specs.WellFormed.{IsWellFormed}
-use Rattle.tech_model.specs.ChannelRoles.{is_channel}
-use Rattle.offences.specs.LayoutModel.Places.{Place, AreNeighbours}
+use Rattle.offences.specs.LayoutModel.Places.{AreNeighbours}
 use Rattle.offences.specs.Roles.{Role, role_of}
 use Rattle.offences.specs.Roles.Role.{Channel, Terminal, Other}
-use Rattle.offences.specs.Offences.{SetLayout, joined_at, flat_type, HasKind, Offends}
-use Rattle.offences.specs.LayoutModel.CellTrees.{OwnCell, CellTree, Elements, place_back, own_types, own_types_below}
-use Rattle.offences.specs.LayoutModel.CellTrees.CellTree.{cell_tree}
-use Rattle.offences.specs.LayoutModel.CellTrees.Elements.{no_elements, element_and}
-use Rattle.offences.specs.LayoutModel.FlatSets.{sets_in, flat_sets, element_parts, IsTyped, AreTyped}
-use Rattle.hierarchy_model.specs.CleanCells.{IsClean, AreClean}
 use Rattle.hierarchy_model.specs.Laws.{own_pairs, own_pairs_below, RolesAreKept}
 use Rattle.hierarchy_model.proofs.KindLaws.{type_in_layout}
 use Rattle.hierarchy_model.proofs.CleanLaws.{part_channel, flat_of_parts, first_kind, later_kind}

@@ -1,23 +1,21 @@
 -- Columns that are cut in two: what is known of their counts from those of the sides.
-use Rattle.std.proofs.Common.{◌≡◌, ◌⊎◌, ◌↔◌, inl, inr, ℕ, ◌+◌, ◌-◌, ◌<◌, ℤ, pos, ◌+ℤ◌, ◌≤ℤ◌, ◌<ℤ◌, Bool, true, false, cond}
-use Rattle.std.proofs.Common.{List, length, take, drop, get_or, length-drop, Box, Global, Option, Some, None, refl, sym, ◌∙◌, ap, subst, arith}
-use Rattle.std.specs.Prelude.{◌&&◌, int_le, int_lt, AllPairs}
-use Rattle.std.specs.Int.{int_max, int_min}
-use Rattle.std.proofs.lemmas.Bool.{cases_Bool}
-use Rattle.std.proofs.lemmas.Int.{ints, clamps, by_lt_z}
+use Rattle.interact.proofs.Common.{◌≡◌, inl, inr, ℕ, ◌+◌, ◌<◌, ℤ, pos, ◌+ℤ◌, ◌≤ℤ◌, ◌<ℤ◌, Bool, true, false, cond, List, length, take, drop, get_or}
+use Rattle.interact.proofs.Common.{Box, Global, Some, refl, sym, ◌∙◌, ap, subst, arith, ◌&&◌, int_le, int_lt, AllPairs, int_max, int_min, cases_Bool}
+use Rattle.interact.proofs.Common.{ints, by_lt_z, In, In-index, In-get_or, begins_before, ends_after, Counts, Even, Fork, bounds_of, shifted, IsTold}
+use Rattle.interact.proofs.Common.{IsCut, IsAdded}
+use Rattle.std.proofs.Common.{◌⊎◌, ◌↔◌, ◌-◌}
+use Rattle.std.proofs.Common.{length-drop, Option, None}
+use Rattle.std.proofs.lemmas.Int.{clamps}
 use Rattle.std.proofs.lemmas.List.{get_or-take, get_or-drop, length-take, take_rest}
-use Rattle.finite_sets.specs.Lists.{In}
-use Rattle.finite_sets.proofs.Members.{In-index, In-get_or}
-use Rattle.geo_strips.specs.Coverage.{is_from, is_before, begins_before, ends_after, begin_after, end_before}
+use Rattle.geo_strips.specs.Coverage.{is_from, is_before, begin_after, end_before}
 use Rattle.geo_strips.specs.RowRuns.{IsInRow, AreRuns, IsCovered, IsUncovered}
 use Rattle.geo_strips.proofs.CoverageLaws.{lt_true, lt_false, le_true, le_false, before_on_left, from_on_right, not_from, not_before, and_false}
 use Rattle.geo_strips.proofs.RowLaws.{changes_none, changes_both}
 use Rattle.interact.specs.declared.counts.Bounds.{Bounds}
-use Rattle.interact.specs.declared.counts.Counts.{Counts, Even, Cut'}
-use Rattle.interact.specs.declared.counts.Fork.{Fork}
+use Rattle.interact.specs.declared.counts.Counts.{Cut'}
 use Rattle.interact.specs.declared.counts.SharedRuns.{SharedRuns}
-use Rattle.interact.specs.steps.Counts.{count_of, is_shared, bounds_of, shifted, joined, of_told, told_or, refreshed, row_of}
-use Rattle.interact.specs.steps.Counts.{AreBounds, IsTold, IsCut, IsAdded, IsOfAll, IsPushed, IsSettled}
+use Rattle.interact.specs.steps.Counts.{count_of, is_shared, joined, of_told, told_or, refreshed, row_of}
+use Rattle.interact.specs.steps.Counts.{AreBounds, IsOfAll, IsPushed, IsSettled}
 
 module _ (a b : Bounds) (count count' : ℤ → ℤ) (shared shared' : ℤ → Bool) where
   -- the bounds of two sides hold wherever a column is on one of them

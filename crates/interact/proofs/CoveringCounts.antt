@@ -1,11 +1,6 @@
 -- How many rectangles of a list cover a square.
-use Rattle.std.proofs.Common.{◌≡◌, ℕ, zero, suc, ℤ, pos, ◌≤ℤ◌, Bool, true, false, List, [], ◌∷◌, Some, inl, inr, refl, ◌∙◌, ap, arith}
-use Rattle.std.proofs.lemmas.Bool.{cases_Bool}
-use Rattle.std.proofs.lemmas.Int.{ints}
-use Rattle.finite_sets.specs.Total.{sum_on, one_if}
-use Rattle.geo_core.specs.declared.squares.Square.{Square}
-use Rattle.geo_core.specs.declared.squares.Rect.{Rect}
-use Rattle.geo_core.specs.Covering.{Covers, is_covered, CoversAt, IsInTwo}
+use Rattle.interact.proofs.Common.{◌≡◌, ℕ, zero, suc, ℤ, pos, ◌≤ℤ◌, Bool, true, false, List, [], ◌∷◌, Some, inl, inr, refl, ◌∙◌, ap, arith}
+use Rattle.interact.proofs.Common.{cases_Bool, ints, sum_on, one_if, Square, Rect, Covers, is_covered, CoversAt, IsInTwo}
 use Rattle.geo_core.proofs.CoveringLaws.{Covers-is_covered, is_covered-Covers}
 
 -- how many of the rectangles cover the square

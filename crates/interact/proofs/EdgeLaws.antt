@@ -1,20 +1,15 @@
 -- The edges of rectangles and their sides.
-use Rattle.std.proofs.Common.{◌≡◌, inl, inr, ℤ, Bool, true, false, cond, List, [], ◌∷◌, get_or, filter, refl, sym, ◌∙◌, ap, subst}
-use Rattle.std.specs.Prelude.{All, AllPairs, IsPermutation}
-use Rattle.std.specs.List.{flat_map}
+use Rattle.interact.proofs.Common.{◌≡◌, inl, inr, ℤ, Bool, true, false, cond, List, [], ◌∷◌, get_or, filter, refl, sym, ◌∙◌, ap, subst, All}
+use Rattle.interact.proofs.Common.{AllPairs, flat_map, int_cmp, In, Rect, has_square, Edge, begin_of, edges_of, IsOf64Bits, AreEdges, sides_of}
+use Rattle.std.specs.Prelude.{IsPermutation}
 use Rattle.std.specs.List.Sorted.{IsSortedByKey}
-use Rattle.std.specs.Ordering.{int_cmp}
 use Rattle.std.proofs.lemmas.Cmp.{int_cmp_total}
 use Rattle.std.proofs.lemmas.List.Sorted.{All-permutation, IsPermutation-sym}
-use Rattle.finite_sets.specs.Lists.{In}
 use Rattle.finite_sets.proofs.Members.{In-append_cases, In-filter, In-permutation}
 use Rattle.finite_sets.proofs.Orders.{int_cmp-not_less, IsSortedByKey-pairs}
-use Rattle.geo_core.specs.declared.squares.Rect.{Rect}
-use Rattle.geo_core.specs.Areas.{has_square}
 use Rattle.geo_core.specs.Covering.{IsProper}
 use Rattle.geo_core.proofs.CoveringLaws.{has_square-IsProper}
-use Rattle.interact.specs.declared.edges.Edge.{Edge}
-use Rattle.interact.specs.steps.Edges.{begin_of, edges_of, IsOf64Bits, AreEdges, sides_of, IsAtNoLaterRow}
+use Rattle.interact.specs.steps.Edges.{IsAtNoLaterRow}
 
 -- edges that a sort by rows has put in order
 edges_in_order : (edges : List Edge) → IsSortedByKey (λ edge. edge.row) int_cmp edges → AllPairs IsAtNoLaterRow edges

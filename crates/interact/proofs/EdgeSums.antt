@@ -1,16 +1,8 @@
 -- How many rectangles cover a square is the sum of what the edges below it and at it gain.
-use Rattle.std.proofs.Common.{◌≡◌, ℤ, pos, cond, List, filter, ◌∙◌, arith}
-use Rattle.std.specs.Prelude.{◌&&◌, int_le, int_lt}
-use Rattle.std.specs.List.{flat_map}
-use Rattle.std.proofs.lemmas.Int.{ints}
-use Rattle.finite_sets.specs.Total.{sum_on, one_if}
+use Rattle.interact.proofs.Common.{◌≡◌, ℤ, pos, cond, List, filter, ◌∙◌, arith, ◌&&◌, int_le, int_lt, flat_map, ints, sum_on, one_if, Rect}
+use Rattle.interact.proofs.Common.{has_square, is_covered, Edge, edges_of, gain_of, AreEdges}
 use Rattle.finite_sets.proofs.Sums.{sum_on-same, sum_on-filter, sum_on-zero, sum_on-permutation, sum_on-flat_map}
-use Rattle.geo_core.specs.declared.squares.Rect.{Rect}
-use Rattle.geo_core.specs.Areas.{has_square}
-use Rattle.geo_core.specs.Covering.{is_covered}
 use Rattle.geo_strips.proofs.SweepLaws.{at}
-use Rattle.interact.specs.declared.edges.Edge.{Edge}
-use Rattle.interact.specs.steps.Edges.{edges_of, gain_of, AreEdges}
 use Rattle.interact.proofs.CoveringCounts.{covering}
 
 -- how many rectangles more cover the column from the edge on

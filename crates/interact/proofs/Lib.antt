@@ -1,5 +1,6 @@
 -- what crates above name of those below
 pub use Rattle.geo_strips.proofs as GeoStrips
+mod Common
 mod CountLaws
 mod CoveringCounts
 mod EdgeLaws

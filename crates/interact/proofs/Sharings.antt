@@ -1,19 +1,12 @@
 -- The strips of what grown boxes share lie within what goes round all of them.
-use Rattle.std.proofs.Common.{◌-ℤ◌, ◌≤ℤ◌, ◌<ℤ◌, pos, List, map, subst, arith}
-use Rattle.std.specs.Prelude.{All}
-use Rattle.std.proofs.lemmas.Int.{ints}
-use Rattle.std.proofs.lemmas.Option.{slice_get_within, get_or_from_slice_get}
-use Rattle.finite_sets.specs.Lists.{In}
-use Rattle.finite_sets.proofs.Members.{In-map_source, In-get_or, In-index}
+use Rattle.interact.proofs.Common.{◌≤ℤ◌, ◌<ℤ◌, pos, List, map, subst, arith, All, ints, slice_get_within, get_or_from_slice_get, In, In-get_or}
+use Rattle.interact.proofs.Common.{In-index, Square, Rect, widened, LiesWithin, Covers, IsShared}
+use Rattle.std.proofs.Common.{◌-ℤ◌}
+use Rattle.finite_sets.proofs.Members.{In-map_source}
 use Rattle.finite_sets.proofs.Searches.{All-from_In}
-use Rattle.geo_core.specs.declared.squares.Square.{Square}
-use Rattle.geo_core.specs.declared.squares.Rect.{Rect}
-use Rattle.geo_core.specs.Areas.{widened, LiesWithin}
-use Rattle.geo_core.specs.Covering.{Covers}
 use Rattle.geo_core.specs.Strips.{IsStrip, IsStrips}
 use Rattle.geo_core.proofs.CoveringLaws.{within_covers}
 use Rattle.geo_core.proofs.StripSets.{strip_is_proper, strip_within}
-use Rattle.interact.specs.NearBoxes.{IsShared}
 
 -- each square that two grown boxes share lies in what goes round all of them
 shared_within : (boxes : List Rect) (around : Rect) → All (λ area. LiesWithin (widened area) around) boxes → (square : Square) → IsShared boxes square

@@ -1,28 +1,18 @@
 -- The sweep keeps track of what two or more rectangles cover, row by row.
-use Rattle.std.proofs.Common.{◌≡◌, inl, inr, ℕ, zero, suc, ◌+◌, ◌<◌, ℤ, pos, ◌+ℤ◌, ◌≤ℤ◌, ◌<ℤ◌, true, false, cond, List, [], ◌∷◌, ◌++◌}
-use Rattle.std.proofs.Common.{length, length-drop, take, drop, drop-cons, add-one, get_or, Some, None, refl, sym, ◌∙◌, ap, subst, arith}
-use Rattle.std.specs.Prelude.{◌&&◌, int_le, int_lt}
-use Rattle.std.proofs.lemmas.Bool.{cases_Bool, false≢true}
-use Rattle.std.proofs.lemmas.Int.{ints, by_lt_z}
+use Rattle.interact.proofs.Common.{◌≡◌, inl, inr, ℕ, zero, suc, ◌+◌, ◌<◌, ℤ, pos, ◌+ℤ◌, ◌≤ℤ◌, ◌<ℤ◌, true, false, cond, List, [], ◌∷◌, ◌++◌, length}
+use Rattle.interact.proofs.Common.{take, drop, get_or, Some, refl, sym, ◌∙◌, ap, subst, arith, ◌&&◌, int_le, int_lt, cases_Bool, ints, by_lt_z}
+use Rattle.interact.proofs.Common.{slice_get_within, get_or_from_slice_get, In, sum_on, In-index, In-get_or, Square, Rect, CoversAt, IsInTwo}
+use Rattle.interact.proofs.Common.{AreRunBars, Counts, Edge, Sweep, IsCut, IsAdded, gain_of, begin_of, IsOf64Bits, AreEdges}
+use Rattle.std.proofs.Common.{length-drop, drop-cons, add-one, None}
+use Rattle.std.proofs.lemmas.Bool.{false≢true}
 use Rattle.std.proofs.lemmas.List.{take_more, take-append-drop, get_or-drop}
 use Rattle.std.proofs.lemmas.List.Elements.{All-contains}
-use Rattle.std.proofs.lemmas.Option.{slice_get_within, get_or_from_slice_get}
-use Rattle.finite_sets.specs.Lists.{In}
-use Rattle.finite_sets.specs.Total.{sum_on}
-use Rattle.finite_sets.proofs.Members.{In-push_cases, In-index, In-get_or, Contains-from_In}
+use Rattle.finite_sets.proofs.Members.{In-push_cases, Contains-from_In}
 use Rattle.finite_sets.proofs.Sums.{sum_on-append, sum_on-push, sum_on-same, sum_on-nothing}
-use Rattle.geo_core.specs.declared.squares.Square.{Square}
-use Rattle.geo_core.specs.declared.squares.Rect.{Rect}
 use Rattle.geo_strips.specs.declared.row_runs.Run.{Run}
-use Rattle.geo_core.specs.Covering.{CoversAt, IsInTwo}
 use Rattle.geo_strips.specs.RowRuns.{IsInRow}
-use Rattle.geo_strips.specs.steps.Sweeping.{AreRunBars}
 use Rattle.geo_strips.proofs.SweepLaws.{at, AreBooked, IsSteady, booked_changed, booked_advanced}
-use Rattle.interact.specs.declared.counts.Counts.{Counts}
-use Rattle.interact.specs.declared.edges.Edge.{Edge}
-use Rattle.interact.specs.declared.sweep.Sweep.{Sweep}
-use Rattle.interact.specs.steps.Counts.{count_of, row_of, IsCut, IsFresh, IsAdded, IsSettled}
-use Rattle.interact.specs.steps.Edges.{gain_of, begin_of, IsOf64Bits, AreEdges}
+use Rattle.interact.specs.steps.Counts.{count_of, row_of, IsFresh, IsSettled}
 use Rattle.interact.specs.steps.Sweeps.{first_column, last_column, IsBetweenRows, SettlesRow}
 use Rattle.interact.proofs.CoveringCounts.{covering, counts_two, two_cover}
 use Rattle.interact.proofs.EdgeLaws.{proper_begin_in_edges}

@@ -1,25 +1,15 @@
 -- The elements of lawful uses are displaced within the range of a record.
-use Rattle.std.proofs.Common.{◌≡◌, ◌<◌, ℕ, ℤ, List, inl, inr, refl, subst, arith}
-use Rattle.std.specs.Prelude.{Option, Some, None, slice_get}
-use Rattle.std.specs.Int.RustNames.{unsigned_abs}
-use Rattle.std.proofs.lemmas.Int.{ints}
-use Rattle.finite_sets.specs.Lists.{In}
-use Rattle.finite_sets.proofs.Members.{In-map_source}
-use Rattle.finite_sets.proofs.Places.{slice_get-In}
-use Rattle.geo_core.specs.declared.grids.Grid.{Grid}
+use Rattle.lawful_trees.proofs.Common.{◌≡◌, ◌<◌, ℕ, ℤ, List, inl, inr, refl, subst, arith, Option, Some, None, unsigned_abs, ints, In, In-map_source}
+use Rattle.lawful_trees.proofs.Common.{slice_get-In, Grid, Transform, elements_of, six_of, UseBody, UseElement, array_element, use_elements}
+use Rattle.std.specs.Prelude.{slice_get}
 use Rattle.geo_core.specs.declared.orients.Orient.{Orient}
 use Rattle.geo_core.specs.declared.orients.Orient.TheVariants.{R0}
-use Rattle.geo_core.specs.declared.transforms.Transform.{Transform}
-use Rattle.geo_core.specs.Elements.{elements_of}
-use Rattle.geo_core.specs.Images.{six_of}
 use Rattle.geo_core.proofs.ImageLaws.{transform_of}
-use Rattle.library_trees.specs.CellTree.declared.use_tables.UseBody.{UseBody}
 use Rattle.library_trees.specs.CellTree.Uses.{IsLawfulUse, IsShift}
 use Rattle.library_trees.specs.CellLibrary.LayoutTrees.{element_transform}
 use Rattle.library_trees.proofs.CellLibrary.GridSteps.{IsNearStep, element_is_near}
 use Rattle.ext_model.specs.declared.limits.TheConstants.{ELEMENT_EDGE}
 use Rattle.ext_model.specs.Lawful.{IsPlacement}
-use Rattle.library_trees.specs.ElementNames.{UseElement, array_element, use_elements}
 
 -- The displacement is that of an element of a lawful use.
 record IsNearBoth (step : ℤ × ℤ) : Type 0 where

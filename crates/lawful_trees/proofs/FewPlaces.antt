@@ -1,15 +1,11 @@
 -- Sums over places where there may be paint, and over such places in few parts, are small.
-use Rattle.std.proofs.Common.{◌≡◌, ◌*◌, ◌^◌, ◌<◌, ◌≤◌, ℕ, ℤ, pos, neg_ℤ, ◌≤ℤ◌, List, [], ◌∷◌, map, length, ◌∙◌, ap, subst, arith}
-use Rattle.std.proofs.lemmas.Int.{ints}
-use Rattle.std.proofs.lemmas.List.{length-map}
-use Rattle.finite_sets.specs.Lists.{In, Distinct}
+use Rattle.lawful_trees.proofs.Common.{◌≡◌, ◌<◌, ◌≤◌, ℕ, ℤ, pos, List, [], ◌∷◌, map, length, ◌∙◌, ap, subst, arith, ints, length-map, In, Distinct}
+use Rattle.lawful_trees.proofs.Common.{sum_on, Total, In-map_source, Place}
+use Rattle.std.proofs.Common.{◌*◌, ◌^◌, neg_ℤ, ◌≤ℤ◌}
 use Rattle.finite_sets.specs.Range.{IsBetween, nonnegative_part, integer_range, pairs_of}
-use Rattle.finite_sets.specs.Total.{sum_on, Total}
 use Rattle.finite_sets.proofs.Distincts.{Distinct-map, length-distinct}
-use Rattle.finite_sets.proofs.Members.{In-map_source}
 use Rattle.finite_sets.proofs.Ranges.{extent_up, Lists-integer_range, Lists-pairs_of, length-integer_range, length-pairs_of}
 use Rattle.geo_core.specs.declared.limits.TheConstants.{PAINT_EDGE}
-use Rattle.group_meetings.specs.LayoutModel.Places.{Place}
 use Rattle.lawful_trees.proofs.NearPlaces.{IsPaintPlace}
 use Rattle.lawful_trees.proofs.SmallWeights.{IsLittle}
 

@@ -1,26 +1,12 @@
 -- The merges of the record of a clean cell are lawful.
-use Rattle.std.proofs.Common.{◌≡◌, ◌≤◌, ℕ, ℤ, pos, Bool, true, false, if◌then◌else◌, List, [], ◌∷◌, map, length, inl, inr, refl, subst, arith}
-use Rattle.std.specs.Prelude.{All}
-use Rattle.std.proofs.lemmas.List.{length-map}
-use Rattle.finite_sets.specs.Lists.{In, Distinct}
-use Rattle.finite_sets.proofs.Members.{In-map_source}
-use Rattle.finite_sets.proofs.Searches.{All-from_In, All-In}
-use Rattle.tech_model.specs.declared.raw.ClassRec.{ClassRec}
-use Rattle.tech_model.specs.declared.raw.RawTech.{RawTech}
-use Rattle.tech_model.specs.Rules.{KeepsRules}
-use Rattle.tech_model.specs.WellFormed.{IsClass, IsWellFormed}
-use Rattle.ext_model.specs.declared.records.MergeRec.{MergeRec}
-use Rattle.ext_model.specs.Lawful.{AreMeasures, IsMeasure}
-use Rattle.group_meetings.specs.LayoutModel.Layouts.{IsMaterial}
-use Rattle.group_meetings.specs.LayoutModel.Places.{Place}
-use Rattle.group_meetings.specs.LayoutModel.Technologies.{Class, class_of, rules_of}
+use Rattle.lawful_trees.proofs.Common.{◌≡◌, ◌≤◌, ℕ, ℤ, pos, List, [], ◌∷◌, map, length, inl, inr, refl, subst, arith, All, length-map, In, Distinct}
+use Rattle.lawful_trees.proofs.Common.{In-map_source, All-from_In, All-In, ClassRec, RawTech, KeepsRules, IsClass, IsWellFormed, MergeRec, IsMeasure}
+use Rattle.lawful_trees.proofs.Common.{IsMaterial, Place, Class, class_of, rules_of, flat_layout, NamedTree, IsCleanTree, tree_parts}
+use Rattle.std.proofs.Common.{Bool, true, false, if◌then◌else◌}
+use Rattle.ext_model.specs.Lawful.{AreMeasures}
 use Rattle.library_trees.proofs.Measures.MeasureLaws.{space_out}
 use Rattle.library_trees.proofs.NameClasses.ClassLaws.{distinct_in_order}
-use Rattle.library_trees.specs.TreeRecords.FlatLayouts.{flat_layout}
-use Rattle.library_trees.specs.TreeRecords.NamedTrees.{NamedTree}
 use Rattle.library_trees.specs.TreeRecords.Merges.{Adjustment, AreAdjustments, IsMemberGroup, MemberGroup, group_merges, is_zero_adjustment, merge_of, zero_adjustment}
-use Rattle.library_trees.specs.TreeNames.CleanTrees.{IsCleanTree}
-use Rattle.group_meetings.specs.Members.{tree_parts}
 use Rattle.group_meetings.proofs.LocalQuantities.{area_local, capacitance_local, perimeter_local}
 use Rattle.lawful_trees.proofs.MemberSums.{adjustment_small}
 use Rattle.lawful_trees.proofs.NearPlaces.{IsPaintPlace}

@@ -1,35 +1,22 @@
 -- The records of the cells of a library are lawful.
-use Rattle.std.proofs.Common.{◌≡◌, ◌<◌, ◌≤◌, ℕ, List, map, length, IsTrue, sym, ap, subst, ◌∙◌, arith}
-use Rattle.std.specs.Prelude.{All}
-use Rattle.std.proofs.lemmas.List.{length-map}
-use Rattle.finite_sets.specs.Lists.{In, Distinct}
-use Rattle.finite_sets.proofs.Searches.{All-from_In}
+use Rattle.lawful_trees.proofs.Common.{◌≡◌, ◌<◌, ◌≤◌, ℕ, List, map, length, IsTrue, sym, ap, subst, ◌∙◌, arith, All, length-map, In, Distinct}
+use Rattle.lawful_trees.proofs.Common.{All-from_In, RawTech, CellExt, MergeRec, UseRec, is_word, IsLawfulUse, HasTypesOf, class_of, rules_of}
+use Rattle.lawful_trees.proofs.Common.{CellTree, IsTyped, LibraryParts, IsLawfulLibrary, seen, NamedTree, layouts_of, named_elements_in, own_body}
+use Rattle.lawful_trees.proofs.Common.{named_tree, IsCleanTree, ids_in, tree_parts}
 use Rattle.finite_sets.proofs.Images.{In-flat_map_source}
-use Rattle.tech_model.specs.declared.raw.RawTech.{RawTech}
 use Rattle.ext_model.specs.declared.arrays.ArrayUse.{ArrayUse}
-use Rattle.ext_model.specs.declared.records.CellExt.{CellExt}
-use Rattle.ext_model.specs.declared.records.MergeRec.{MergeRec}
-use Rattle.ext_model.specs.declared.records.UseRec.{UseRec}
-use Rattle.ext_model.specs.NodeNames.{is_word}
-use Rattle.ext_model.specs.Lawful.{AreMeasures, IsLawful, IsLawfulMerge, IsLawfulUse}
+use Rattle.ext_model.specs.Lawful.{AreMeasures, IsLawful, IsLawfulMerge}
 use Rattle.ext_model.specs.LawfulArrays.{IsArrayUse, IsLawfulArrayExt}
 use Rattle.ext_model.specs.Plain.{plain}
-use Rattle.group_meetings.specs.LayoutModel.LayerTypes.{HasTypesOf}
-use Rattle.group_meetings.specs.LayoutModel.Technologies.{class_of, rules_of}
-use Rattle.group_meetings.specs.LayoutModel.CellTrees.{CellTree}
-use Rattle.group_meetings.specs.LayoutModel.FlatSets.{IsTyped, parts_in}
+use Rattle.group_meetings.specs.LayoutModel.FlatSets.{parts_in}
 use Rattle.library_trees.specs.CellLibrary.LayoutTrees.{tree_at}
-use Rattle.library_trees.specs.CellLibrary.Libraries.{LibraryParts, IsLawfulLibrary, seen}
 use Rattle.library_trees.proofs.CellLibrary.ElementCounts.{few_elements, part_count}
 use Rattle.library_trees.specs.HierarchyModel.CleanCells.{IsClean}
 use Rattle.library_trees.proofs.OwnRecordLaws.NameForms.{plain_word}
-use Rattle.library_trees.specs.TreeRecords.NamedTrees.{NamedTree, layouts_of, named_elements_in, own_body}
-use Rattle.library_trees.specs.TreeRecords.NamedTrees.NamedTree.{named_tree}
 use Rattle.library_trees.specs.TreeRecords.Merges.{group_merges}
 use Rattle.library_trees.specs.TreeRecords.TreeRecords.{IsTreeRecord}
-use Rattle.library_trees.specs.TreeNames.CleanTrees.{HasElementNames, IsCleanTree, ids_in}
+use Rattle.library_trees.specs.TreeNames.CleanTrees.{HasElementNames}
 use Rattle.library_trees.proofs.TreeNames.GroupMerges.{merge_members}
-use Rattle.group_meetings.specs.Members.{tree_parts}
 use Rattle.library_trees.specs.NamedCells.{named_tree_at}
 use Rattle.library_trees.proofs.CleanTrees.{clean_tree}
 use Rattle.library_trees.proofs.LayoutLaws.{layouts_of_cell}

@@ -1,5 +1,6 @@
 -- what crates above name of those below
 pub use Rattle.library_trees.proofs as LibraryTrees
+mod Common
 mod ElementForms
 mod ElementPlaces
 mod LibraryElements

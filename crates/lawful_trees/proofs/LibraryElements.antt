@@ -1,32 +1,21 @@
 -- The elements of a library's cells, as records have them: their names, their cells' names and their transforms.
-use Rattle.std.proofs.Common.{◌≡◌, ◌<◌, ℕ, zero, suc, List, [], ◌∷◌, length, inl, inr, refl, sym, ap, subst, arith}
-use Rattle.std.specs.Prelude.{All, IsTrue}
+use Rattle.lawful_trees.proofs.Common.{◌≡◌, ◌<◌, ℕ, List, [], ◌∷◌, length, inl, inr, refl, sym, ap, subst, arith, All, In, All-from_In, All-In}
+use Rattle.lawful_trees.proofs.Common.{slice_get-In, Transform, six_of, MOST_DEPTH, UseBody, LibraryParts, IsLawfulLibrary, seen, use_is_lawful}
+use Rattle.lawful_trees.proofs.Common.{UseRec, IsLawfulUse, is_node_name, NamedTree, NamedElements, named_elements_in, own_body, named_tree, no_more}
+use Rattle.lawful_trees.proofs.Common.{element_then, UseElement, use_elements}
+use Rattle.std.proofs.Common.{zero, suc}
+use Rattle.std.specs.Prelude.{IsTrue}
 use Rattle.std.proofs.lemmas.Bool.{cases_lt}
-use Rattle.finite_sets.specs.Lists.{In}
-use Rattle.finite_sets.proofs.Searches.{All-from_In, All-In}
-use Rattle.finite_sets.proofs.Places.{slice_get-In}
-use Rattle.geo_core.specs.declared.transforms.Transform.{Transform}
-use Rattle.geo_core.specs.Images.{six_of}
 use Rattle.text_scan.specs.PlainNames.{is_plain_name}
 use Rattle.library_trees.specs.CellLibrary.CellBodies.Words.{is_use_id}
-use Rattle.library_trees.specs.CellTree.declared.limits.TheConstants.{MOST_DEPTH}
-use Rattle.library_trees.specs.CellTree.declared.use_tables.UseBody.{UseBody}
 use Rattle.library_trees.specs.CellTree.Trees.{cell_at, empty_cell}
 use Rattle.library_trees.specs.CellLibrary.Contents.{no_held}
 use Rattle.library_trees.specs.CellLibrary.LayoutTrees.{element_transform}
-use Rattle.library_trees.specs.CellLibrary.Libraries.{LibraryParts, IsLawfulLibrary, seen, uses_in}
+use Rattle.library_trees.specs.CellLibrary.Libraries.{uses_in}
 use Rattle.library_trees.specs.CellLibrary.Views.{CellView, LibraryView, view_at}
-use Rattle.library_trees.proofs.CellLibrary.ElementCounts.{use_is_lawful}
 use Rattle.library_trees.proofs.CellLibrary.LayoutTreeLaws.{uses_seen}
 use Rattle.library_trees.proofs.CellLibrary.ViewLaws.{cell_viewed}
-use Rattle.ext_model.specs.declared.records.UseRec.{UseRec}
-use Rattle.ext_model.specs.Lawful.{IsLawfulUse}
-use Rattle.ext_model.specs.NodeNames.{is_node_name}
-use Rattle.library_trees.specs.TreeRecords.NamedTrees.{NamedTree, NamedElements, named_elements_in, own_body}
-use Rattle.library_trees.specs.TreeRecords.NamedTrees.NamedTree.{named_tree}
-use Rattle.library_trees.specs.TreeRecords.NamedTrees.NamedElements.{no_more, element_then}
 use Rattle.library_trees.specs.TreeRecords.TreeRecords.{use_records}
-use Rattle.library_trees.specs.ElementNames.{UseElement, use_elements}
 use Rattle.library_trees.specs.NamedCells.{named_elements_at, named_elements_from, named_tree_at, named_tree_to}
 use Rattle.library_trees.proofs.WholeTrees.{UsesWithIds, named_tree_unfolds, no_cell_seen}
 use Rattle.lawful_trees.proofs.ElementForms.{element_form}

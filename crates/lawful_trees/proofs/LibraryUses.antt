@@ -1,20 +1,11 @@
 -- The uses of a library's cells are of the form that records have.
-use Rattle.std.proofs.Common.{◌≡◌, ◌<◌, ℕ, ℤ, pos, negsuc, List, length, inl, refl, subst, IsTrue, arith}
-use Rattle.std.specs.Prelude.{Option, Some, None}
-use Rattle.std.specs.Int.RustNames.{unsigned_abs}
-use Rattle.std.proofs.lemmas.Int.{ints}
-use Rattle.finite_sets.specs.Lists.{In}
-use Rattle.finite_sets.proofs.Members.{In-map_source}
-use Rattle.finite_sets.proofs.Places.{slice_get-In}
-use Rattle.geo_core.specs.declared.grids.Grid.{Grid}
+use Rattle.lawful_trees.proofs.Common.{◌≡◌, ◌<◌, ℕ, ℤ, pos, negsuc, List, length, inl, refl, subst, IsTrue, arith, Option, Some, None, unsigned_abs}
+use Rattle.lawful_trees.proofs.Common.{ints, In, In-map_source, slice_get-In, Grid, is_use_id, LibraryParts, IsLawfulLibrary, seen, use_is_lawful}
 use Rattle.ext_model.specs.declared.limits.TheConstants.{SHIFT_EDGE}
 use Rattle.ext_model.specs.declared.arrays.ArrayUse.{ArrayUse}
-use Rattle.ext_model.specs.ElementNames.{is_use_id}
 use Rattle.ext_model.specs.LawfulArrays.{HasIdForm, IsArrayUse}
 use Rattle.library_trees.specs.CellTree.Uses.{IsLawfulGrid, IsShift}
-use Rattle.library_trees.specs.CellLibrary.Libraries.{LibraryParts, IsLawfulLibrary, seen}
 use Rattle.library_trees.specs.CellLibrary.Views.{view_at}
-use Rattle.library_trees.proofs.CellLibrary.ElementCounts.{use_is_lawful}
 use Rattle.library_trees.specs.CellRecords.{library_use, library_uses}
 use Rattle.lawful_trees.proofs.LibraryElements.{use_ids}
 

@@ -1,24 +1,14 @@
 -- What a group weighs, and what its members weigh together, is small.
-use Rattle.std.proofs.Common.{◌≡◌, ◌≤◌, ◌⊎◌, ℕ, ℤ, ◌+ℤ◌, ◌-ℤ◌, List, [], ◌∷◌, length, inl, inr, refl, sym, ap, subst, arith}
-use Rattle.std.proofs.lemmas.Int.{ints}
+use Rattle.lawful_trees.proofs.Common.{◌≡◌, ◌≤◌, ℕ, ℤ, List, [], ◌∷◌, length, inl, inr, refl, sym, ap, subst, arith, ints, In, Distinct, sum_on}
+use Rattle.lawful_trees.proofs.Common.{Total, RawTech, KeepsRules, IsWellFormed, IsMeasure, IsMaterial, Place, flat_layout, NamedTree, IsCleanTree}
+use Rattle.lawful_trees.proofs.Common.{tree_parts}
+use Rattle.std.proofs.Common.{◌⊎◌, ◌+ℤ◌, ◌-ℤ◌}
 use Rattle.std.proofs.lemmas.Option.{slice_get_within}
-use Rattle.finite_sets.specs.Lists.{In, Distinct}
-use Rattle.finite_sets.specs.Total.{sum_on, Total}
 use Rattle.finite_sets.proofs.Totals.{Total-iff, Total-map, Total-none, Total-union}
-use Rattle.tech_model.specs.declared.raw.RawTech.{RawTech}
-use Rattle.tech_model.specs.Rules.{KeepsRules}
-use Rattle.tech_model.specs.WellFormed.{IsWellFormed}
-use Rattle.ext_model.specs.Lawful.{IsMeasure}
-use Rattle.group_meetings.specs.LayoutModel.Layouts.{IsMaterial}
-use Rattle.group_meetings.specs.LayoutModel.Places.{Place}
 use Rattle.group_meetings.proofs.LayoutModel.Families.{InFamily}
-use Rattle.library_trees.specs.TreeRecords.FlatLayouts.{flat_layout}
 use Rattle.library_trees.specs.TreeRecords.MemberGroups.{IsGroupName}
-use Rattle.library_trees.specs.TreeRecords.NamedTrees.{NamedTree}
 use Rattle.library_trees.specs.TreeRecords.PlaceWeights.{PlaceWeight, AreMemberTotals, IsAdjustment}
-use Rattle.library_trees.specs.TreeNames.CleanTrees.{IsCleanTree}
 use Rattle.group_meetings.specs.MeetingLaws.PartLayouts.{part_layout}
-use Rattle.group_meetings.specs.Members.{tree_parts}
 use Rattle.group_meetings.proofs.MemberMaterial.{flat_of_part, member_is_material, named_is_material}
 use Rattle.group_meetings.proofs.MemberSteps.{one_of_part}
 use Rattle.group_meetings.proofs.GroupSums.{StandsAt}

@@ -1,30 +1,21 @@
 -- The material of a cell of a library lies within the range of paint, on the planes of its technology.
-use Rattle.std.proofs.Common.{◌≡◌, ◌<◌, ℕ, inl, inr, subst, arith}
-use Rattle.std.proofs.lemmas.Int.{ints}
+use Rattle.lawful_trees.proofs.Common.{◌≡◌, ◌<◌, ℕ, inl, inr, subst, arith, ints, Covers, RawTech, IsWellFormed, IsMaterial, Place, CellTree}
+use Rattle.lawful_trees.proofs.Common.{place_back, IsTyped, AreTyped, MOST_DEPTH, LibraryParts, IsLawfulLibrary, seen, NamedTree, layouts_of}
+use Rattle.lawful_trees.proofs.Common.{own_body, named_tree, flat_layout}
 use Rattle.geo_core.specs.declared.squares.Rect.{Rect}
 use Rattle.geo_core.specs.declared.squares.Square.{Square}
-use Rattle.geo_core.specs.Covering.{Covers}
 use Rattle.tech_model.specs.declared.limits.TheConstants.{MOST_PLANES}
-use Rattle.tech_model.specs.declared.raw.RawTech.{RawTech}
-use Rattle.tech_model.specs.WellFormed.{IsWellFormed}
-use Rattle.group_meetings.specs.LayoutModel.Layouts.{IsMaterial}
-use Rattle.group_meetings.specs.LayoutModel.Places.{Place}
-use Rattle.group_meetings.specs.LayoutModel.CellTrees.{CellTree, Elements, place_back}
+use Rattle.group_meetings.specs.LayoutModel.CellTrees.{Elements}
 use Rattle.group_meetings.specs.LayoutModel.CellTrees.CellTree.{cell_tree}
 use Rattle.group_meetings.specs.LayoutModel.CellTrees.Elements.{no_elements, element_and}
-use Rattle.group_meetings.specs.LayoutModel.FlatSets.{flat_sets, IsTyped, AreTyped}
+use Rattle.group_meetings.specs.LayoutModel.FlatSets.{flat_sets}
 use Rattle.group_meetings.specs.CellPaint.Painting.{paint_range}
-use Rattle.library_trees.specs.CellTree.declared.limits.TheConstants.{MOST_DEPTH}
 use Rattle.library_trees.specs.CellTree.declared.sizes.Dimension.TheVariants.{Hull}
 use Rattle.library_trees.specs.CellTree.Hulls.{SpansInRange}
 use Rattle.library_trees.specs.CellTree.Sizes.{IsHullInRange}
 use Rattle.library_trees.specs.CellLibrary.LayoutTrees.{tree_at}
-use Rattle.library_trees.specs.CellLibrary.Libraries.{LibraryParts, IsLawfulLibrary, seen}
 use Rattle.library_trees.specs.CellLibrary.steps.MaterialBelow.{HasMaterial, HasMaterialBelow}
 use Rattle.library_trees.proofs.CellLibrary.HullsHoldMaterial.{hull_holds_material, material_of_sets}
-use Rattle.library_trees.specs.TreeRecords.NamedTrees.{NamedTree, layouts_of, own_body}
-use Rattle.library_trees.specs.TreeRecords.NamedTrees.NamedTree.{named_tree}
-use Rattle.library_trees.specs.TreeRecords.FlatLayouts.{flat_layout}
 use Rattle.group_meetings.proofs.MeetingLaws.LinkLaws.{part_of_empty}
 
 -- A place where there may be paint.

@@ -1,37 +1,24 @@
 -- The nodes and the transistors of a cell's own layout are lawful in the record of the cell.
-use Rattle.std.proofs.Common.{◌≡◌, ◌<◌, ◌≤◌, ◌*◌, ◌^◌, ℕ, ℤ, pos, IsTrue, List, [], map, length, get_or, inl, sym, ◌∙◌, ap, subst, arith}
-use Rattle.std.specs.Prelude.{All}
+use Rattle.lawful_trees.proofs.Common.{◌≡◌, ◌<◌, ◌≤◌, ℕ, ℤ, pos, IsTrue, List, [], map, length, inl, sym, ◌∙◌, ap, subst, arith, All, ints}
+use Rattle.lawful_trees.proofs.Common.{length-map, In, Distinct, All-from_In, All-In, Covers, ClassRec, RawTech, IsWellFormed, IsClass, CellExt}
+use Rattle.lawful_trees.proofs.Common.{is_word, is_node_name, HasTypesOf, Layout, IsMaterial, Place, class_of, material_along}
+use Rattle.std.proofs.Common.{◌*◌, ◌^◌, get_or}
 use Rattle.std.specs.Int.{w32}
 use Rattle.std.specs.Int.RustNames.{FitsSigned}
-use Rattle.std.proofs.lemmas.Int.{ints}
-use Rattle.std.proofs.lemmas.List.{length-map}
-use Rattle.finite_sets.specs.Lists.{In, Distinct}
 use Rattle.finite_sets.proofs.Members.{In-get_or, In-index}
-use Rattle.finite_sets.proofs.Searches.{All-from_In, All-In}
 use Rattle.finite_sets.proofs.Images.{In-flat_map}
-use Rattle.geo_core.specs.Covering.{Covers}
-use Rattle.tech_model.specs.declared.raw.ClassRec.{ClassRec}
 use Rattle.tech_model.specs.declared.raw.Label.{Label}
-use Rattle.tech_model.specs.declared.raw.RawTech.{RawTech}
-use Rattle.tech_model.specs.WellFormed.{IsWellFormed, IsClass}
 use Rattle.ext_model.specs.declared.limits.TheConstants.{MOST_CLASSES}
 use Rattle.ext_model.specs.declared.records.NodeRec.{NodeRec}
 use Rattle.ext_model.specs.declared.records.FetRec.{FetRec}
-use Rattle.ext_model.specs.declared.records.CellExt.{CellExt}
-use Rattle.ext_model.specs.NodeNames.{is_word, is_node_name}
 use Rattle.ext_model.specs.Lawful.{IsLawfulNode, IsLawfulFet}
 use Rattle.ext_model.specs.RecordNames.{names_of, node_names}
-use Rattle.group_meetings.specs.LayoutModel.LayerTypes.{HasTypesOf}
-use Rattle.group_meetings.specs.LayoutModel.Layouts.{Layout, IsMaterial}
-use Rattle.group_meetings.specs.LayoutModel.Places.{Place}
-use Rattle.group_meetings.specs.LayoutModel.Technologies.{class_of}
 use Rattle.group_meetings.specs.LayoutModel.Transistors.{Transistor}
 use Rattle.group_meetings.specs.CellPaint.Painting.{paint_range}
 use Rattle.library_trees.specs.Measures.Bounds.{IsSmallMeasure}
 use Rattle.library_trees.proofs.Measures.BoundLaws.{measures_are_small}
 use Rattle.library_trees.specs.Names.NamedNodes.{AreOneNamedNode}
 use Rattle.library_trees.specs.CellNodes.NodeRecords.{AreNodeRecords, IsNodeRecord}
-use Rattle.library_trees.proofs.CellNodes.NodePlaces.{material_along}
 use Rattle.library_trees.specs.TreeRecords.FetRecords.{AreFetRecords, IsNodeBefore, IsOfNode}
 use Rattle.library_trees.specs.TreeRecords.OwnRecords.{class_values}
 use Rattle.library_trees.proofs.OwnRecordLaws.LawfulFets.{fet_is_lawful}

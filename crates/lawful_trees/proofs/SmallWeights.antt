@@ -1,22 +1,17 @@
 -- A place counts little for an area, a perimeter or a capacitance.
-use Rattle.std.proofs.Common.{◌≡◌, ℕ, ℤ, pos, negsuc, ◌+ℤ◌, ◌*ℤ◌, ◌≤ℤ◌, ◌≤◌, ◌*◌, Bool, true, false, cond}
-use Rattle.std.proofs.Common.{not, length, List, [], ◌∷◌, map, inl, inr, refl, sym, ap, subst, ◌∙◌, arith}
+use Rattle.lawful_trees.proofs.Common.{◌≡◌, ℕ, ℤ, pos, negsuc, ◌≤◌, length, List, [], ◌∷◌, map, inl, inr, refl, sym, ap, subst, ◌∙◌, arith, ints, In}
+use Rattle.lawful_trees.proofs.Common.{sum_on, All-In, ClassRec, RawTech, IsClass, IsWellFormed, Layout, Place, Class, class_of, rules_of}
+use Rattle.std.proofs.Common.{◌+ℤ◌, ◌*ℤ◌, ◌≤ℤ◌, ◌*◌, Bool, true, false, cond}
+use Rattle.std.proofs.Common.{not}
 use Rattle.std.specs.Prelude.{◌==◌}
 use Rattle.std.proofs.Math.Nat.{mul-le-mul_left}
 use Rattle.std.proofs.Math.IntN.{zero-*ℤ}
-use Rattle.std.proofs.lemmas.Int.{ints}
 use Rattle.std.proofs.lemmas.Bool.{cases_Bool, eqb-true}
-use Rattle.finite_sets.specs.Lists.{In}
-use Rattle.finite_sets.specs.Total.{sum_on, one_if}
+use Rattle.finite_sets.specs.Total.{one_if}
 use Rattle.finite_sets.proofs.Pairs.{Pairwise, Pairwise-from_AllPairs}
-use Rattle.finite_sets.proofs.Searches.{All-In, list_any-source}
-use Rattle.tech_model.specs.declared.raw.ClassRec.{ClassRec}
-use Rattle.tech_model.specs.declared.raw.RawTech.{RawTech}
+use Rattle.finite_sets.proofs.Searches.{list_any-source}
 use Rattle.tech_model.specs.declared.raw.TypeId.{TypeId}
-use Rattle.tech_model.specs.WellFormed.{IsClass, IsWellFormed}
-use Rattle.group_meetings.specs.LayoutModel.Layouts.{Layout}
-use Rattle.group_meetings.specs.LayoutModel.Places.{Place, neighbours}
-use Rattle.group_meetings.specs.LayoutModel.Technologies.{Class, class_of, rules_of}
+use Rattle.group_meetings.specs.LayoutModel.Places.{neighbours}
 use Rattle.library_trees.specs.TreeRecords.PlaceWeights.{PlaceWeight, area_weight, perimeter_weight, capacitance_weight}
 
 -- A number from 0 to five million.

@@ -1,28 +1,16 @@
 -- The names of members lead to nodes: they are names of the record, or the names of elements that lead to a name.
-use Rattle.std.proofs.Common.{◌≡◌, ℕ, List, [], ◌∷◌, map, IsTrue, inl, inr, refl, sym, ap, subst, ◌∙◌}
-use Rattle.finite_sets.specs.Lists.{In}
-use Rattle.finite_sets.proofs.Searches.{All-from_In}
-use Rattle.tech_model.specs.declared.raw.RawTech.{RawTech}
-use Rattle.tech_model.specs.WellFormed.{IsWellFormed}
-use Rattle.ext_model.specs.declared.records.CellExt.{CellExt}
-use Rattle.ext_model.specs.declared.records.UseRec.{UseRec}
-use Rattle.ext_model.specs.NodeNames.{is_node_name}
+use Rattle.lawful_trees.proofs.Common.{◌≡◌, ℕ, List, [], ◌∷◌, map, IsTrue, inl, inr, refl, sym, ap, subst, ◌∙◌, In, All-from_In, RawTech}
+use Rattle.lawful_trees.proofs.Common.{IsWellFormed, CellExt, UseRec, is_node_name, Place, place_back, IsTyped, AreTyped, material_along, NamedTree}
+use Rattle.lawful_trees.proofs.Common.{NamedElements, layouts_of, named_elements_in, own_body, named_tree, no_more, element_then, ids_in}
 use Rattle.ext_model.specs.Paths.{path_text}
 use Rattle.ext_model.specs.RecordNames.{element_names, node_names}
 use Rattle.ext_model.specs.Lawful.{IsPathIn}
-use Rattle.group_meetings.specs.LayoutModel.Places.{Place}
-use Rattle.group_meetings.specs.LayoutModel.CellTrees.{place_back}
-use Rattle.group_meetings.specs.LayoutModel.FlatSets.{IsTyped, AreTyped}
-use Rattle.library_trees.proofs.CellNodes.NodePlaces.{material_along}
 use Rattle.library_trees.specs.TreeRecords.FetRecords.{IsOfNode}
 use Rattle.library_trees.proofs.OwnRecordLaws.NameForms.{name_form}
 use Rattle.library_trees.specs.TreeRecords.FlatLayouts.{HasNodePath, HasNodePathBelow}
 use Rattle.library_trees.specs.TreeRecords.MemberGroups.{IsMemberAt, IsMemberBelow}
-use Rattle.library_trees.specs.TreeRecords.NamedTrees.{NamedTree, NamedElements, layouts_of, layouts_below, named_elements_in, own_body}
-use Rattle.library_trees.specs.TreeRecords.NamedTrees.NamedTree.{named_tree}
-use Rattle.library_trees.specs.TreeRecords.NamedTrees.NamedElements.{no_more, element_then}
+use Rattle.library_trees.specs.TreeRecords.NamedTrees.{layouts_below}
 use Rattle.library_trees.specs.TreeRecords.TreeRecords.{use_records}
-use Rattle.library_trees.specs.TreeNames.CleanTrees.{ids_in}
 use Rattle.library_trees.proofs.TreeNames.Representatives.{group_has_path}
 use Rattle.lawful_trees.proofs.LibraryElements.{HasForms, HaveForms}
 

@@ -1,39 +1,27 @@
 -- Nothing refuses that the cells are added which are made, but too many edits.
-use Rattle.std.proofs.Common.{◌≡◌, ◌⊎◌, ◌+◌, ◌≤◌, ◌∙◌, ℕ, zero, suc, List, [], ◌∷◌, ◌++◌, length, length-append, map, Some, None, refl, sym}
-use Rattle.std.proofs.Common.{ap, subst, arith, inl, inr}
-use Rattle.std.specs.Prelude.{All, IsTrue, codes, slice_get, unwrap_or}
-use Rattle.std.specs.Option.{option_or}
+use Rattle.layout_gen.proofs.Common.{◌≡◌, ◌+◌, ◌≤◌, ◌∙◌, ℕ, suc, List, [], ◌∷◌, ◌++◌, length, Some, None, refl, sym, ap, subst, arith, inl, inr, All}
+use Rattle.layout_gen.proofs.Common.{IsTrue, codes, slice_get, unwrap_or, option_or, In, Rect, Label, RawTech, Place, Size, MayCome, IsLawfulTree}
+use Rattle.layout_gen.proofs.Common.{Tree, MOST_CELLS, MOST_EDITS, LibraryParts, seen, count_seen, TileLayers, MADE_CELLS, MOST_TILES, AreLayers}
+use Rattle.layout_gen.proofs.Common.{AreMade, AreNew, IsMade, array_use, IsGenerated}
+use Rattle.std.proofs.Common.{◌⊎◌, zero, length-append, map}
 use Rattle.std.proofs.lemmas.Option.{same_Some}
-use Rattle.finite_sets.specs.Lists.{In}
-use Rattle.geo_core.specs.declared.squares.Rect.{Rect}
-use Rattle.tech_model.specs.declared.raw.Label.{Label}
-use Rattle.tech_model.specs.declared.raw.RawTech.{RawTech}
-use Rattle.cell_library.specs.LayoutModel.Places.{Place}
 use Rattle.cell_library.specs.CellPaint.Paints.{layout_of}
 use Rattle.cell_library.specs.CellBodies.declared.bodies.CellBody.{CellBody}
 use Rattle.cell_library.specs.CellBodies.Bodies.{IsBody}
 use Rattle.cell_library.specs.CellBodies.Numbers.{is_label_area}
-use Rattle.cell_library.specs.CellTree.declared.sizes.Size.{Size}
-use Rattle.cell_library.specs.CellTree.Additions.{MayCome}
 use Rattle.cell_library.specs.CellTree.Sizes.{CellState, size_at, size_of}
-use Rattle.cell_library.specs.CellTree.Trees.{IsLawfulTree, Tree}
 use Rattle.cell_library.specs.declared.faults.LibFault.{LibFault}
 use Rattle.cell_library.specs.declared.faults.LibFault.TheVariants as library_fault
 use Rattle.cell_library.specs.declared.limits.LibraryLimit.TheVariants.{Edits}
-use Rattle.cell_library.specs.declared.limits.TheConstants.{MOST_CELLS, MOST_EDITS}
 use Rattle.cell_library.specs.steps.AddedCells.{AreCellsAdded, contents_with, held_from, kept_uses, new_views}
 use Rattle.cell_library.specs.Additions.{AddAllIsRefused, CanBeAdded, first_scale, kept_use, with_all}
-use Rattle.cell_library.specs.Libraries.{IsLawfulLibrary, LibraryParts, seen}
+use Rattle.cell_library.specs.Libraries.{IsLawfulLibrary}
 use Rattle.cell_library.specs.Limits.{AreStatesOf}
 use Rattle.cell_library.specs.OwnBoxes.{OwnBoxIs}
 use Rattle.cell_library.specs.Refusals.{EditIsRefused, HasFaultOrLacksMemory}
 use Rattle.cell_library.proofs.AddedCells.{all_added_unrefused, all_names, cells_fit}
 use Rattle.cell_library.proofs.ArrivingUses.{cell_may_come}
-use Rattle.cell_library.proofs.ViewLaws.{count_seen}
-use Rattle.layout_gen.specs.declared.checks.TileLayers.{TileLayers}
-use Rattle.layout_gen.specs.declared.limits.TheConstants.{MADE_CELLS, MOST_TILES}
-use Rattle.layout_gen.specs.steps.Bodies.{AreLayers, AreMade, AreNew, IsMade, array_use}
-use Rattle.layout_gen.specs.Generated.{IsGenerated, no_paint, row_grid, row_name, stack_grid, tile_labels, tile_layout, tile_name}
+use Rattle.layout_gen.specs.Generated.{no_paint, row_grid, row_name, stack_grid, tile_labels, tile_layout, tile_name}
 use Rattle.layout_gen.proofs.MadeCells.{all_three, can_be_listed, listed, listed_generated, row_uses, stack_uses}
 use Rattle.layout_gen.proofs.Sizes.{made_sizes, made_within, row_size, row_state, size_of_use, stack_state, tile_box, tile_box_is, tile_fits}
 use Rattle.layout_gen.proofs.Sizes.{tile_size, tile_size_is}

@@ -1,49 +1,38 @@
 -- The cells that are made may be added, and are what they should be then.
-use Rattle.std.proofs.Common.{◌≡◌, ◌+◌, ◌-◌, ◌*◌, ◌<◌, ◌≤◌, ◌∙◌, ℕ, suc, Bool, true, false, List, [], ◌∷◌, ◌++◌, length, length-append, map, Option, Some}
-use Rattle.std.proofs.Common.{None, refl, sym, ap, subst, arith, inl, inr, true≢false, pos, ℤ, ◌-ℤ◌}
-use Rattle.std.specs.Prelude.{All, IsTrue, codes, nat_le, unwrap_or}
-use Rattle.std.specs.Int.RustNames.{unsigned_abs}
+use Rattle.layout_gen.proofs.Common.{◌≡◌, ◌+◌, ◌*◌, ◌<◌, ◌≤◌, ◌∙◌, ℕ, suc, List, [], ◌∷◌, ◌++◌, length, Option, Some, None, refl, sym, ap, subst}
+use Rattle.layout_gen.proofs.Common.{arith, inl, inr, true≢false, pos, ℤ, ◌-ℤ◌, All, IsTrue, codes, nat_le, unwrap_or, unsigned_abs, option_or}
+use Rattle.layout_gen.proofs.Common.{cases_Bool, nat_tests, In, Grid, Label, RawTech, Place, with_paint, MOST_USES, MOST_CELLS, LibraryParts, seen}
+use Rattle.layout_gen.proofs.Common.{count_seen, TileLayers, MADE_CELLS, MOST_TILES, AreLayers, AreNew, IsMade, array_use, IsGenerated, diff_area}
+use Rattle.layout_gen.proofs.Common.{poly_label}
+use Rattle.std.proofs.Common.{◌-◌, Bool, true, false, length-append, map}
 use Rattle.std.specs.List.{position_or_len}
-use Rattle.std.specs.Option.{option_or}
 use Rattle.std.specs.Str.{bytes_eq}
-use Rattle.std.proofs.lemmas.Bool.{cases_Bool}
-use Rattle.std.proofs.lemmas.Bool.Decides.{nat_tests}
 use Rattle.std.proofs.lemmas.Int.{ints}
 use Rattle.std.proofs.lemmas.List.{length-map}
 use Rattle.std.proofs.lemmas.List.Elements.{All-cons, All-nil}
 use Rattle.std.proofs.lemmas.Slice.Eq.{bytes_eq-Decides}
-use Rattle.finite_sets.specs.Lists.{Distinct, In}
+use Rattle.finite_sets.specs.Lists.{Distinct}
 use Rattle.finite_sets.proofs.Distincts.{Distinct-append}
 use Rattle.finite_sets.proofs.Members.{In-append_right}
 use Rattle.text_scan.specs.PlainNames.{is_plain_name}
-use Rattle.geo_core.specs.declared.grids.Grid.{Grid}
 use Rattle.geo_core.specs.declared.limits.TheConstants.{MOST_ELEMENTS}
 use Rattle.geo_core.specs.Elements.{indices}
 use Rattle.geo_core.specs.Images.{identity}
 use Rattle.geo_core.specs.Orientation.{is_orientation}
-use Rattle.tech_model.specs.declared.raw.Label.{Label}
-use Rattle.tech_model.specs.declared.raw.RawTech.{RawTech}
 use Rattle.cell_library.specs.LayoutModel.Layouts.{Layout}
-use Rattle.cell_library.specs.LayoutModel.Places.{Place}
-use Rattle.cell_library.specs.CellPaint.Painting.{with_paint}
 use Rattle.cell_library.specs.CellBodies.declared.bodies.CellBody.{CellBody}
 use Rattle.cell_library.specs.CellBodies.declared.bodies.CellUse.{CellUse}
 use Rattle.cell_library.specs.CellBodies.Bodies.{IsBody, IsLabel, IsUse, ids_of}
 use Rattle.cell_library.specs.CellBodies.Numbers.{are_elements, are_few_elements, is_grid, is_index, is_scale_number}
 use Rattle.cell_library.specs.CellBodies.Words.{is_use_id}
-use Rattle.cell_library.specs.CellTree.declared.limits.TheConstants.{MOST_USES}
 use Rattle.cell_library.specs.CellTree.declared.use_tables.UseBody.{UseBody}
-use Rattle.cell_library.specs.declared.limits.TheConstants.{MOST_CELLS}
 use Rattle.cell_library.specs.Additions.{CanBeAdded, kept_cell, kept_use, with_all}
-use Rattle.cell_library.specs.Libraries.{IsLawfulLibrary, IsLawfulScale, LibraryParts, seen, uses_in}
+use Rattle.cell_library.specs.Libraries.{IsLawfulLibrary, IsLawfulScale, uses_in}
 use Rattle.cell_library.specs.Views.{CellView, LibraryView, cell_named, names_of}
 use Rattle.cell_library.proofs.ContentLaws.{position_past}
 use Rattle.cell_library.proofs.NewCells.{name_is_new, named_seen}
-use Rattle.cell_library.proofs.ViewLaws.{names_seen, count_seen}
-use Rattle.layout_gen.specs.declared.checks.TileLayers.{TileLayers}
-use Rattle.layout_gen.specs.declared.limits.TheConstants.{MADE_CELLS, MOST_TILES}
-use Rattle.layout_gen.specs.steps.Bodies.{AreLayers, AreNew, IsMade, array_use}
-use Rattle.layout_gen.specs.Generated.{IsGenerated, array_cell, diff_area, diff_label, no_paint, poly_area, poly_label, row_grid, row_name}
+use Rattle.cell_library.proofs.ViewLaws.{names_seen}
+use Rattle.layout_gen.specs.Generated.{array_cell, diff_label, no_paint, poly_area, row_grid, row_name}
 use Rattle.layout_gen.specs.Generated.{stack_grid, stack_name, tile_cell, tile_labels, tile_layout, tile_name, with_generated}
 
 -- ---- paint

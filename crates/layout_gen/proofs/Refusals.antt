@@ -1,20 +1,12 @@
 -- What is told where no cells are made.
-use Rattle.std.proofs.Common.{◌≡◌, ◌+◌, ◌≤◌, ◌∙◌, ℕ, Option, Some, None, length, refl, ap, arith, inl, inr}
-use Rattle.std.specs.Prelude.{◌==◌, nat_le}
-use Rattle.std.specs.Option.{option_map, option_map_or, option_or}
-use Rattle.std.proofs.lemmas.Bool.{cases_Bool}
-use Rattle.std.proofs.lemmas.Bool.Decides.{nat_tests}
-use Rattle.tech_model.specs.declared.raw.RawTech.{RawTech}
+use Rattle.layout_gen.proofs.Common.{◌≡◌, ◌+◌, ◌≤◌, ◌∙◌, ℕ, Option, Some, None, length, refl, ap, arith, inl, inr, nat_le, option_map, option_or}
+use Rattle.layout_gen.proofs.Common.{cases_Bool, nat_tests, RawTech, MOST_CELLS, MOST_EDITS, LibraryParts, seen, count_seen, TileLayers}
+use Rattle.layout_gen.proofs.Common.{GenerateFault, MADE_CELLS, AreLayers, AreNew}
+use Rattle.std.specs.Prelude.{◌==◌}
+use Rattle.std.specs.Option.{option_map_or}
 use Rattle.cell_library.specs.declared.limits.LibraryLimit.TheVariants.{Cells, Edits}
-use Rattle.cell_library.specs.declared.limits.TheConstants.{MOST_CELLS, MOST_EDITS}
-use Rattle.cell_library.specs.Libraries.{LibraryParts, seen}
 use Rattle.cell_library.specs.Views.{LibraryView}
-use Rattle.cell_library.proofs.ViewLaws.{count_seen}
-use Rattle.layout_gen.specs.declared.checks.TileLayers.{TileLayers}
-use Rattle.layout_gen.specs.declared.faults.GenerateFault.{GenerateFault}
 use Rattle.layout_gen.specs.declared.faults.GenerateFault.TheVariants.{CellExists, NoLayer, TooMany}
-use Rattle.layout_gen.specs.declared.limits.TheConstants.{MADE_CELLS}
-use Rattle.layout_gen.specs.steps.Bodies.{AreLayers, AreNew}
 use Rattle.layout_gen.specs.Generated.{diff_name, poly_name, row_name, stack_name, tile_name}
 use Rattle.layout_gen.specs.Refusals.{IsFaultOrMemory, edits_fault, generate_fault, layers_fault, names_fault, room_fault}
 

@@ -1,16 +1,14 @@
 -- How large the cells are that are made: how deep they stand, how many elements they have, and how far their hulls reach.
-use Rattle.std.proofs.Common.{◌≡◌, ◌+◌, ◌-◌, ◌*◌, ◌≤◌, ◌∙◌, ℕ, zero, suc, List, [], ◌∷◌, ◌++◌, length, Option, Some, None, refl, sym, ap, subst, arith}
-use Rattle.std.proofs.Common.{inl, inr, ℤ, pos, ◌+ℤ◌, ◌-ℤ◌, ◌*ℤ◌, ◌≤ℤ◌}
-use Rattle.std.specs.Prelude.{All, IsTrue, codes, max}
+use Rattle.layout_gen.proofs.Common.{◌≡◌, ◌+◌, ◌*◌, ◌≤◌, ◌∙◌, ℕ, suc, List, [], ◌∷◌, ◌++◌, length, Option, Some, None, refl, sym, ap, subst, arith}
+use Rattle.layout_gen.proofs.Common.{inl, inr, ℤ, pos, ◌-ℤ◌, All, IsTrue, codes, unsigned_abs, cases_Bool, In, Grid, Rect, Label, RawTech, Place}
+use Rattle.layout_gen.proofs.Common.{with_paint, Dimension, Size, MOST_TILES, diff_area, poly_label}
+use Rattle.std.proofs.Common.{◌-◌, zero}
+use Rattle.std.proofs.Common.{◌+ℤ◌, ◌*ℤ◌, ◌≤ℤ◌}
+use Rattle.std.specs.Prelude.{max}
 use Rattle.std.specs.Int.{int_max, int_min}
-use Rattle.std.specs.Int.RustNames.{unsigned_abs}
-use Rattle.std.proofs.lemmas.Bool.{cases_Bool}
 use Rattle.std.proofs.lemmas.Int.{ints, clamps}
 use Rattle.std.proofs.lemmas.List.{append-nil, length-map}
 use Rattle.std.proofs.Math.Nat.{mul-le-mul_right}
-use Rattle.finite_sets.specs.Lists.{In}
-use Rattle.geo_core.specs.declared.grids.Grid.{Grid}
-use Rattle.geo_core.specs.declared.squares.Rect.{Rect}
 use Rattle.geo_core.specs.declared.squares.Square.{Square}
 use Rattle.geo_core.specs.Areas.{LiesWithin}
 use Rattle.geo_core.specs.Covering.{Covers, is_covered}
@@ -19,16 +17,10 @@ use Rattle.geo_core.specs.Images.{identity, rect_image}
 use Rattle.geo_core.proofs.CoveringLaws.{Covers-is_covered}
 use Rattle.geo_core.proofs.ElementLaws.{length-elements_of}
 use Rattle.geo_core.proofs.SquareLaws.{rect_is}
-use Rattle.tech_model.specs.declared.raw.Label.{Label}
-use Rattle.tech_model.specs.declared.raw.RawTech.{RawTech}
 use Rattle.tech_model.specs.Columns.{painted_column}
 use Rattle.cell_library.specs.LayoutModel.Layouts.{IsMaterial, Layout}
-use Rattle.cell_library.specs.LayoutModel.Places.{Place}
-use Rattle.cell_library.specs.CellPaint.Painting.{with_paint}
 use Rattle.cell_library.proofs.CellPaint.PaintLaws.{changed_outside}
-use Rattle.cell_library.specs.CellTree.declared.sizes.Dimension.{Dimension}
 use Rattle.cell_library.specs.CellTree.declared.sizes.Dimension.TheVariants.{Depth, Elements, Hull}
-use Rattle.cell_library.specs.CellTree.declared.sizes.Size.{Size}
 use Rattle.cell_library.specs.CellTree.Hulls.{SpansInRange, element_hulls, round_all, spread_area, way_of}
 use Rattle.cell_library.specs.CellTree.Sizes.{CellState, IsHullInRange, IsWithin, size_at, size_of}
 use Rattle.cell_library.specs.CellTree.declared.limits.TheConstants.{MOST_ELEMENTS_BELOW}
@@ -39,8 +31,7 @@ use Rattle.cell_library.specs.CellBodies.Numbers.{has_sides}
 use Rattle.cell_library.proofs.BoxLaws.{labelled_box}
 use Rattle.cell_library.proofs.BoxSteps.{own_box_wide}
 use Rattle.cell_library.proofs.SizeLaws.{none_within}
-use Rattle.layout_gen.specs.declared.limits.TheConstants.{MOST_TILES}
-use Rattle.layout_gen.specs.Generated.{diff_area, diff_label, no_paint, poly_area, poly_label, row_grid, stack_grid, tile_labels, tile_layout}
+use Rattle.layout_gen.specs.Generated.{diff_label, no_paint, poly_area, row_grid, stack_grid, tile_labels, tile_layout}
 use Rattle.layout_gen.proofs.MadeCells.{all_two, few_indices, use_at}
 
 -- ---- the tile

@@ -1,17 +1,13 @@
 -- A lawful tree stays lawful with cells at the end whose sizes keep within the limits.
-use Rattle.std.proofs.Common.{◌≡◌, ◌+◌, ◌-◌, ◌<◌, ◌≤◌, ◌∙◌, ℕ, zero, suc, List, [], ◌∷◌, ◌++◌, length, length-append, map, Some, refl, sym, ap, subst}
-use Rattle.std.proofs.Common.{arith, inl, inr}
-use Rattle.std.specs.Prelude.{All, slice_get}
+use Rattle.layout_gen.proofs.Common.{◌≡◌, ◌+◌, ◌<◌, ◌≤◌, ◌∙◌, ℕ, suc, List, [], ◌∷◌, ◌++◌, length, Some, refl, sym, ap, subst, arith, inl, inr, All}
+use Rattle.layout_gen.proofs.Common.{slice_get, MOST_USES, Dimension, Size, MayCome, IsLawfulTree, Tree}
+use Rattle.std.proofs.Common.{◌-◌, zero, length-append, map}
 use Rattle.std.proofs.lemmas.Bool.{cases_lt}
 use Rattle.std.proofs.lemmas.List.{get_or-append-add, get_or-append_right, get_or_append_left, length-map}
 use Rattle.std.proofs.lemmas.Option.{get_or_from_slice_get, slice_get_within}
 use Rattle.finite_sets.proofs.Places.{slice_get-append_cases}
-use Rattle.cell_library.specs.CellTree.declared.limits.TheConstants.{MOST_USES}
-use Rattle.cell_library.specs.CellTree.declared.sizes.Dimension.{Dimension}
-use Rattle.cell_library.specs.CellTree.declared.sizes.Size.{Size}
-use Rattle.cell_library.specs.CellTree.Additions.{MayCome}
 use Rattle.cell_library.specs.CellTree.Sizes.{AreSizes, AreUsesBelow, CellState, IsWithin, no_size, size_at, size_of}
-use Rattle.cell_library.specs.CellTree.Trees.{IsLawfulCell, IsLawfulTree, Tree, stamp_at}
+use Rattle.cell_library.specs.CellTree.Trees.{IsLawfulCell, stamp_at}
 use Rattle.cell_library.proofs.CellTree.SizeLaws.{size_of-same}
 
 -- one stamp for all

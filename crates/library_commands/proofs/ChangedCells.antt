@@ -1,18 +1,16 @@
 -- Commands of the current cell change it alone.
-use Rattle.std.proofs.Common.{◌≡◌, ℕ, ℤ, List, Option, Some, None, refl, sym}
-use Rattle.std.specs.Prelude.{IfSome}
+use Rattle.library_commands.proofs.Common.{◌≡◌, ℕ, List, Option, Some, None, refl, sym, IfSome, CellView, LibraryView, cell_named, with_cell_changed}
+use Rattle.library_commands.proofs.Common.{Command, Editing, applied}
+use Rattle.std.proofs.Common.{ℤ}
 use Rattle.std.specs.Option.{option_map_or}
 use Rattle.geo_core.specs.declared.grids.Grid.{Grid}
 use Rattle.geo_core.specs.declared.transforms.Transform.{Transform}
 use Rattle.tech_model.specs.declared.raw.LayerId.{LayerId}
 use Rattle.tech_model.specs.Types.{layer_named}
 use Rattle.cell_library.specs.Edits.{erased, labelled, moved, painted, placed, transform_of, unlabelled, with_grid, without_use}
-use Rattle.cell_library.specs.Views.{CellView, LibraryView, cell_named, with_cell_changed}
 use Rattle.cell_library.proofs.ViewLaws.{changed_at-same}
-use Rattle.script_lines.specs.declared.commands.Command.{Command}
 use Rattle.script_lines.specs.declared.commands.Command.TheVariants as command
-use Rattle.uniqueness.specs.EditScript.Editing.{Editing}
-use Rattle.uniqueness.specs.EditScript.Edits.{applied, grid_of, in_current, label_layer, label_of, with_cell, with_label_layer, with_layer, with_six_as_grid}
+use Rattle.uniqueness.specs.EditScript.Edits.{grid_of, in_current, label_layer, label_of, with_cell, with_label_layer, with_layer, with_six_as_grid}
 
 -- one cell was changed, or none
 abbrev pub ChangesCell : ℕ → LibraryView → LibraryView → Type 0

@@ -1,26 +1,9 @@
 -- What the commands answer that edit.
-use Rattle.std.proofs.Common.{◌≡◌, ◌∙◌, ℕ, [], ◌∷◌, Option, Some, inl, inr, refl, sym, subst}
-use Rattle.std.specs.Prelude.{codes}
-use Rattle.session_model.specs.declared.answer.Answer.{Answer}
-use Rattle.session_model.specs.Effects.{AnswersAlone}
-use Rattle.ext_model.specs.declared.tables.CellKey.{CellKey}
-use Rattle.cell_library.specs.Libraries.{LibraryParts, IsLawfulLibrary, IsSame, seen}
-use Rattle.script_lines.specs.declared.commands.Command.{Command}
-use Rattle.uniqueness.specs.EditScript.declared.faults.EditFault.{EditFault}
-use Rattle.uniqueness.specs.EditScript.Editing.{editing_of}
-use Rattle.uniqueness.specs.EditScript.Edits.{applied}
-use Rattle.uniqueness.specs.EditScript.Refusals.{ApplyIsRefused}
+use Rattle.library_commands.proofs.Common.{◌≡◌, ◌∙◌, ℕ, [], ◌∷◌, Option, Some, inl, inr, refl, sym, subst, codes, Answer, AnswersAlone, CellKey}
+use Rattle.library_commands.proofs.Common.{LibraryParts, IsLawfulLibrary, IsSame, seen, Command, EditFault, editing_of, applied, ApplyIsRefused}
+use Rattle.library_commands.proofs.Common.{Inverses, kept_versions, versions_after, Agrees, Records, is_dirty, edit_refusal, EditMeans, refusal_line}
+use Rattle.library_commands.proofs.Common.{refused, reply, Workspace, answers_refusal, same_workspace, workspace_of}
 use Rattle.uniqueness.specs.EditScript.Stamps.{IsStamped}
-use Rattle.look_commands.specs.UndoLog.Inverses.{Inverses, kept_versions}
-use Rattle.look_commands.specs.UndoLog.Versions.{versions_after}
-use Rattle.workspace.specs.Caches.{Agrees, Records, is_dirty}
-use Rattle.workspace.specs.LibraryAnswers.Refusals.{edit_refusal}
-use Rattle.library_commands.specs.CommandEdits.{EditMeans}
-use Rattle.line_answers.specs.Refusals.{refusal_line}
-use Rattle.line_answers.specs.LineEffects.{refused, reply}
-use Rattle.workspace.specs.States.{Workspace}
-use Rattle.line_answers.proofs.AnswerLaws.{answers_refusal}
-use Rattle.workspace.proofs.WorkspaceLaws.{same_workspace, workspace_of}
 use Rattle.library_commands.proofs.MarkLaws.{marks_applied}
 
 -- the command was applied

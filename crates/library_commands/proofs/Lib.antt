@@ -3,6 +3,7 @@ pub use Rattle.cif_commands.proofs as CifCommands
 -- laws of the sessions that are kept
 pub use Rattle.workspace.proofs.SessionLaws
 mod ChangedCells
+mod Common
 mod EditLaws
 mod LoadLaws
 mod MarkLaws

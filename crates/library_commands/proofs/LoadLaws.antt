@@ -1,23 +1,10 @@
 -- What `load` does in each case.
-use Rattle.std.proofs.Common.{◌≡◌, ◌∙◌, ℕ, suc, List, [], ◌∷◌, length, Option, Some, inl, inr, refl, sym, subst}
-use Rattle.outside_io.specs.Files.{Files}
-use Rattle.session_model.specs.declared.answer.Answer.{Answer}
-use Rattle.session_model.specs.Effects.{AnswersFetching, Effect}
-use Rattle.ext_model.specs.declared.tables.CellKey.{CellKey}
-use Rattle.cell_library.specs.Libraries.{LibraryParts, IsSame, seen, edits_of}
-use Rattle.uniqueness.specs.CellLoading.declared.faults.LoadFault.{LoadFault}
+use Rattle.library_commands.proofs.Common.{◌≡◌, ◌∙◌, ℕ, suc, List, [], ◌∷◌, length, Option, Some, inl, inr, refl, sym, subst, Files, Answer}
+use Rattle.library_commands.proofs.Common.{AnswersFetching, Effect, CellKey, LibraryParts, IsSame, seen, edits_of, LoadFault, count_seen, Inverses}
+use Rattle.library_commands.proofs.Common.{no_inverses, kept_versions, Records, is_dirty, load_refusal, loaded_text, LoadMeans, with_loaded}
+use Rattle.library_commands.proofs.Common.{refusal_line, refused, reply, State, Workspace, answers_refusal, same_workspace, workspace_of}
 use Rattle.uniqueness.specs.CellLoading.Loads.{IsLoaded, LoadIsRefused}
-use Rattle.cell_library.proofs.ViewLaws.{count_seen}
-use Rattle.look_commands.specs.UndoLog.Inverses.{Inverses, no_inverses, kept_versions}
-use Rattle.workspace.specs.Caches.{Records, is_dirty}
-use Rattle.workspace.specs.LibraryAnswers.Refusals.{load_refusal}
-use Rattle.workspace.specs.LibraryAnswers.Replies.{loaded_text}
-use Rattle.library_commands.specs.CommandLoad.{LoadMeans, with_loaded}
-use Rattle.line_answers.specs.Refusals.{refusal_line}
-use Rattle.line_answers.specs.LineEffects.{refused, reply}
-use Rattle.workspace.specs.States.{State, Workspace}
-use Rattle.line_answers.proofs.AnswerLaws.{answers_refusal, answers_with}
-use Rattle.workspace.proofs.WorkspaceLaws.{same_workspace, workspace_of}
+use Rattle.line_answers.proofs.AnswerLaws.{answers_with}
 
 -- the load is refused, and nothing changed
 pub load_refused : (number : ℕ) (old new : LibraryParts) (current : Option CellKey) (records : Records) (log : Inverses) (files : Files) (cell : List ℕ)

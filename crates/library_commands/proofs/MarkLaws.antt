@@ -1,21 +1,13 @@
 -- Which cells are dirty after a command that edits.
-use Rattle.std.proofs.Common.{◌≡◌, ◌∙◌, suc, length, Option, Some, None, arith}
-use Rattle.std.specs.Prelude.{IfSome}
-use Rattle.ext_model.specs.declared.tables.CellKey.{CellKey}
-use Rattle.cell_library.specs.Libraries.{LibraryParts, IsLawfulLibrary, IsSame, seen}
-use Rattle.cell_library.specs.Views.{CellView, LibraryView, view_at, with_cell_changed}
-use Rattle.cell_library.proofs.ViewLaws.{length-changed_at}
-use Rattle.script_lines.specs.declared.commands.Command.{Command}
+use Rattle.library_commands.proofs.Common.{◌≡◌, ◌∙◌, suc, length, Option, Some, None, arith, IfSome, CellKey, LibraryParts, IsLawfulLibrary, IsSame}
+use Rattle.library_commands.proofs.Common.{seen, CellView, LibraryView, view_at, with_cell_changed, length-changed_at, Command, editing_of, applied}
+use Rattle.library_commands.proofs.Common.{Agrees, Records, is_dirty, agrees_same, MarksAfter, MarksCurrent}
 use Rattle.script_lines.specs.declared.commands.Command.TheVariants as command
-use Rattle.uniqueness.specs.EditScript.Editing.{editing_of}
-use Rattle.uniqueness.specs.EditScript.Edits.{applied}
 use Rattle.uniqueness.specs.EditScript.Stamps.{IsCurrentEdit, IsStamped}
 use Rattle.uniqueness.proofs.EditScript.KeptCells.{cells_kept}
-use Rattle.workspace.specs.Caches.{Agrees, Records, is_dirty}
 use Rattle.workspace.proofs.ArrivalLaws.{agrees_cell, dirty_cell}
 use Rattle.workspace.proofs.EditLaws.{agrees_edit, dirty_edit, dirty_unedited}
-use Rattle.workspace.proofs.RecordLaws.{agrees_same, dirty_same}
-use Rattle.library_commands.specs.CommandEdits.{MarksAfter, MarksCurrent}
+use Rattle.workspace.proofs.RecordLaws.{dirty_same}
 use Rattle.library_commands.proofs.ChangedCells.{ChangesCell, ChangesCells, ChangesCurrent, cells_changed}
 
 -- what an edit of the current cell leaves of records and marks

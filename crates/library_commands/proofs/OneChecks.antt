@@ -1,16 +1,9 @@
 -- A check by design rules has one effect, and rests on the file alone that it fetches.
-use Rattle.std.proofs.Common.{◌≡◌, ◌∙◌, ℕ, List, [], Option, Some, None, ap, sym}
-use Rattle.std.specs.Prelude.{MatchOption}
-use Rattle.outside_io.specs.Files.{Files}
-use Rattle.session_model.specs.Effects.{Effect}
-use Rattle.session_model.specs.Fetches.{AgreeOn}
-use Rattle.cell_library.specs.Views.{cell_named}
-use Rattle.line_answers.specs.LineEffects.{FreeEffect, refused}
-use Rattle.line_answers.specs.Refusals.{no_cell}
+use Rattle.library_commands.proofs.Common.{◌≡◌, ◌∙◌, ℕ, List, [], Option, Some, None, ap, sym, MatchOption, Files, Effect, AgreeOn, cell_named}
+use Rattle.library_commands.proofs.Common.{refused, no_cell, State, Workspace, CheckMeans, ChecksIn}
+use Rattle.line_answers.specs.LineEffects.{FreeEffect}
 use Rattle.drc_commands.proofs.RestLaws.{drc_rests}
 use Rattle.drc_commands.specs.OneEffect.{DrcMeansOneEffect}
-use Rattle.workspace.specs.States.{State, Workspace}
-use Rattle.library_commands.specs.CommandChecks.{CheckMeans, ChecksIn}
 use Rattle.library_commands.specs.OneEffects.{CheckMeansOneEffect}
 
 -- an effect without its state

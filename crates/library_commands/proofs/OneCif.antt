@@ -1,16 +1,9 @@
 -- A cell that is written as a CIF text is written in one way.
-use Rattle.std.proofs.Common.{◌≡◌, ◌∙◌, ◌<◌, ℕ, List, [], Option, Some, None, length, refl, ap, sym, subst, arith}
-use Rattle.std.specs.Prelude.{MatchOption}
-use Rattle.session_model.specs.Effects.{Effect}
-use Rattle.cell_library.specs.Libraries.{IsLawfulLibrary, LibraryParts, seen}
-use Rattle.cell_library.specs.Views.{LibraryView, cell_named}
-use Rattle.cell_library.proofs.ViewLaws.{count_seen}
-use Rattle.uniqueness.proofs.EditScript.CellLaws.{named_below}
-use Rattle.line_answers.specs.LineEffects.{refused}
-use Rattle.line_answers.specs.Refusals.{no_cell}
+use Rattle.library_commands.proofs.Common.{◌≡◌, ◌∙◌, ◌<◌, ℕ, List, [], Option, Some, None, length, refl, ap, sym, subst, arith, MatchOption, Effect}
+use Rattle.library_commands.proofs.Common.{IsLawfulLibrary, LibraryParts, seen, LibraryView, cell_named, count_seen, named_below, refused, no_cell}
+use Rattle.library_commands.proofs.Common.{State, Workspace}
 use Rattle.cif_commands.specs.CommandCif.{CifMeans}
 use Rattle.cif_commands.specs.OneEffects.{CifMeansOneEffect}
-use Rattle.workspace.specs.States.{State, Workspace}
 use Rattle.library_commands.specs.CommandCif.{WritesIn}
 use Rattle.library_commands.specs.OneEffects.{WriteMeansOneEffect}
 use Rattle.library_commands.proofs.OneChecks.{free_of, with_state}

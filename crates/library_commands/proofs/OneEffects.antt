@@ -1,35 +1,18 @@
 -- Each command on a library has one effect.
-use Rattle.std.proofs.Common.{◌≡◌, ◌<◌, inl, inr, ℕ, List, [], ◌∷◌, length, ap, sym, ◌∙◌, subst, refl}
-use Rattle.std.specs.Prelude.{None, Some, Option, Bool, IsSome, MatchOption, codes}
-use Rattle.outside_io.specs.Files.{Files}
-use Rattle.session_model.specs.declared.answer.Store.{Store}
-use Rattle.session_model.specs.declared.report.ReportLine.{ReportLine}
-use Rattle.session_model.specs.Effects.{Effect}
-use Rattle.line_answers.specs.LineEffects.{accepted, refused, reply}
-use Rattle.line_answers.specs.Refusals.{no_cell}
-use Rattle.cell_library.specs.Additions.{children_in}
-use Rattle.cell_library.specs.Libraries.{IsLawfulLibrary, LibraryParts, seen}
-use Rattle.cell_library.specs.Views.{LibraryView, cell_named}
-use Rattle.script_lines.specs.declared.commands.Command.{Command}
-use Rattle.uniqueness.specs.EditScript.declared.faults.EditFault.{EditFault}
-use Rattle.uniqueness.specs.EditScript.Edits.{applied}
-use Rattle.uniqueness.proofs.EditScript.CellLaws.{named_below}
-use Rattle.look_commands.specs.UndoLog.declared.faults.UndoFault.{UndoFault}
-use Rattle.look_commands.specs.UndoLog.Versions.{Return, versions_after}
-use Rattle.workspace.specs.LibraryAnswers.Refusals.{edit_refusal, load_refusal, undo_refusal}
-use Rattle.workspace.specs.LibraryAnswers.Replies.{loaded_text}
+use Rattle.library_commands.proofs.Common.{◌≡◌, ◌<◌, inl, inr, ℕ, List, [], ◌∷◌, length, ap, sym, ◌∙◌, subst, refl, MatchOption, codes, Files, Store}
+use Rattle.library_commands.proofs.Common.{ReportLine, Effect, refused, reply, no_cell, children_in, IsLawfulLibrary, LibraryParts, seen}
+use Rattle.library_commands.proofs.Common.{LibraryView, cell_named, Command, EditFault, applied, named_below, UndoFault, Return, versions_after}
+use Rattle.library_commands.proofs.Common.{edit_refusal, load_refusal, loaded_text, UncleanCellsBelowAreUnique, LoadFault, Look, Tells, State}
+use Rattle.library_commands.proofs.Common.{Workspace, Way, MarksAbove, with_loaded, IsBrought, ReturnIsRefused}
+use Rattle.std.specs.Prelude.{None, Some, Option, Bool, IsSome}
+use Rattle.line_answers.specs.LineEffects.{accepted}
+use Rattle.workspace.specs.LibraryAnswers.Refusals.{undo_refusal}
 use Rattle.uniqueness.proofs.CommandFaults.{one_refusal}
-use Rattle.uniqueness.specs.UncleanCells.{UncleanCellsBelowAreUnique}
-use Rattle.uniqueness.specs.CellLoading.declared.faults.LoadFault.{LoadFault}
 use Rattle.uniqueness.proofs.OneLoad.{not_both, same_load, same_refusal}
-use Rattle.look_commands.specs.declared.looks.Look.{Look}
-use Rattle.look_commands.specs.Looks.{Tells}
-use Rattle.workspace.specs.States.{State, Workspace}
-use Rattle.library_commands.specs.declared.command_returns.Way.{Way}
-use Rattle.library_commands.specs.CommandEdits.{Applies, MarksAbove, RefusesEdit}
-use Rattle.library_commands.specs.CommandLoad.{Loads, RefusesLoad, with_loaded}
+use Rattle.library_commands.specs.CommandEdits.{Applies, RefusesEdit}
+use Rattle.library_commands.specs.CommandLoad.{Loads, RefusesLoad}
 use Rattle.library_commands.specs.CommandLooks.{LooksAt}
-use Rattle.library_commands.specs.CommandReturns.{IsBrought, ReturnIsRefused, brought_back, return_by}
+use Rattle.library_commands.specs.CommandReturns.{brought_back, return_by}
 use Rattle.library_commands.specs.OneEffects.{EditMeansOneEffect, LoadMeansOneEffect, LookMeansOneEffect, ReturnMeansOneEffect, TechMeansOneEffect}
 use Rattle.library_commands.proofs.OneLook.{same_look}
 use Rattle.library_commands.proofs.OneMarks.{same_above, same_marks}

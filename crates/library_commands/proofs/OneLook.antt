@@ -1,23 +1,17 @@
 -- One thing is told of a cell of a lawful library.
-use Rattle.std.proofs.Common.{◌≡◌, ◌<◌, inl, inr, ℕ, List, [], ◌∷◌, length, map, ap, sym, ◌∙◌, arith}
+use Rattle.library_commands.proofs.Common.{◌≡◌, ◌<◌, inl, inr, ℕ, List, [], ◌∷◌, length, ap, sym, ◌∙◌, arith, Store, ReportLine, IsLawfulLibrary}
+use Rattle.library_commands.proofs.Common.{LibraryParts, seen, LibraryView, view_at, count_seen, UncleanCellsBelowAreUnique, Look, Tells}
+use Rattle.std.proofs.Common.{map}
 use Rattle.geo_core.specs.declared.squares.Rect.{Rect}
-use Rattle.session_model.specs.declared.answer.Store.{Store}
-use Rattle.session_model.specs.declared.report.ReportLine.{ReportLine}
-use Rattle.cell_library.specs.Libraries.{IsLawfulLibrary, LibraryParts, seen}
-use Rattle.cell_library.specs.Views.{LibraryView, view_at}
-use Rattle.cell_library.proofs.ViewLaws.{count_seen}
 use Rattle.uniqueness.proofs.CleanBelow.{none_unclean}
 use Rattle.uniqueness.proofs.LawfulUses.{uses_lead_to_cells}
 use Rattle.uniqueness.proofs.OneText.{one_text}
-use Rattle.uniqueness.specs.UncleanCells.{UncleanCellsBelowAreUnique}
 use Rattle.workspace.specs.Offending.{offending_line}
 use Rattle.uniqueness.proofs.SameNodes.{node_records_are_one}
-use Rattle.look_commands.specs.declared.looks.Look.{Look}
 use Rattle.look_commands.specs.declared.looks.Look.TheVariants.{Nodes, Save, Squares}
 use Rattle.look_commands.specs.CommandNodes.{TellsNodes, node_lines}
 use Rattle.look_commands.specs.CommandSave.{SavesCell, cell_store}
 use Rattle.look_commands.specs.CommandSquares.{TellsSquares}
-use Rattle.look_commands.specs.Looks.{Tells}
 
 -- the nodes
 same_nodes : (library : LibraryView) (cell : ℕ) (lines more : List ReportLine) → TellsNodes library cell lines → TellsNodes library cell more → lines ≡ more

@@ -1,13 +1,11 @@
 -- Which cells are dirty after an edit is one.
-use Rattle.std.proofs.Common.{◌≡◌, ℕ, List, refl, sym, ◌∙◌, true≢false}
+use Rattle.library_commands.proofs.Common.{◌≡◌, ℕ, List, refl, sym, ◌∙◌, MatchOption, children_in, Command, Editing, MarksAbove, MarksAfter}
+use Rattle.library_commands.proofs.Common.{MarksCurrent}
+use Rattle.std.proofs.Common.{true≢false}
 use Rattle.std.proofs.Math.Path.{fun_ext}
-use Rattle.std.specs.Prelude.{Bool, true, false, None, Some, Option, MatchOption}
+use Rattle.std.specs.Prelude.{Bool, true, false, None, Some, Option}
 use Rattle.use_orders.specs.Uses.{IsAtOrBelow}
-use Rattle.cell_library.specs.Additions.{children_in}
-use Rattle.script_lines.specs.declared.commands.Command.{Command}
 use Rattle.script_lines.specs.declared.commands.Command.TheVariants as command
-use Rattle.uniqueness.specs.EditScript.Editing.{Editing}
-use Rattle.library_commands.specs.CommandEdits.{MarksAbove, MarksAfter, MarksCurrent}
 
 -- Booleans of which neither is true alone are one
 same_bool : (b c : Bool) → (b ≡ true → c ≡ false → ⊥) → (b ≡ false → c ≡ true → ⊥) → b ≡ c

@@ -1,18 +1,10 @@
 -- What `tech` and `load` do rests on the files alone that they fetch.
-use Rattle.std.proofs.Common.{◌≡◌, ◌∙◌, ℕ, List, [], ◌∷◌, Some, None, inl, inr, refl, sym, ap, subst, arith}
+use Rattle.library_commands.proofs.Common.{◌≡◌, ◌∙◌, ℕ, List, [], ◌∷◌, Some, None, inl, inr, refl, sym, ap, subst, arith, Files, FetchFault, Effect}
+use Rattle.library_commands.proofs.Common.{AgreeOn, text_in, RawTech, TechAt, technology_of, State, LoadMeans, TechMeans, file_effect, tech_effect}
+use Rattle.library_commands.proofs.Common.{tech_file}
 use Rattle.std.specs.Prelude.{Result, Ok, Err}
-use Rattle.outside_io.specs.Files.{Files}
-use Rattle.session_model.specs.declared.fetching.FetchFault.{FetchFault}
-use Rattle.session_model.specs.Effects.{Effect}
-use Rattle.session_model.specs.Fetches.{AgreeOn, text_in}
 use Rattle.session_model.proofs.FetchLaws.{text_same}
-use Rattle.tech_model.specs.declared.raw.RawTech.{RawTech}
-use Rattle.tech_file.specs.declared.reading.TechAt.{TechAt}
-use Rattle.tech_file.specs.Reading.{technology_of}
 use Rattle.uniqueness.proofs.CellLoading.FileLaws.{loaded_rests, refused_rests}
-use Rattle.workspace.specs.States.{State}
-use Rattle.library_commands.specs.CommandLoad.{LoadMeans}
-use Rattle.library_commands.specs.CommandTech.{TechMeans, file_effect, tech_effect, tech_file}
 
 -- whatever a technology's text says, its file was fetched
 tech_fetched : (number : ℕ) (file : List ℕ) (read : Result RawTech TechAt) → (tech_effect number file read).fetched ≡ file ∷ []

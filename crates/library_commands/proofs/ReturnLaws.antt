@@ -1,29 +1,19 @@
 -- What `undo` and `redo` do to what a session keeps.
-use Rattle.std.proofs.Common.{◌≡◌, ◌≢◌, ◌⊎◌, ◌<◌, ◌∙◌, ℕ, length, List, [], ◌∷◌, Err, inl, inr, sym, ap, subst, refl}
-use Rattle.std.specs.Prelude.{◌↔◌, IfErr, IfSome, IsErrOf, IsSome, OnErr, OnOk, Option, None, Result, Some, Ok}
-use Rattle.ext_model.specs.declared.tables.CellKey.{CellKey}
+use Rattle.library_commands.proofs.Common.{◌≡◌, ◌⊎◌, ◌<◌, ◌∙◌, ℕ, length, List, [], ◌∷◌, Err, inl, inr, sym, ap, subst, refl, IfSome, CellKey}
+use Rattle.library_commands.proofs.Common.{children_in, LibraryParts, IsLawfulLibrary, IsSame, edits_of, seen, CellView, LibraryView, view_at}
+use Rattle.library_commands.proofs.Common.{with_cell_changed, count_seen, length-changed_at, UndoFault, Inverses, Keeps, kept_versions, Return}
+use Rattle.library_commands.proofs.Common.{Versions, versions_unique, Agrees, Records, is_dirty, Workspace, same_current, workspace_of, Way, Redo}
+use Rattle.library_commands.proofs.Common.{Undo, MarksAbove, IsBrought, ReturnIsRefused, agrees_same, KeepsSome, log_same}
+use Rattle.std.proofs.Common.{◌≢◌}
+use Rattle.std.specs.Prelude.{◌↔◌, IfErr, IsErrOf, IsSome, OnErr, OnOk, Option, None, Result, Some, Ok}
 use Rattle.cell_library.specs.declared.limits.TheConstants.{MOST_EDITS}
-use Rattle.cell_library.specs.Additions.{children_in}
-use Rattle.cell_library.specs.Libraries.{LibraryParts, IsLawfulLibrary, IsSame, edits_of, seen}
-use Rattle.cell_library.specs.Views.{CellView, LibraryView, view_at, with_cell_changed}
-use Rattle.cell_library.proofs.ViewLaws.{count_seen, length-changed_at}
 use Rattle.uniqueness.specs.EditScript.Editing.{IsCurrent}
 use Rattle.look_commands.specs.UndoLog.declared.changes.Inverse.{Inverse}
-use Rattle.look_commands.specs.UndoLog.declared.faults.UndoFault.{UndoFault}
 use Rattle.look_commands.specs.UndoLog.declared.faults.UndoFault.TheVariants as undo
-use Rattle.look_commands.specs.UndoLog.Inverses.{Inverses, IsReturned, Keeps, LeadTo, kept_versions, led_to}
-use Rattle.look_commands.specs.UndoLog.Versions.{Return, Version, Versions, returned}
-use Rattle.look_commands.proofs.UndoLog.LeadLaws.{versions_unique}
-use Rattle.workspace.specs.Caches.{Agrees, Records, is_dirty}
-use Rattle.workspace.specs.States.{Workspace}
-use Rattle.workspace.proofs.WorkspaceLaws.{same_current, workspace_of}
-use Rattle.library_commands.specs.declared.command_returns.Way.{Way}
-use Rattle.library_commands.specs.declared.command_returns.Way.TheVariants.{Redo, Undo}
-use Rattle.library_commands.specs.CommandEdits.{MarksAbove}
-use Rattle.library_commands.specs.CommandReturns.{IsBrought, ReturnIsRefused, nothing_left, return_by, versions_by}
+use Rattle.look_commands.specs.UndoLog.Inverses.{IsReturned, LeadTo, led_to}
+use Rattle.look_commands.specs.UndoLog.Versions.{Version, returned}
+use Rattle.library_commands.specs.CommandReturns.{nothing_left, return_by, versions_by}
 use Rattle.library_commands.proofs.MarkLaws.{current_edited}
-use Rattle.workspace.proofs.RecordLaws.{agrees_same}
-use Rattle.workspace.proofs.VersionLaws.{KeepsSome, log_same}
 
 -- ---- an edit that is left
 

@@ -1,30 +1,17 @@
 -- What `tech` does in each case.
-use Rattle.std.proofs.Common.{◌≡◌, ℕ, List, [], ◌∷◌, Ok, Err, None, refl, sym, ap, subst, ◌∙◌}
-use Rattle.outside_io.specs.Files.{Files}
-use Rattle.session_model.specs.declared.answer.Answer.{Answer}
-use Rattle.session_model.specs.declared.fetching.FetchFault.{FetchFault}
-use Rattle.session_model.specs.Effects.{AnswersFetching, Effect}
-use Rattle.session_model.specs.Fetches.{text_in}
-use Rattle.tech_file.specs.Reading.{technology_of}
+use Rattle.library_commands.proofs.Common.{◌≡◌, ℕ, List, [], ◌∷◌, Ok, Err, None, refl, sym, ap, subst, ◌∙◌, Files, Answer, FetchFault}
+use Rattle.library_commands.proofs.Common.{AnswersFetching, Effect, text_in, technology_of, refusal_line, state_of, RawTech, TechAt, LibraryParts}
+use Rattle.library_commands.proofs.Common.{Inverses, no_inverses, Records, tech_text, TechMeans, file_effect, tech_effect, tech_file, refused, reply}
+use Rattle.library_commands.proofs.Common.{State, answers_refusal, workspace_of}
 use Rattle.workspace.specs.declared.cells.LayoutSession.{LayoutSession}
-use Rattle.line_answers.specs.Refusals.{file_refusal, refusal_line}
-use Rattle.workspace.specs.KeptSessions.{state_of}
+use Rattle.line_answers.specs.Refusals.{file_refusal}
 use Rattle.std.specs.Prelude.{Result, Some}
-use Rattle.tech_model.specs.declared.raw.RawTech.{RawTech}
-use Rattle.tech_file.specs.declared.reading.TechAt.{TechAt}
 use Rattle.cell_tree.specs.Trees.{empty_tree}
-use Rattle.cell_library.specs.Libraries.{LibraryParts}
-use Rattle.look_commands.specs.UndoLog.Inverses.{Inverses, no_inverses}
-use Rattle.workspace.specs.Caches.{Records, no_records}
+use Rattle.workspace.specs.Caches.{no_records}
 use Rattle.workspace.proofs.RecordLaws.{dirty_none}
 use Rattle.workspace.specs.LibraryAnswers.Refusals.{tech_refusal}
-use Rattle.workspace.specs.LibraryAnswers.Replies.{tech_text}
-use Rattle.library_commands.specs.CommandTech.{TechMeans, file_effect, tech_effect, tech_file}
-use Rattle.line_answers.specs.LineEffects.{refused, reply}
-use Rattle.workspace.specs.States.{State, begun_with}
-use Rattle.line_answers.proofs.AnswerLaws.{answers_refusal}
+use Rattle.workspace.specs.States.{begun_with}
 use Rattle.workspace.proofs.SessionLaws.{state_of_nothing}
-use Rattle.workspace.proofs.WorkspaceLaws.{workspace_of}
 
 -- the effect of a file's text is meant where there is no technology
 meant_at_first : (number : ℕ) (session : LayoutSession) (files : Files) (name : List ℕ) (effect : Effect State) → session.edited ≡ None

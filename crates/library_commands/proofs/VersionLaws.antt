@@ -1,14 +1,7 @@
 -- The versions that the log of a session keeps after a command that edits.
-use Rattle.std.proofs.Common.{◌≡◌, ◌∙◌, sym, ap}
+use Rattle.library_commands.proofs.Common.{◌≡◌, ◌∙◌, sym, ap, CellKey, LibraryParts, seen, Command, editing_of, Inverses, Keeps, kept_versions}
+use Rattle.library_commands.proofs.Common.{Versions, versions_after, versions_unique, KeepsSome}
 use Rattle.std.specs.Prelude.{Option}
-use Rattle.ext_model.specs.declared.tables.CellKey.{CellKey}
-use Rattle.cell_library.specs.Libraries.{LibraryParts, seen}
-use Rattle.script_lines.specs.declared.commands.Command.{Command}
-use Rattle.uniqueness.specs.EditScript.Editing.{editing_of}
-use Rattle.look_commands.specs.UndoLog.Inverses.{Inverses, Keeps, kept_versions}
-use Rattle.look_commands.specs.UndoLog.Versions.{Versions, versions_after}
-use Rattle.look_commands.proofs.UndoLog.LeadLaws.{versions_unique}
-use Rattle.workspace.proofs.VersionLaws.{KeepsSome}
 
 -- after a command that edits it keeps those that the command leaves
 pub log_applied : (old new : LibraryParts) (current : Option CellKey) (log later : Inverses) (command : Command) → KeepsSome (seen old) log

@@ -1,12 +1,9 @@
 -- Views that show the same of a cell and of each below it.
-use Rattle.std.proofs.Common.{◌≡◌, ℕ, zero, suc, ap, ◌∙◌}
-use Rattle.finite_sets.specs.Chain.Chain.{stay, go}
-use Rattle.cell_library.specs.CellTree.declared.limits.TheConstants.{MOST_DEPTH}
-use Rattle.cell_library.specs.Views.{CellView, LibraryView, view_at}
-use Rattle.tree_names.specs.TreeRecords.NamedTrees.NamedTree.{named_tree}
+use Rattle.library_trees.proofs.Common.{◌≡◌, ℕ, zero, suc, ap, ◌∙◌, stay, go, MOST_DEPTH, CellView, LibraryView, view_at, named_tree, IsAtOrBelow}
+use Rattle.library_trees.proofs.Common.{named_elements_from, named_tree_to}
 use Rattle.tree_names.specs.TreeRecords.NamedTrees.NamedElements.{no_more}
 use Rattle.library_trees.specs.Laws.{NamedTreesAreOfTheCellsBelow}
-use Rattle.library_trees.specs.NamedCells.{IsAtOrBelow, body_of, named_elements_from, named_tree_at, named_tree_to, own_body_of}
+use Rattle.library_trees.specs.NamedCells.{body_of, named_tree_at, own_body_of}
 use Rattle.library_trees.proofs.WholeTrees.{named_elements_same}
 
 -- The two show the same of the cell and of each below it.

@@ -1,10 +1,8 @@
 -- The named trees of clean cells.
-use Rattle.std.proofs.Common.{sym, subst, ℕ}
-use Rattle.cell_library.specs.LayoutModel.CellTrees.{CellTree}
+use Rattle.library_trees.proofs.Common.{sym, subst, ℕ, CellTree, LibraryParts, IsLawfulLibrary, seen}
 use Rattle.cell_library.specs.LayoutModel.FlatSets.{IsTyped}
 use Rattle.tree_names.specs.HierarchyModel.CleanCells.{IsClean}
 use Rattle.cell_library.specs.LayoutTrees.{tree_at}
-use Rattle.cell_library.specs.Libraries.{LibraryParts, IsLawfulLibrary, seen}
 use Rattle.library_trees.specs.Laws.{CleanCellHasCleanTree}
 use Rattle.library_trees.proofs.LayoutLaws.{layouts_of_cell}
 use Rattle.library_trees.proofs.TreeNameLaws.{element_names}

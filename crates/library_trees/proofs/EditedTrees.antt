@@ -1,18 +1,14 @@
 -- Named trees that an edit keeps.
-use Rattle.std.proofs.Common.{◌≡◌, ◌<◌, ℕ, zero, suc, List, [], ◌∷◌, ◌++◌, length, refl, sym, ap, subst, arith}
-use Rattle.std.specs.Prelude.{Option, Some, None, slice_index_or}
+use Rattle.library_trees.proofs.Common.{◌≡◌, ◌<◌, ℕ, zero, suc, List, [], ◌∷◌, ◌++◌, length, refl, sym, ap, subst, arith, Option, Some, None}
+use Rattle.library_trees.proofs.Common.{Transform, HasChild, LibraryParts, IsLawfulLibrary, cells_seen, seen, uses_in, CellView, LibraryView}
+use Rattle.library_trees.proofs.Common.{no_cell, view_at, with_cell_changed, children_are_cells, length-cell_views, IsAtOrBelow}
+use Rattle.std.specs.Prelude.{slice_index_or}
 use Rattle.std.specs.Option.{option_map_or}
 use Rattle.std.proofs.lemmas.List.{get_or_append_left}
 use Rattle.finite_sets.proofs.Chains.{Chain-carries}
-use Rattle.ext_model.specs.GeoCore.declared.transforms.Transform.{Transform}
-use Rattle.cell_library.specs.CellTree.Uses.{HasChild}
 use Rattle.cell_library.specs.Edits.{empty_cell, single_use, transform_of, with_new_cell}
-use Rattle.cell_library.specs.Libraries.{LibraryParts, IsLawfulLibrary, cells_seen, seen, uses_in}
-use Rattle.cell_library.specs.Views.{CellView, LibraryView, changed_at, no_cell, view_at, with_cell_changed}
-use Rattle.cell_library.proofs.LayoutTreeLaws.{children_are_cells}
-use Rattle.cell_library.proofs.ViewLaws.{length-cell_views}
+use Rattle.cell_library.specs.Views.{changed_at}
 use Rattle.library_trees.specs.Laws.{EditsKeepOtherTrees, HaveOneTree, NewCellsKeepTrees}
-use Rattle.library_trees.specs.NamedCells.{IsAtOrBelow}
 use Rattle.library_trees.proofs.AgreeingViews.{agreeing_views}
 
 -- ---- a change of one cell

@@ -1,20 +1,17 @@
 -- The names of the elements of a use: they have no slash, tell the use's id, and differ.
-use Rattle.std.proofs.Common.{◌≡◌, ℕ, ℤ, pos, true, List, [], ◌∷◌, map, inl, inr, refl, sym, ap, subst, ◌∙◌}
-use Rattle.std.specs.Prelude.{Option, Some, None, int_le}
-use Rattle.std.specs.List.{AllByRecursion}
-use Rattle.finite_sets.specs.Lists.{Distinct, In}
+use Rattle.library_trees.proofs.Common.{◌≡◌, ℕ, ℤ, true, List, [], ◌∷◌, map, inl, inr, refl, sym, ap, subst, ◌∙◌, Option, Some, None, AllByRecursion}
+use Rattle.library_trees.proofs.Common.{Distinct, In, In-map_source, Grid, UseElement, array_element, use_elements}
+use Rattle.std.proofs.Common.{pos}
+use Rattle.std.specs.Prelude.{int_le}
 use Rattle.finite_sets.specs.Range.{integer_range, pairs_of, IsBetween}
 use Rattle.finite_sets.proofs.Distincts.{Distinct-map}
-use Rattle.finite_sets.proofs.Members.{In-map_source}
 use Rattle.finite_sets.proofs.Ranges.{Lists-integer_range, Lists-pairs_of}
-use Rattle.ext_model.specs.GeoCore.declared.grids.Grid.{Grid}
 use Rattle.ext_model.specs.GeoCore.Elements.{element_of, elements_of, indices, nth_index}
 use Rattle.ext_model.proofs.GeoCore.ElementLaws.{nth_either}
 use Rattle.ext_model.specs.NodeNames.{slashes_in}
 use Rattle.ext_model.specs.ElementNames.{is_use_id, indexed_name}
 use Rattle.ext_model.proofs.TextCuts.{front_of, no_slashes}
 use Rattle.ext_model.proofs.IndexedNames.{id_of_indexed, id_of_whole, id_whole, indexed_told, indexed_whole}
-use Rattle.library_trees.specs.ElementNames.{UseElement, array_element, use_elements}
 
 -- the names of elements
 abbrev pub names_in : List UseElement → List (List ℕ)

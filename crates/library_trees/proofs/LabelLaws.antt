@@ -1,5 +1,7 @@
 -- Labels of a lawful library.
-use Rattle.std.proofs.Common.{◌≡◌, ◌<◌, ℕ, ℤ, true, length, Some, None, Option, sym, subst, arith}
+use Rattle.library_trees.proofs.Common.{◌≡◌, ◌<◌, ℕ, ℤ, true, length, sym, subst, arith, RawTech, LibraryParts, IsLawfulLibrary, seen, uses_in}
+use Rattle.library_trees.proofs.Common.{CellView, view_at}
+use Rattle.std.proofs.Common.{Some, None, Option}
 use Rattle.std.specs.Prelude.{All, IfSome}
 use Rattle.std.proofs.lemmas.Bool.Decides.{nat_tests}
 use Rattle.std.proofs.lemmas.Int.{ints}
@@ -7,13 +9,10 @@ use Rattle.ext_model.specs.GeoCore.declared.squares.Rect.{Rect}
 use Rattle.ext_model.specs.GeoCore.Areas.{IsNear, IsSmall}
 use Rattle.cell_library.specs.TechModel.declared.raw.Label.{Label}
 use Rattle.cell_library.specs.TechModel.declared.raw.LayerId.{LayerId}
-use Rattle.cell_library.specs.TechModel.declared.raw.RawTech.{RawTech}
 use Rattle.tree_names.specs.Names.Labels.{IsLabelOf, IsLayerOf}
 use Rattle.cell_library.specs.CellPaint.Painting.{is_coordinate, is_in_range}
 use Rattle.cell_library.specs.CellBodies.Bodies.{IsLabel}
 use Rattle.cell_library.specs.CellBodies.Numbers.{is_label_area}
-use Rattle.cell_library.specs.Libraries.{LibraryParts, IsLawfulLibrary, seen, uses_in}
-use Rattle.cell_library.specs.Views.{CellView, view_at}
 use Rattle.cell_library.proofs.PaintEdits.{held_lawful}
 use Rattle.cell_library.proofs.ViewLaws.{cell_viewed}
 

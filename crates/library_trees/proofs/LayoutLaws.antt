@@ -1,21 +1,15 @@
 -- Named trees without their names and labels.
-use Rattle.std.proofs.Common.{◌≡◌, ℕ, zero, suc, ℤ, List, [], ◌∷◌, map, refl, ap, ◌∙◌}
-use Rattle.std.specs.Prelude.{Option, Some, None}
+use Rattle.library_trees.proofs.Common.{◌≡◌, ℕ, zero, suc, ℤ, List, [], ◌∷◌, map, refl, ap, ◌∙◌, Option, Some, None, Grid, Transform, CellTree}
+use Rattle.library_trees.proofs.Common.{MOST_DEPTH, UseBody, LibraryView, view_at, NamedTree, NamedElements, UseElement, array_element, use_elements}
+use Rattle.library_trees.proofs.Common.{named_elements_at, named_elements_from, named_tree_to}
 use Rattle.std.proofs.lemmas.Simd.{map-map}
-use Rattle.ext_model.specs.GeoCore.declared.grids.Grid.{Grid}
-use Rattle.ext_model.specs.GeoCore.declared.transforms.Transform.{Transform}
 use Rattle.ext_model.specs.GeoCore.Elements.{elements_of}
-use Rattle.cell_library.specs.LayoutModel.CellTrees.{CellTree}
 use Rattle.cell_library.specs.LayoutModel.CellTrees.CellTree.{cell_tree}
 use Rattle.cell_library.specs.LayoutModel.CellTrees.Elements.{element_and}
-use Rattle.cell_library.specs.CellTree.declared.limits.TheConstants.{MOST_DEPTH}
-use Rattle.cell_library.specs.CellTree.declared.use_tables.UseBody.{UseBody}
 use Rattle.cell_library.specs.CellTree.Uses.{displacements}
 use Rattle.cell_library.specs.LayoutTrees.{element_transform, elements_at, elements_from, own_cell, tree_at, tree_to}
-use Rattle.cell_library.specs.Views.{LibraryView, view_at}
-use Rattle.tree_names.specs.TreeRecords.NamedTrees.{NamedTree, NamedElements, layouts_below, layouts_of}
-use Rattle.library_trees.specs.ElementNames.{UseElement, array_element, use_elements}
-use Rattle.library_trees.specs.NamedCells.{named_elements_at, named_elements_from, named_tree_at, named_tree_to}
+use Rattle.tree_names.specs.TreeRecords.NamedTrees.{layouts_below, layouts_of}
+use Rattle.library_trees.specs.NamedCells.{named_tree_at}
 
 -- how far the elements are displaced
 abbrev steps_in : List UseElement → List (ℤ × ℤ)

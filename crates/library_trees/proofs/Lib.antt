@@ -5,6 +5,7 @@ pub use Rattle.tree_names.proofs.Measures as Measures
 pub use Rattle.tree_names.proofs.NameClasses as NameClasses
 pub use Rattle.tree_names.proofs.OwnRecordLaws as OwnRecordLaws
 pub use Rattle.tree_names.proofs as TreeNames
+mod Common
 mod NamedRecords
 mod RecordedTrees
 pub mod LayoutLaws

@@ -1,15 +1,13 @@
 -- Lists of records that are kept, and what is found in them by the names of cells.
-use Rattle.std.proofs.Common.{◌≡◌, ◌<◌, ℕ, zero, suc, true, false, if◌then◌else◌, List, [], ◌∷◌, ◌++◌, inl, inr, refl, sym}
-use Rattle.std.proofs.Common.{ap, subst, ◌∙◌, arith, true≢false}
-use Rattle.std.specs.Prelude.{Option, None, Some}
+use Rattle.library_trees.proofs.Common.{◌≡◌, ◌<◌, ℕ, zero, suc, true, List, [], ◌∷◌, ◌++◌, inl, inr, refl, sym, ap, subst, ◌∙◌, arith, Option, None}
+use Rattle.library_trees.proofs.Common.{Some, cases_lt, In, In-append_cases, CellExt, ext_of}
+use Rattle.std.proofs.Common.{false, if◌then◌else◌}
+use Rattle.std.proofs.Common.{true≢false}
 use Rattle.std.specs.Str.{bytes_eq}
-use Rattle.std.proofs.lemmas.Bool.{cases_Bool, cases_lt}
+use Rattle.std.proofs.lemmas.Bool.{cases_Bool}
 use Rattle.std.proofs.lemmas.Option.{none-some, same_Some}
 use Rattle.std.proofs.lemmas.Slice.Eq.{bytes_eq-Decides}
-use Rattle.finite_sets.specs.Lists.{In}
-use Rattle.finite_sets.proofs.Members.{In-append_cases, In-append_left, In-append_right}
-use Rattle.ext_model.specs.declared.records.CellExt.{CellExt}
-use Rattle.library_trees.specs.CircuitModel.Elements.{ext_of}
+use Rattle.finite_sets.proofs.Members.{In-append_left, In-append_right}
 
 -- the record of a cell, by its position, with each element and each merge by itself
 abbrev pub PlainRecords : Type 0

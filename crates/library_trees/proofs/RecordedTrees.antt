@@ -1,35 +1,23 @@
 -- The records of the tree of a cell, from the records that are kept of cells.
-use Rattle.std.proofs.Common.{◌≡◌, ◌<◌, ◌≤◌, ℕ, zero, suc, List, [], ◌∷◌, length, map, get_or, inl, inr, refl, sym, ap, subst, ◌∙◌, arith}
-use Rattle.std.specs.Prelude.{Option, Some, slice_get}
+use Rattle.library_trees.proofs.Common.{◌≡◌, ◌<◌, ◌≤◌, ℕ, zero, suc, List, [], ◌∷◌, length, map, inl, inr, refl, sym, ap, subst, ◌∙◌, arith, Option}
+use Rattle.library_trees.proofs.Common.{Some, slice_get, cases_lt, stay, go, In, In-map_source, Transform, RawTech, CellExt, ext_of, UseBody}
+use Rattle.library_trees.proofs.Common.{CellState, size_at, cell_at, HasChild, Size, child_is_lower, LibraryParts, IsLawfulLibrary, cells_seen, seen}
+use Rattle.library_trees.proofs.Common.{uses_in, LibraryView, no_cell, view_at, children_are_cells, uses_seen, depth_is, state_is, length-cell_views}
+use Rattle.library_trees.proofs.Common.{UseElement, use_elements, IsAtOrBelow, named_elements_at, named_elements_from}
+use Rattle.std.proofs.Common.{get_or}
 use Rattle.std.specs.Option.{option_map}
-use Rattle.std.proofs.lemmas.Bool.{cases_lt, cases_eq}
+use Rattle.std.proofs.lemmas.Bool.{cases_eq}
 use Rattle.std.proofs.lemmas.Option.{same_Some}
 use Rattle.std.proofs.lemmas.List.{get_or-map, length-map}
-use Rattle.finite_sets.specs.Chain.Chain.{stay, go}
-use Rattle.finite_sets.specs.Lists.{In}
 use Rattle.finite_sets.proofs.Distincts.{Distinct-places}
-use Rattle.finite_sets.proofs.Members.{In-map, In-map_source}
-use Rattle.ext_model.specs.GeoCore.declared.transforms.Transform.{Transform}
-use Rattle.cell_library.specs.TechModel.declared.raw.RawTech.{RawTech}
+use Rattle.finite_sets.proofs.Members.{In-map}
 use Rattle.ext_model.specs.declared.arrays.ArrayExt.{ArrayExt}
-use Rattle.ext_model.specs.declared.records.CellExt.{CellExt}
 use Rattle.ext_model.specs.Plain.{plain}
-use Rattle.library_trees.specs.CircuitModel.Elements.{ext_of}
-use Rattle.cell_library.specs.CellTree.declared.use_tables.UseBody.{UseBody}
-use Rattle.cell_library.specs.CellTree.Sizes.{CellState, size_at}
-use Rattle.cell_library.specs.CellTree.Trees.{cell_at}
-use Rattle.cell_library.specs.CellTree.Uses.{HasChild}
-use Rattle.cell_library.specs.CellTree.declared.sizes.Size.{Size}
-use Rattle.cell_library.proofs.CellTree.SizeLaws.{child_is_lower}
 use Rattle.cell_library.specs.Contents.{Held}
-use Rattle.cell_library.specs.Libraries.{LibraryParts, IsLawfulLibrary, cells_seen, seen, uses_in}
-use Rattle.cell_library.specs.Views.{LibraryView, no_cell, view_at}
-use Rattle.cell_library.proofs.LayoutTreeLaws.{children_are_cells, uses_seen, depth_is, state_is}
-use Rattle.cell_library.proofs.ViewLaws.{length-cell_views, names_seen}
+use Rattle.cell_library.proofs.ViewLaws.{names_seen}
 use Rattle.library_trees.specs.TreeRecords.NamedTrees.{NamedTree, NamedElements, named_elements_in, own_body}
 use Rattle.library_trees.specs.TreeRecords.TreeRecords.{HasTreeRecord, HasTreeRecords, HaveTreeRecords, IsTreeRecord}
-use Rattle.library_trees.specs.ElementNames.{UseElement, use_elements}
-use Rattle.library_trees.specs.NamedCells.{IsAtOrBelow, named_elements_at, named_elements_from, named_tree_at}
+use Rattle.library_trees.specs.NamedCells.{named_tree_at}
 use Rattle.library_trees.proofs.EditedTrees.{below_is_cell}
 use Rattle.library_trees.proofs.WholeTrees.{UsesWithIds, named_tree_unfolds}
 use Rattle.library_trees.specs.KeptRecords.{KeptRecords, HasKeptRecord}

@@ -1,18 +1,12 @@
 -- Named trees and the stamps of their cells: an edit raises the stamp of each cell whose tree it changes.
-use Rattle.std.proofs.Common.{◌≡◌, ℕ, List, [], length, inl, inr, sym, ap, subst, ◌∙◌, arith}
-use Rattle.std.specs.Prelude.{slice_get}
-use Rattle.std.proofs.lemmas.Bool.{cases_lt}
-use Rattle.finite_sets.specs.Chain.Chain.{stay, go}
+use Rattle.library_trees.proofs.Common.{◌≡◌, ℕ, List, [], length, inl, inr, sym, ap, subst, ◌∙◌, arith, slice_get, cases_lt, stay, go, UseBody}
+use Rattle.library_trees.proofs.Common.{cell_at, HasChild, LibraryParts, IsLawfulLibrary, seen, CellView, LibraryView, view_at, with_cell_changed}
+use Rattle.library_trees.proofs.Common.{uses_seen, state_is, IsAtOrBelow}
 use Rattle.finite_sets.proofs.Chains.{Chain-push}
-use Rattle.cell_library.specs.CellTree.declared.use_tables.UseBody.{UseBody}
 use Rattle.cell_library.specs.CellTree.Cells.{IsAbove, Uses}
-use Rattle.cell_library.specs.CellTree.Trees.{cell_at, stamp_at}
-use Rattle.cell_library.specs.CellTree.Uses.{HasChild}
-use Rattle.cell_library.specs.Libraries.{LibraryParts, IsLawfulLibrary, IsNextEdit, edits_of, seen}
-use Rattle.cell_library.specs.Views.{CellView, LibraryView, view_at, with_cell_changed}
-use Rattle.cell_library.proofs.LayoutTreeLaws.{uses_seen, state_is}
+use Rattle.cell_library.specs.CellTree.Trees.{stamp_at}
+use Rattle.cell_library.specs.Libraries.{IsNextEdit, edits_of}
 use Rattle.library_trees.specs.Laws.{StampsTellChangedTrees}
-use Rattle.library_trees.specs.NamedCells.{IsAtOrBelow}
 use Rattle.library_trees.proofs.AgreeingViews.{agreeing_views}
 use Rattle.library_trees.proofs.EditedTrees.{change_keeps_views}
 use Rattle.library_trees.proofs.WholeTrees.{no_cell_seen}

@@ -1,21 +1,13 @@
 -- How deep named trees are.
-use Rattle.std.proofs.Common.{◌≡◌, ◌<◌, ◌≤◌, max, ℕ, zero, suc, List, [], ◌∷◌, length, refl, arith}
-use Rattle.std.specs.Prelude.{Some, slice_get}
-use Rattle.ext_model.specs.GeoCore.declared.transforms.Transform.{Transform}
+use Rattle.library_trees.proofs.Common.{◌≡◌, ◌<◌, ◌≤◌, ℕ, zero, suc, List, [], ◌∷◌, length, refl, arith, Some, slice_get, Transform, MOST_DEPTH}
+use Rattle.library_trees.proofs.Common.{Depth, Size, UseBody, size_at, LibraryParts, IsLawfulLibrary, seen, view_at, children_are_cells, depth_is}
+use Rattle.library_trees.proofs.Common.{NamedTree, NamedElements, UseElement, use_elements, named_elements_at, named_elements_from, named_tree_to}
+use Rattle.std.proofs.Common.{max}
 use Rattle.tree_names.specs.CircuitModel.declared.limits.TheConstants.{LONGEST_CHAIN}
-use Rattle.cell_library.specs.CellTree.declared.limits.TheConstants.{MOST_DEPTH}
-use Rattle.cell_library.specs.CellTree.declared.sizes.Dimension.TheVariants.{Depth}
-use Rattle.cell_library.specs.CellTree.declared.sizes.Size.{Size}
-use Rattle.cell_library.specs.CellTree.declared.use_tables.UseBody.{UseBody}
-use Rattle.cell_library.specs.CellTree.Sizes.{size_at, depth_below as size_below}
-use Rattle.cell_library.specs.Libraries.{LibraryParts, IsLawfulLibrary, seen}
-use Rattle.cell_library.specs.Views.{view_at}
-use Rattle.cell_library.proofs.LayoutTreeLaws.{children_are_cells, depth_is}
-use Rattle.tree_names.specs.TreeRecords.NamedTrees.{NamedTree, NamedElements}
+use Rattle.cell_library.specs.CellTree.Sizes.{depth_below as size_below}
 use Rattle.tree_names.specs.CleanTrees.{depth_below, depth_of}
-use Rattle.library_trees.specs.ElementNames.{UseElement, use_elements}
 use Rattle.library_trees.specs.Laws.{AreChainsShort}
-use Rattle.library_trees.specs.NamedCells.{named_elements_at, named_elements_from, named_tree_at, named_tree_to}
+use Rattle.library_trees.specs.NamedCells.{named_tree_at}
 use Rattle.library_trees.proofs.WholeTrees.{UsesWithIds}
 
 -- elements of one child are as deep as it

@@ -1,29 +1,20 @@
 -- The names of the elements of the cells of a library: they have no slash, and differ.
-use Rattle.std.proofs.Common.{◌≡◌, ℕ, zero, suc, true, List, [], ◌∷◌, ◌++◌, length, map, inl, inr, refl, sym, ap, subst, arith}
+use Rattle.library_trees.proofs.Common.{◌≡◌, ℕ, zero, suc, true, List, [], ◌∷◌, ◌++◌, length, map, inl, inr, refl, sym, ap, subst, arith}
+use Rattle.library_trees.proofs.Common.{AllByRecursion, cases_lt, Distinct, In, In-append_cases, Transform, UseBody, cell_at, LibraryParts}
+use Rattle.library_trees.proofs.Common.{IsLawfulLibrary, seen, CellView, LibraryView, view_at, uses_seen, state_is, NamedTree, NamedElements}
+use Rattle.library_trees.proofs.Common.{UseElement, use_elements, named_elements_at, named_elements_from, named_tree_to, MOST_DEPTH}
 use Rattle.std.specs.Prelude.{All, IsTrue}
-use Rattle.std.specs.List.{AllByRecursion}
-use Rattle.std.proofs.lemmas.Bool.{cases_lt}
 use Rattle.std.proofs.lemmas.List.Elements.{All-tail}
-use Rattle.finite_sets.specs.Lists.{Distinct, In}
 use Rattle.finite_sets.proofs.Distincts.{Distinct-append}
-use Rattle.finite_sets.proofs.Members.{In-append_cases}
-use Rattle.ext_model.specs.GeoCore.declared.transforms.Transform.{Transform}
 use Rattle.cell_library.specs.CellBodies.Words.{is_use_id}
-use Rattle.cell_library.specs.CellTree.declared.use_tables.UseBody.{UseBody}
-use Rattle.cell_library.specs.CellTree.Trees.{cell_at, empty_cell}
-use Rattle.cell_library.specs.Libraries.{LibraryParts, IsLawfulLibrary, seen}
-use Rattle.cell_library.specs.Views.{CellView, LibraryView, view_at}
-use Rattle.cell_library.proofs.LayoutTreeLaws.{uses_seen, state_is}
+use Rattle.cell_library.specs.CellTree.Trees.{empty_cell}
 use Rattle.ext_model.specs.NodeNames.{slashes_in}
-use Rattle.tree_names.specs.TreeRecords.NamedTrees.{NamedTree, NamedElements}
 use Rattle.tree_names.specs.CleanTrees.{HasElementNames, HaveElementNames, ids_in}
-use Rattle.library_trees.specs.ElementNames.{UseElement, use_elements}
 use Rattle.library_trees.specs.Laws.{ElementNamesTellElements}
-use Rattle.library_trees.specs.NamedCells.{named_elements_at, named_elements_from, named_tree_at, named_tree_to}
+use Rattle.library_trees.specs.NamedCells.{named_tree_at}
 use Rattle.library_trees.proofs.ElementNameLaws.{names_differ, names_in, names_tell_id, names_whole}
 use Rattle.ext_model.proofs.TextCuts.{front_of}
 use Rattle.library_trees.proofs.WholeTrees.{UsesWithIds, no_cell_seen}
-use Rattle.cell_library.specs.CellTree.declared.limits.TheConstants.{MOST_DEPTH}
 
 -- the ids of uses
 abbrev use_ids : UsesWithIds → List (List ℕ)

@@ -1,22 +1,10 @@
 -- The named trees of the cells of a lawful library: enough depth makes them whole.
-use Rattle.std.proofs.Common.{◌≡◌, ◌<◌, ◌≤◌, ℕ, zero, suc, List, [], ◌∷◌, length, refl, sym, ap, ◌∙◌, arith}
-use Rattle.std.specs.Prelude.{Some, slice_get}
+use Rattle.library_trees.proofs.Common.{◌≡◌, ◌<◌, ◌≤◌, ℕ, zero, suc, List, [], ◌∷◌, length, refl, sym, ap, ◌∙◌, arith, Some, slice_get, NamedTree}
+use Rattle.library_trees.proofs.Common.{named_tree, MOST_DEPTH, Depth, Size, UseBody, CellState, size_at, cell_at, child_is_lower, LibraryParts}
+use Rattle.library_trees.proofs.Common.{IsLawfulLibrary, cells_seen, seen, uses_in, no_cell, view_at, children_are_cells, uses_seen, depth_is}
+use Rattle.library_trees.proofs.Common.{state_is, length-cell_views, use_elements, named_elements_at, named_elements_from, named_tree_to}
 use Rattle.std.proofs.Math.ListN.{get_or-eq_default}
-use Rattle.tree_names.specs.TreeRecords.NamedTrees.{NamedTree}
-use Rattle.tree_names.specs.TreeRecords.NamedTrees.NamedTree.{named_tree}
-use Rattle.cell_library.specs.CellTree.declared.limits.TheConstants.{MOST_DEPTH}
-use Rattle.cell_library.specs.CellTree.declared.sizes.Dimension.TheVariants.{Depth}
-use Rattle.cell_library.specs.CellTree.declared.sizes.Size.{Size}
-use Rattle.cell_library.specs.CellTree.declared.use_tables.UseBody.{UseBody}
-use Rattle.cell_library.specs.CellTree.Sizes.{CellState, size_at}
-use Rattle.cell_library.specs.CellTree.Trees.{cell_at}
-use Rattle.cell_library.proofs.CellTree.SizeLaws.{child_is_lower}
-use Rattle.cell_library.specs.Libraries.{LibraryParts, IsLawfulLibrary, cells_seen, seen, uses_in}
-use Rattle.cell_library.specs.Views.{no_cell, view_at}
-use Rattle.cell_library.proofs.LayoutTreeLaws.{children_are_cells, uses_seen, depth_is, state_is}
-use Rattle.cell_library.proofs.ViewLaws.{length-cell_views}
-use Rattle.library_trees.specs.ElementNames.{use_elements}
-use Rattle.library_trees.specs.NamedCells.{named_elements_at, named_elements_from, named_tree_at, named_tree_to, own_body_of}
+use Rattle.library_trees.specs.NamedCells.{named_tree_at, own_body_of}
 
 -- uses of a cell, each with its id
 abbrev pub UsesWithIds : Type 0

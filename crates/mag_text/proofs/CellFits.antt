@@ -1,52 +1,31 @@
 -- What a cell of a lawful library has fits a text.
-use Rattle.std.proofs.Common.{◌≡◌, ◌<◌, ℕ, ℤ, suc, true, false, List, [], ◌∷◌, ◌++◌, length, map, Option, Some, None, FitsSigned, inl, inr, refl, sym}
-use Rattle.std.proofs.Common.{ap, subst, ◌∙◌, arith}
-use Rattle.std.specs.Prelude.{IfSome, IsTrue, slice_get}
+use Rattle.mag_text.proofs.Common.{◌≡◌, ◌<◌, ℕ, ℤ, suc, true, false, List, [], ◌∷◌, ◌++◌, length, map, Option, Some, None, FitsSigned, inl, inr}
+use Rattle.mag_text.proofs.Common.{refl, sym, ap, subst, ◌∙◌, arith, IfSome, IsTrue, slice_get, AllByRecursion, bytes_eq, same_text, cases_Bool}
+use Rattle.mag_text.proofs.Common.{and_from, nat_tests, ints, In, Distinct, Grid, Rect, matrix, is_orientation, is_plain_name, Layout, is_coordinate}
+use Rattle.mag_text.proofs.Common.{is_in_range, CellUse, IsLabel, is_use_id, are_few_elements, is_grid, is_placing, is_scale_number, UseBody}
+use Rattle.mag_text.proofs.Common.{cell_is, LibraryParts, IsLawfulLibrary, IsLawfulScale, seen, uses_in, CellView, LibraryView, view_at, held_lawful}
+use Rattle.mag_text.proofs.Common.{cell_viewed, WrittenUse, IsWrittenUse, AreWrittenUses, IsCellText, has_id, IsWritableUse, IsPaintInRange}
+use Rattle.mag_text.proofs.Common.{FitsText, IsReadAs, AreNew, use_of}
 use Rattle.std.specs.Int.{w32}
-use Rattle.std.specs.List.{AllByRecursion}
-use Rattle.std.specs.Str.{bytes_eq}
-use Rattle.std.specs.Cmp.Lexicographic.{same_text}
-use Rattle.std.proofs.lemmas.Bool.{cases_Bool, and_from}
-use Rattle.std.proofs.lemmas.Bool.Decides.{nat_tests}
-use Rattle.std.proofs.lemmas.Int.{ints}
 use Rattle.std.proofs.lemmas.Option.{slice_get_within, get_or_from_slice_get}
-use Rattle.finite_sets.specs.Lists.{In, Distinct}
-use Rattle.geo_core.specs.declared.grids.Grid.{Grid}
-use Rattle.geo_core.specs.declared.squares.Rect.{Rect}
 use Rattle.geo_core.specs.declared.transforms.Transform.{Transform}
 use Rattle.geo_core.specs.Images.{six_of}
-use Rattle.geo_core.specs.Orientation.{matrix, is_orientation}
-use Rattle.text_scan.specs.PlainNames.{is_plain_name}
 use Rattle.tech_model.specs.declared.raw.Label.{Label}
-use Rattle.cell_library.specs.LayoutModel.Layouts.{Layout}
-use Rattle.cell_library.specs.CellPaint.Painting.{is_coordinate, is_in_range}
-use Rattle.cell_library.specs.CellBodies.declared.bodies.CellUse.{CellUse}
-use Rattle.cell_library.specs.CellBodies.Bodies.{IsLabel}
-use Rattle.cell_library.specs.CellBodies.Words.{is_use_id}
-use Rattle.cell_library.specs.CellBodies.Numbers.{is_displacement, are_displacements, is_index, are_few_elements, is_grid, is_placing}
-use Rattle.cell_library.specs.CellBodies.Numbers.{is_scale_number}
+use Rattle.cell_library.specs.CellBodies.Numbers.{is_displacement, are_displacements, is_index}
 use Rattle.geo_core.proofs.OrientationLaws.{is_orientation-six_of}
 use Rattle.cell_tree.specs.declared.sizes.Dimension.TheVariants.{Hull}
 use Rattle.cell_tree.specs.declared.sizes.Size.{Size}
-use Rattle.cell_tree.specs.declared.use_tables.UseBody.{UseBody}
 use Rattle.cell_tree.specs.Hulls.{IsPaintable as IsCoordinate, SpansInRange, IsLawfulBox}
 use Rattle.cell_tree.specs.Sizes.{CellState, AreSizes, IsHullInRange, size_at}
 use Rattle.cell_tree.specs.Trees.{cell_at, empty_cell}
 use Rattle.cell_tree.specs.Uses.{IsShift, IsLawfulGrid, IsLawfulUse}
-use Rattle.cell_tree.proofs.WholeLaws.{cell_is}
-use Rattle.cell_library.specs.Libraries.{LibraryParts, IsLawfulLibrary, IsLawfulScale, HasUseIds, seen, uses_in}
+use Rattle.cell_library.specs.Libraries.{HasUseIds}
 use Rattle.cell_library.specs.Limits.{HullIs}
 use Rattle.cell_library.specs.OwnBoxes.{OwnBoxIs}
-use Rattle.cell_library.specs.Views.{CellView, LibraryView, view_at}
 use Rattle.cell_library.proofs.LimitLaws.{states_unique}
-use Rattle.cell_library.proofs.PaintEdits.{held_lawful}
 use Rattle.cell_library.proofs.SizeLaws.{one_size, tree_children}
 use Rattle.cell_library.proofs.UseEdits.{uses_here, cell_below, ids_differ}
-use Rattle.cell_library.proofs.ViewLaws.{cell_viewed, state_there}
-use Rattle.mag_text.specs.declared.written.WrittenUse.{WrittenUse}
-use Rattle.mag_text.specs.CellTexts.{IsWrittenUse, AreWrittenUses, IsCellText}
-use Rattle.mag_text.specs.Drafts.{has_id}
-use Rattle.mag_text.specs.ReadBack.{IsWritableUse, IsPaintInRange, FitsText, IsReadAs, AreNew, use_of}
+use Rattle.cell_library.proofs.ViewLaws.{state_there}
 use Rattle.mag_text.proofs.CellTextLaws.{labels_lawful, use_lawful}
 use Rattle.mag_text.proofs.LawfulLines.{grid-is}
 use Rattle.mag_text.proofs.StripLaws.{by_places, read-written}

@@ -1,21 +1,13 @@
 -- The text of a cell of a library: its uses as they are written, its scale and its labels.
-use Rattle.std.proofs.Common.{◌≡◌, ◌<◌, ℕ, zero, suc, List, [], ◌∷◌, ◌++◌, length, take, sym, ap, subst, ◌∙◌, arith}
-use Rattle.std.specs.Prelude.{◌+◌, Option, Some, None, slice_get, slice_index_or, All}
+use Rattle.mag_text.proofs.Common.{◌≡◌, ◌<◌, ℕ, zero, suc, List, [], ◌∷◌, ◌++◌, length, take, sym, ap, subst, ◌∙◌, arith, slice_get, slice_index_or}
+use Rattle.mag_text.proofs.Common.{All, IsLabel, UseBody, cell_is, LibraryParts, IsLawfulLibrary, IsLawfulScale, seen, uses_in, CellView}
+use Rattle.mag_text.proofs.Common.{LibraryView, view_at, held_lawful, cell_viewed, WrittenUse, IsWrittenUse, AreWrittenUses, IsLayered}
+use Rattle.std.specs.Prelude.{◌+◌, Option, Some, None}
 use Rattle.std.proofs.lemmas.List.{take_more}
 use Rattle.std.proofs.lemmas.Option.{slice_get-get_or}
-use Rattle.cell_library.specs.CellBodies.Bodies.{IsLabel}
-use Rattle.cell_tree.specs.declared.use_tables.UseBody.{UseBody}
 use Rattle.cell_tree.specs.Trees.{cell_at}
 use Rattle.cell_tree.specs.Uses.{IsLawfulUse}
-use Rattle.cell_tree.proofs.WholeLaws.{cell_is}
-use Rattle.cell_library.specs.Libraries.{LibraryParts, IsLawfulLibrary, IsLawfulScale, seen, uses_in}
-use Rattle.cell_library.specs.Views.{CellView, LibraryView, view_at}
 use Rattle.cell_library.proofs.UseEdits.{uses_here}
-use Rattle.cell_library.proofs.PaintEdits.{held_lawful}
-use Rattle.cell_library.proofs.ViewLaws.{cell_viewed}
-use Rattle.mag_text.specs.declared.written.WrittenUse.{WrittenUse}
-use Rattle.mag_text.specs.CellTexts.{IsWrittenUse, AreWrittenUses}
-use Rattle.mag_text.specs.WrittenTexts.{IsLayered}
 
 -- the labels of a cell are lawful
 pub labels_lawful : (library : LibraryParts) (cell : ℕ) → IsLawfulLibrary library → cell < length library.contents

@@ -1,34 +1,15 @@
 -- What is read of a cell's text is the cell.
-use Rattle.std.proofs.Common.{◌≡◌, ◌<◌, ◌≤◌, ℕ, List, [], ◌∷◌, length, map, inl, inr, refl, sym, ap, subst, ◌∙◌, arith}
-use Rattle.std.specs.Prelude.{Some, Ok, Err, Result, Vec, IfOk}
+use Rattle.mag_text.proofs.Common.{◌≡◌, ◌<◌, ◌≤◌, ℕ, List, [], ◌∷◌, length, map, inl, inr, refl, sym, ap, subst, ◌∙◌, arith, IfOk, Global, cases_lt}
+use Rattle.mag_text.proofs.Common.{MOST_PLANES, RawTech, plane_of, IsWellFormed, IsOnPlane, Place, Layout, column_type, CellBody, CellUse, UseBody}
+use Rattle.mag_text.proofs.Common.{LibraryParts, IsLawfulLibrary, seen, uses_in, CellView, LibraryView, view_at, held_lawful, cell_viewed}
+use Rattle.mag_text.proofs.Common.{WrittenUse, AreWrittenUses, IsCellText, Draft, painted_all, use_of, draft_of}
+use Rattle.std.specs.Prelude.{Some, Ok, Err, Result, Vec}
 use Rattle.std.specs.declared.alloc.AllocError.{AllocError}
-use Rattle.std.specs.declared.alloc.Global.{Global}
-use Rattle.std.proofs.lemmas.Bool.{cases_lt}
-use Rattle.tech_model.specs.declared.limits.TheConstants.{MOST_PLANES}
-use Rattle.tech_model.specs.declared.raw.RawTech.{RawTech}
-use Rattle.tech_model.specs.Types.{plane_of}
-use Rattle.tech_model.specs.WellFormed.{IsWellFormed}
-use Rattle.tech_model.specs.ColumnForms.{IsOnPlane}
-use Rattle.cell_library.specs.LayoutModel.Places.{Place}
-use Rattle.cell_library.specs.LayoutModel.Layouts.{Layout}
 use Rattle.cell_library.specs.CellPaint.Paints.{KeepsTypes, IsSoundPaint}
-use Rattle.cell_library.proofs.CellPaint.ColumnsLaws.{column_type}
 use Rattle.cell_library.proofs.CellPaint.PlaneLaws.{space_past}
-use Rattle.cell_library.specs.CellBodies.declared.bodies.CellBody.{CellBody}
-use Rattle.cell_library.specs.CellBodies.declared.bodies.CellUse.{CellUse}
-use Rattle.cell_tree.specs.declared.use_tables.UseBody.{UseBody}
 use Rattle.cell_library.specs.Contents.{held_at}
-use Rattle.cell_library.specs.Libraries.{LibraryParts, IsLawfulLibrary, seen, uses_in}
-use Rattle.cell_library.specs.Views.{CellView, LibraryView, view_at}
-use Rattle.cell_library.proofs.PaintEdits.{held_lawful}
-use Rattle.cell_library.proofs.ViewLaws.{cell_viewed}
-use Rattle.mag_text.specs.declared.written.WrittenUse.{WrittenUse}
-use Rattle.mag_text.specs.CellTexts.{AreWrittenUses, IsCellText}
 use Rattle.mag_text.specs.CellsAgain.{IsSoundLayout, IsBodyOf, IsReadBack, use_seen}
-use Rattle.mag_text.specs.Drafts.{Draft}
-use Rattle.mag_text.specs.Drawings.{painted_all}
 use Rattle.mag_text.specs.MagTexts.{IsRead}
-use Rattle.mag_text.specs.ReadBack.{use_of, draft_of}
 use Rattle.mag_text.proofs.CellFits.{cell_text-read}
 use Rattle.mag_text.proofs.PaintAgain.{painted_again}
 

@@ -1,12 +1,7 @@
 -- How far the rectangles of a list are painted, where those of one layer that follow each other are painted together.
-use Rattle.std.proofs.Common.{◌≡◌, ℕ, List, take}
-use Rattle.geo_core.specs.declared.squares.Rect.{Rect}
-use Rattle.tech_model.specs.declared.raw.RawTech.{RawTech}
-use Rattle.cell_library.specs.LayoutModel.Places.{Place}
-use Rattle.cell_library.specs.LayoutModel.Layouts.{Layout}
+use Rattle.mag_text.proofs.Common.{◌≡◌, ℕ, List, take, Rect, RawTech, Place, Layout, Drawn, painted_all}
 use Rattle.cell_library.specs.CellPaint.Painting.{with_all_painted}
-use Rattle.mag_text.specs.declared.files.Drawn.{Drawn}
-use Rattle.mag_text.specs.Drawings.{painted_all, drawn_at}
+use Rattle.mag_text.specs.Drawings.{drawn_at}
 
 -- the rectangles before an index are painted once those that are gathered are
 abbrev pub AreGathered : RawTech → List Drawn → ℕ → List Rect → Layout → Type 0

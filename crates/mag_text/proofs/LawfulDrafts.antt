@@ -1,44 +1,21 @@
 -- What was read is lawful, line by line.
-use Rattle.std.proofs.Common.{◌≡◌, ◌<◌, ℕ, ℤ, Bool, true, false, cond, List, [], ◌∷◌, ◌++◌, length, Some, Result, Ok, Err, refl, sym, ap, ◌∙◌, subst}
-use Rattle.std.specs.Prelude.{IfOk, IfSome, IsTrue, All}
-use Rattle.std.specs.Str.{bytes_eq}
+use Rattle.mag_text.proofs.Common.{◌≡◌, ◌<◌, ℕ, ℤ, Bool, true, false, cond, List, [], ◌∷◌, ◌++◌, length, Some, Result, Ok, Err, refl, sym, ap, ◌∙◌}
+use Rattle.mag_text.proofs.Common.{subst, IfOk, IfSome, IsTrue, All, bytes_eq, Distinct, lines_of, is_plain_name, and_then, text_state, words_of}
+use Rattle.mag_text.proofs.Common.{Grid, Rect, LayerId, OneLabel, RawTech, CellUse, ids_of, IsLabel, is_use_id, is_grid, is_placing, is_scale_number}
+use Rattle.mag_text.proofs.Common.{MagFault, UseTwice, Magic, BadLine, OneGroup, Paint, Labels, ReadOver, MagLine, Nothing, Tech, Timestamp, Scale}
+use Rattle.mag_text.proofs.Common.{Group, End, Area, Label, Use, Array, Transform, Box, Section, Start, Header, Inside, InUse, Between, Ended, Seen}
+use Rattle.mag_text.proofs.Common.{Named, Arrayed, Dated, Placed, Draft, nothing_yet, has_id, step, finish, says, CellBody, AreDrawn}
 use Rattle.std.proofs.lemmas.Slice.Eq.{bytes_eq-Decides}
 use Rattle.std.proofs.lemmas.List.{map-append}
 use Rattle.std.proofs.lemmas.List.Elements.{All-nil, All-push}
-use Rattle.finite_sets.specs.Lists.{Distinct}
 use Rattle.finite_sets.proofs.Distincts.{Distinct-push}
 use Rattle.finite_sets.proofs.Searches.{absent-from_list_any}
-use Rattle.text_scan.specs.Lines.{lines_of}
-use Rattle.text_scan.specs.PlainNames.{is_plain_name}
-use Rattle.text_form.specs.SaidLines.{and_then}
-use Rattle.text_form.specs.Folds.{text_state}
 use Rattle.text_form.proofs.FoldLaws.{first_fault_or-keeps, text_state-Ok}
-use Rattle.text_scan.specs.Words.{words_of}
-use Rattle.geo_core.specs.declared.grids.Grid.{Grid}
-use Rattle.geo_core.specs.declared.squares.Rect.{Rect}
-use Rattle.tech_model.specs.declared.raw.LayerId.{LayerId}
-use Rattle.tech_model.specs.declared.raw.Label.{Label as OneLabel}
-use Rattle.tech_model.specs.declared.raw.RawTech.{RawTech}
-use Rattle.cell_library.specs.CellBodies.declared.bodies.CellUse.{CellUse}
-use Rattle.cell_library.specs.CellBodies.Bodies.{ids_of, IsUse, IsLabel, IsBody}
-use Rattle.cell_library.specs.CellBodies.Words.{is_use_id}
-use Rattle.cell_library.specs.CellBodies.Numbers.{is_grid, is_placing, is_scale_number}
-use Rattle.mag_text.specs.declared.faults.MagFault.{MagFault}
-use Rattle.mag_text.specs.declared.faults.MagFault.TheVariants.{UseTwice, Magic, BadLine}
-use Rattle.mag_text.specs.declared.files.Group.{Group as OneGroup}
-use Rattle.mag_text.specs.declared.files.Group.TheVariants.{Paint, Labels, ReadOver}
-use Rattle.mag_text.specs.declared.files.MagLine.{MagLine}
-use Rattle.mag_text.specs.declared.files.MagLine.TheVariants.{Nothing, Tech, Timestamp, Scale, Group, End, Area, Label, Use, Array, Transform, Box}
-use Rattle.mag_text.specs.declared.files.Section.{Section}
-use Rattle.mag_text.specs.declared.files.Section.TheVariants.{Start, Header, Inside, Use as InUse, Between, Ended}
-use Rattle.mag_text.specs.declared.files.Seen.{Seen}
+use Rattle.cell_library.specs.CellBodies.Bodies.{IsUse, IsBody}
 use Rattle.mag_text.specs.declared.files.UsePart.{UsePart}
-use Rattle.mag_text.specs.declared.files.UsePart.TheVariants.{Named, Arrayed, Dated, Placed}
-use Rattle.mag_text.specs.Drafts.{Draft, nothing_yet, none_seen, has_id, use_named, opens, takes_in_header, takes_in_group, takes_in_use, takes_said, takes_in}
-use Rattle.mag_text.specs.Drafts.{with_grid, with_time, with_six, ends_read_over, is_magic, begins, line_taken, line_in, step, ended, finish}
-use Rattle.mag_text.specs.LineForms.{says}
-use Rattle.cell_library.specs.CellBodies.declared.bodies.CellBody.{CellBody}
-use Rattle.mag_text.specs.Drawings.{IsDrawn, AreDrawn}
+use Rattle.mag_text.specs.Drafts.{none_seen, use_named, opens, takes_in_header, takes_in_group, takes_in_use, takes_said, takes_in}
+use Rattle.mag_text.specs.Drafts.{with_grid, with_time, with_six, ends_read_over, is_magic, begins, line_taken, line_in, ended}
+use Rattle.mag_text.specs.Drawings.{IsDrawn}
 use Rattle.mag_text.specs.MagTexts.{mag_in, HasAllOf}
 use Rattle.mag_text.proofs.LawfulLines.{IsGoodLine, IsGoodGroup, IsGoodScale, IsPainted, says-good}
 

@@ -1,40 +1,23 @@
 -- What a line says is of the forms that a cell's parts have.
-use Rattle.std.proofs.Common.{◌≡◌, ◌<◌, ℕ, ℤ, pos, negsuc, Bool, true, false, cond, List, [], ◌∷◌, length, Option, Some, None, Result, Ok, Err, refl, arith}
-use Rattle.std.specs.Prelude.{◌&&◌, codes, IfOk, IfSome, IsTrue}
-use Rattle.std.specs.Option.{ok_or, option_map}
-use Rattle.std.specs.Str.{bytes_eq}
-use Rattle.std.proofs.lemmas.Bool.{and_from, and_parts}
+use Rattle.mag_text.proofs.Common.{◌≡◌, ◌<◌, ℕ, ℤ, pos, Bool, true, false, cond, List, [], ◌∷◌, length, Option, Some, None, Result, Ok, Err, refl}
+use Rattle.mag_text.proofs.Common.{arith, ◌&&◌, codes, IfOk, IfSome, IsTrue, ok_or, option_map, bytes_eq, and_from, and_parts, Grid, Rect}
+use Rattle.mag_text.proofs.Common.{has_square, is_orientation, number_of, is_plain_name, words_of, and_then, LayerId, RawTech, has_name, layer_named}
+use Rattle.mag_text.proofs.Common.{layer_number, is_coordinate, is_in_range, IsLabel, is_use_id, is_label_text, are_few_elements, is_grid}
+use Rattle.mag_text.proofs.Common.{is_placing, is_position, has_sides, is_label_area, is_scale_number, MagFault, BadLine, NoLayer, Range, EmptyRect}
+use Rattle.mag_text.proofs.Common.{NoOrientation, OneGroup, Paint, Labels, ReadOver, MagLine, Nothing, Tech, Timestamp, Scale, Group, End, Area}
+use Rattle.mag_text.proofs.Common.{Label, Use, Array, Transform, Box, Four, coordinate_in, index_in, if_painted, if_touched, grid_in, six_in}
+use Rattle.mag_text.proofs.Common.{if_form, words_say, says}
+use Rattle.std.proofs.Common.{negsuc}
 use Rattle.finite_sets.proofs.Searches.{position_from-below}
-use Rattle.geo_core.specs.declared.grids.Grid.{Grid}
-use Rattle.geo_core.specs.declared.squares.Rect.{Rect}
-use Rattle.geo_core.specs.Areas.{has_square}
-use Rattle.geo_core.specs.Orientation.{is_orientation}
-use Rattle.text_scan.specs.Numbers.{number_of}
-use Rattle.text_scan.specs.PlainNames.{is_plain_name}
-use Rattle.text_scan.specs.Words.{words_of}
 use Rattle.text_scan.specs.declared.numeral.NumFault.{NumFault}
-use Rattle.text_form.specs.SaidLines.{and_then}
-use Rattle.tech_model.specs.declared.raw.LayerId.{LayerId}
-use Rattle.tech_model.specs.declared.raw.RawTech.{RawTech}
-use Rattle.tech_model.specs.Types.{has_name, layer_named, layer_number}
-use Rattle.cell_library.specs.CellPaint.Painting.{is_coordinate, is_in_range}
-use Rattle.cell_library.specs.CellBodies.Bodies.{IsLabel}
-use Rattle.cell_library.specs.CellBodies.Words.{is_use_id, is_label_text}
-use Rattle.cell_library.specs.CellBodies.Numbers.{is_displacement, is_index, are_indices, are_displacements, are_few_elements, are_elements, is_grid}
-use Rattle.cell_library.specs.CellBodies.Numbers.{is_placing, is_position, has_sides, is_label_area, is_scale_number}
-use Rattle.mag_text.specs.declared.faults.MagFault.{MagFault}
-use Rattle.mag_text.specs.declared.faults.MagFault.TheVariants.{BadLine, NoLayer, Range, EmptyRect, Transform as NoOrientation}
-use Rattle.mag_text.specs.declared.files.Group.{Group as OneGroup}
-use Rattle.mag_text.specs.declared.files.Group.TheVariants.{Paint, Labels, ReadOver}
-use Rattle.mag_text.specs.declared.files.MagLine.{MagLine}
-use Rattle.mag_text.specs.declared.files.MagLine.TheVariants.{Nothing, Tech, Timestamp, Scale, Group, End, Area, Label, Use, Array, Transform, Box}
-use Rattle.mag_text.specs.NumberForms.{Four, Six, are_four_decimal, number_in, if_in, coordinate_in, displacement_in, index_in, if_scale_number}
+use Rattle.cell_library.specs.CellBodies.Numbers.{is_displacement, is_index, are_indices, are_displacements, are_elements}
+use Rattle.mag_text.specs.NumberForms.{Six, are_four_decimal, number_in, if_in, displacement_in, if_scale_number}
 use Rattle.mag_text.specs.NumberForms.{scale_number_in, scale_in}
-use Rattle.mag_text.specs.NumberForms.{if_position, position_in, rect_in, if_painted, if_touched, grid_in, six_in}
+use Rattle.mag_text.specs.NumberForms.{if_position, position_in, rect_in}
 use Rattle.mag_text.specs.WordForms.{after_word}
-use Rattle.mag_text.specs.LineForms.{if_form, layer_in, label_layer_in, tech_line, timestamp_line, scale_line, is_read_over_name, group_named, group_line}
+use Rattle.mag_text.specs.LineForms.{layer_in, label_layer_in, tech_line, timestamp_line, scale_line, is_read_over_name, group_named, group_line}
 use Rattle.mag_text.specs.LineForms.{four_numbers, six_numbers, label_place, label_at, label_line_of, label_behind, label_line, label_text, use_line}
-use Rattle.mag_text.specs.LineForms.{is_left_out, other_line, header_line, line_of_use, line_by_key, begins_with_hash, words_say, says}
+use Rattle.mag_text.specs.LineForms.{is_left_out, other_line, header_line, line_of_use, line_by_key, begins_with_hash}
 
 -- a rectangle that may be painted
 abbrev pub IsPainted : Rect → Type 0

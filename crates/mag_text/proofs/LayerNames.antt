@@ -1,25 +1,14 @@
 -- The first name of a layer names that layer, and is the header of its group.
-use Rattle.std.proofs.Common.{◌≡◌, ◌<◌, ◌+◌, ℕ, zero, suc, Bool, true, false, cond, List, [], ◌∷◌, length, get_or, Option, Some, None, Ok, inl, refl}
-use Rattle.std.proofs.Common.{ap, ◌∙◌, arith}
-use Rattle.std.specs.Prelude.{◌||◌, not, codes, IfSome}
-use Rattle.std.specs.List.{list_any, position_from}
-use Rattle.std.specs.Option.{ok_or, option_map}
-use Rattle.std.specs.Str.{bytes_eq}
-use Rattle.std.proofs.lemmas.Bool.{and_parts, or_parts}
+use Rattle.mag_text.proofs.Common.{◌≡◌, ◌<◌, ◌+◌, ℕ, zero, suc, Bool, true, false, cond, List, [], ◌∷◌, length, get_or, Option, Some, None, Ok, inl}
+use Rattle.mag_text.proofs.Common.{refl, ap, ◌∙◌, arith, ◌||◌, not, codes, IfSome, list_any, ok_or, option_map, bytes_eq, and_parts, or_parts, In}
+use Rattle.mag_text.proofs.Common.{is_plain_name, and_then, LayerId, RawTech, layer_at, no_layer, first_name, has_name, layer_named, layer_number}
+use Rattle.mag_text.proofs.Common.{IsWellFormed, NoLayer, Paint, Labels, ReadOver, layer_word}
+use Rattle.std.specs.List.{position_from}
 use Rattle.std.proofs.lemmas.Slice.Eq.{bytes_eq-Decides}
-use Rattle.finite_sets.specs.Lists.{In}
 use Rattle.finite_sets.proofs.Searches.{list_any-of_In, list_any-of_absent}
-use Rattle.text_scan.specs.PlainNames.{is_plain_name}
-use Rattle.text_form.specs.SaidLines.{and_then}
-use Rattle.tech_model.specs.declared.raw.LayerId.{LayerId}
-use Rattle.tech_model.specs.declared.raw.RawTech.{RawTech}
 use Rattle.tech_model.specs.Forms.{is_layer_name, reserved_words}
-use Rattle.tech_model.specs.Types.{layer_at, no_layer, first_name, has_name, layer_named, layer_number}
-use Rattle.tech_model.specs.WellFormed.{IsWellFormed, IsLayer}
-use Rattle.mag_text.specs.declared.faults.MagFault.TheVariants.{NoLayer}
-use Rattle.mag_text.specs.declared.files.Group.TheVariants.{Paint, Labels, ReadOver}
+use Rattle.tech_model.specs.WellFormed.{IsLayer}
 use Rattle.mag_text.specs.LineForms.{layer_in, label_layer_in, is_read_over_name, group_named}
-use Rattle.mag_text.specs.WrittenTexts.{layer_word}
 
 -- what is found at the first place that passes
 position_is : {X : Type 0} (test : X → Bool) (n : ℕ) (xs : List X) (k : ℕ) (d : X) → k < length xs → ((j : ℕ) → j < k → test (get_or xs j d) ≡ false)

@@ -1,5 +1,6 @@
 -- what crates above name of those below
 pub use Rattle.cell_library.proofs as CellLibrary
+mod Common
 mod DrawingSteps
 pub mod UseIdLaws
 mod LawfulLines

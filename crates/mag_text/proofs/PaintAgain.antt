@@ -2,39 +2,27 @@
 --
 -- One square is looked at. The rectangles that cover it show one layer of the square's types after the other, each layer all its images, and at
 -- the end each layer that has a type there is shown.
-use Rattle.std.proofs.Common.{◌≡◌, ◌<◌, ◌≤◌, ℕ, true, false, Bool, List, [], ◌∷◌, length, fold, get_or, inl, inr, refl, sym, ap, subst, ◌∙◌, arith}
+use Rattle.mag_text.proofs.Common.{◌≡◌, ◌<◌, ◌≤◌, ℕ, true, false, Bool, List, [], ◌∷◌, length, get_or, inl, inr, refl, sym, ap, subst, ◌∙◌, arith}
+use Rattle.mag_text.proofs.Common.{◌||◌, IsTrue, flat_map, cases_Bool, cases_lt, In, Rect, Square, HasValue, IsStrip, MOST_PLANES, RawTech, is_type}
+use Rattle.mag_text.proofs.Common.{type_number, layer_number, plane_of, no_layer, IsWellFormed, IsOnPlane, Place, Layout, column_type, Drawn}
+use Rattle.mag_text.proofs.Common.{LayerStrips, painted_all, drawn_of, drawn_strips, own_image, AreLayerStrips, AreAllStrips}
+use Rattle.std.proofs.Common.{fold}
 use Rattle.std.proofs.Common.{true≢false}
-use Rattle.std.specs.Prelude.{◌==◌, ◌||◌, IsTrue, flat_map}
-use Rattle.std.proofs.lemmas.Bool.{cases_Bool, cases_lt, eq-eqb}
-use Rattle.finite_sets.specs.Lists.{In}
+use Rattle.std.specs.Prelude.{◌==◌}
+use Rattle.std.proofs.lemmas.Bool.{eq-eqb}
 use Rattle.finite_sets.proofs.Members.{In-map, In-map_source, In-get_or, In-index}
 use Rattle.finite_sets.proofs.Images.{In-flat_map, In-flat_map_source}
-use Rattle.geo_core.specs.declared.squares.Rect.{Rect}
-use Rattle.geo_core.specs.declared.squares.Square.{Square}
 use Rattle.geo_core.specs.Covering.{Covers, is_covered}
-use Rattle.geo_core.specs.Planes.{HasValue}
-use Rattle.geo_core.specs.Strips.{IsStrip}
 use Rattle.geo_core.proofs.CoveringLaws.{Covers-is_covered, is_covered-Covers}
-use Rattle.tech_model.specs.declared.limits.TheConstants.{MOST_PLANES}
-use Rattle.tech_model.specs.declared.raw.RawTech.{RawTech}
-use Rattle.tech_model.specs.Types.{is_type, type_number, layer_number, plane_of, layer_of, images_of, no_layer}
-use Rattle.tech_model.specs.WellFormed.{IsWellFormed}
+use Rattle.tech_model.specs.Types.{layer_of, images_of}
 use Rattle.tech_model.specs.Rules.{KeepsRules}
 use Rattle.tech_model.specs.Columns.{type_on, painted_column}
-use Rattle.tech_model.specs.ColumnForms.{IsOnPlane}
-use Rattle.cell_library.specs.LayoutModel.Places.{Place}
-use Rattle.cell_library.specs.LayoutModel.Layouts.{Layout}
 use Rattle.cell_library.specs.CellPaint.Painting.{place_at, kinds_on, column_at}
 use Rattle.cell_library.proofs.CellPaint.AgainLaws.{image_type}
-use Rattle.cell_library.proofs.CellPaint.ColumnsLaws.{column_type}
 use Rattle.cell_library.proofs.CellPaint.PaintLaws.{type_past_column, changed_inside, changed_outside}
 use Rattle.cell_library.proofs.CellPaint.ShownLaws.{Stands, shown, with_layer, shown_there, shown_space, painted_column-shown}
-use Rattle.mag_text.specs.declared.files.Drawn.{Drawn}
-use Rattle.mag_text.specs.declared.written.LayerStrips.{LayerStrips}
 use Rattle.mag_text.specs.CellsAgain.{IsSoundLayout}
-use Rattle.mag_text.specs.Drawings.{empty_layout, with_drawn, painted_all}
-use Rattle.mag_text.specs.ReadBack.{drawn_of, drawn_strips}
-use Rattle.mag_text.specs.WrittenTexts.{own_image, AreLayerStrips, AreAllStrips}
+use Rattle.mag_text.specs.Drawings.{empty_layout, with_drawn}
 use Rattle.mag_text.proofs.StripLaws.{own_image-type}
 
 -- a square that a strip covers is of the set

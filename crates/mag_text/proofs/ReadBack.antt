@@ -1,60 +1,30 @@
 -- A written cell is read back.
-use Rattle.std.proofs.Common.{◌≡◌, ◌<◌, ◌+◌, ◌==◌, ℕ, ℤ, pos, Bool, true, false, cond, List, [], ◌∷◌, ◌++◌, length, map, Option, Some, None, Ok, Err, refl}
-use Rattle.std.proofs.Common.{sym, ap, ◌∙◌, subst, arith, append_assoc, append-nil}
-use Rattle.std.specs.Prelude.{◌&&◌, codes, flat_map}
-use Rattle.std.specs.List.{AllByRecursion}
-use Rattle.std.specs.Str.{bytes_eq}
-use Rattle.geo_core.specs.declared.grids.Grid.{Grid}
-use Rattle.geo_core.specs.declared.squares.Rect.{Rect}
-use Rattle.text_scan.specs.Words.{words_of}
-use Rattle.text_scan.specs.Written.{IsWord, line_of}
-use Rattle.text_scan.proofs.WrittenLemmas.{IsWord-test, words_of-line_of}
+use Rattle.mag_text.proofs.Common.{◌≡◌, ◌<◌, ◌+◌, ◌==◌, ℕ, ℤ, pos, Bool, true, false, cond, List, [], ◌∷◌, ◌++◌, length, map, Option, Some, None, Ok}
+use Rattle.mag_text.proofs.Common.{Err, refl, sym, ap, ◌∙◌, subst, arith, append_assoc, append-nil, ◌&&◌, codes, flat_map, AllByRecursion, bytes_eq}
+use Rattle.mag_text.proofs.Common.{Grid, Rect, words_of, IsWord, line_of, IsWord-test, words_of-line_of, and_then, OneLabel, LayerId, RawTech}
+use Rattle.mag_text.proofs.Common.{layer_at, first_name, layer_number, IsWellFormed, CellUse, UseTwice, Magic, Drawn, Paint, Labels, ReadOver}
+use Rattle.mag_text.proofs.Common.{MagLine, Nothing, Tech, Timestamp, Scale, Group, End, Area, Label, Use, Array, Transform, Box, Section, Start}
+use Rattle.mag_text.proofs.Common.{Header, Inside, InUse, Between, Ended, Seen, Named, Arrayed, Dated, Placed, LayerStrips, WrittenUse, Draft}
+use Rattle.mag_text.proofs.Common.{nothing_yet, has_id, step, says, and_parts, nat_tests, ints, FitsSigned, inl, inr, w64, IfSome, IsTrue, number_of}
+use Rattle.mag_text.proofs.Common.{number_of-decimal, is_in_range, IsLabel, is_grid, is_placing, is_scale_number, Range, if_form, IsPaintable}
+use Rattle.mag_text.proofs.Common.{AreWritable, IsWritableUse, use_of, AreNew, IsWritable, drawn_of, drawn_strips, draft_of, cell_lines}
+use Rattle.mag_text.proofs.Common.{numbers_line, tech_line, header_lines, group_line, area_line, group_lines, layer_lines, use_line, array_lines}
+use Rattle.mag_text.proofs.Common.{transform_line, box_line, no_time_line, use_lines, label_line, labels_lines, end_line}
 use Rattle.text_form.specs.Folds.{unless_faulty, first_fault_or}
-use Rattle.text_form.specs.SaidLines.{and_then}
 use Rattle.text_form.proofs.FoldLaws.{first_fault_or-append}
-use Rattle.tech_model.specs.declared.raw.Label.{Label as OneLabel}
-use Rattle.tech_model.specs.declared.raw.LayerId.{LayerId}
-use Rattle.tech_model.specs.declared.raw.RawTech.{RawTech}
-use Rattle.tech_model.specs.Types.{layer_at, first_name, layer_number}
-use Rattle.tech_model.specs.WellFormed.{IsWellFormed}
-use Rattle.cell_library.specs.CellBodies.declared.bodies.CellUse.{CellUse}
-use Rattle.mag_text.specs.declared.faults.MagFault.TheVariants.{UseTwice, Magic}
-use Rattle.mag_text.specs.declared.files.Drawn.{Drawn}
-use Rattle.mag_text.specs.declared.files.Group.TheVariants.{Paint, Labels, ReadOver}
-use Rattle.mag_text.specs.declared.files.MagLine.{MagLine}
-use Rattle.mag_text.specs.declared.files.MagLine.TheVariants.{Nothing, Tech, Timestamp, Scale, Group, End, Area, Label, Use, Array, Transform, Box}
-use Rattle.mag_text.specs.declared.files.Section.{Section}
-use Rattle.mag_text.specs.declared.files.Section.TheVariants.{Start, Header, Inside, Use as InUse, Between, Ended}
-use Rattle.mag_text.specs.declared.files.Seen.{Seen}
-use Rattle.mag_text.specs.declared.files.UsePart.TheVariants.{Named, Arrayed, Dated, Placed}
-use Rattle.mag_text.specs.declared.written.LayerStrips.{LayerStrips}
-use Rattle.mag_text.specs.declared.written.WrittenUse.{WrittenUse}
-use Rattle.mag_text.specs.Drafts.{Draft, nothing_yet, none_seen, has_id, use_named, no_use, opens, takes_in, is_magic, line_in, step}
-use Rattle.mag_text.specs.LineForms.{says}
-use Rattle.std.proofs.lemmas.Bool.{and_parts}
-use Rattle.std.proofs.lemmas.Bool.Decides.{Decides-eqb, nat_tests}
-use Rattle.std.proofs.lemmas.Int.{ints}
-use Rattle.std.proofs.Common.{FitsSigned, inl, inr, ◌⊎◌}
-use Rattle.std.specs.Int.{w64}
-use Rattle.std.specs.Prelude.{IfSome, IsTrue}
+use Rattle.mag_text.specs.Drafts.{none_seen, use_named, no_use, opens, takes_in, is_magic, line_in}
+use Rattle.std.proofs.lemmas.Bool.Decides.{Decides-eqb}
+use Rattle.std.proofs.Common.{◌⊎◌}
 use Rattle.text_scan.specs.Decimal.{decimal, natural_text}
-use Rattle.text_scan.specs.Numbers.{number_of}
-use Rattle.text_scan.proofs.DecimalLemmas.{number_of-decimal}
-use Rattle.cell_library.specs.CellPaint.Painting.{is_in_range}
-use Rattle.cell_library.specs.CellBodies.Bodies.{IsLabel}
-use Rattle.cell_library.specs.CellBodies.Numbers.{is_grid, is_placing, is_scale_number}
-use Rattle.mag_text.specs.declared.faults.MagFault.TheVariants.{Range}
 use Rattle.mag_text.specs.NumberForms.{is_decimal, number_in, scale_number_in}
 use Rattle.mag_text.specs.WordForms.{after_word}
-use Rattle.mag_text.specs.LineForms.{if_form, if_four, group_named, timestamp_line, line_by_key}
+use Rattle.mag_text.specs.LineForms.{if_four, group_named, timestamp_line, line_by_key}
 use Rattle.mag_text.specs.LineForms.{group_line as read_group, tech_line as read_tech, scale_line as read_scale, box_line as read_box}
-use Rattle.mag_text.specs.ReadBack.{IsPaintable, AreWritable, IsWritableUse, use_of, AreNew, IsWritable, drawn_of, drawn_strips, draft_of}
 use Rattle.mag_text.proofs.LawfulLines.{IsGoodScale}
 use Rattle.mag_text.proofs.LayerNames.{first_name-plain, first_name-free, group_named-first}
 use Rattle.mag_text.proofs.ReadLines.{words-after, says-words, says-numbers, says-area, says-box, says-grid, says-transform, says-use, IsWord-plain_name}
 use Rattle.mag_text.proofs.ReadLabels.{says-written_label}
-use Rattle.mag_text.specs.WrittenTexts.{cell_lines, numbers_line, tech_line, header_lines, group_line, area_line, group_lines, layer_lines, use_line}
-use Rattle.mag_text.specs.WrittenTexts.{array_lines, grid_line, transform_line, box_line, no_time_line, use_lines, label_line, labels_lines, end_line}
+use Rattle.mag_text.specs.WrittenTexts.{grid_line}
 
 -- lines lead from what was read to what is read then, whatever their numbers
 abbrev Reads : RawTech → Draft → List (List ℕ) → Draft → Type 0

@@ -1,44 +1,24 @@
 -- The line of a label says the label.
-use Rattle.std.proofs.Common.{◌≡◌, ◌<◌, ◌+◌, ◌==◌, ℕ, suc, pos, Bool, true, false, cond, List, [], ◌∷◌, ◌++◌, length, get_or, drop, map, Option, Some, None}
-use Rattle.std.proofs.Common.{Ok, Err, refl, sym, ap, ◌∙◌, arith}
-use Rattle.std.specs.Prelude.{◌&&◌, ◌||◌, not, codes, nat_le, reverse, All, IfSome, FitsSigned}
-use Rattle.std.specs.Int.{w64}
-use Rattle.std.specs.List.{AllByRecursion, list_all, before_first, prefix_len}
+use Rattle.mag_text.proofs.Common.{◌≡◌, ◌<◌, ◌+◌, ◌==◌, ℕ, suc, pos, Bool, true, false, cond, List, [], ◌∷◌, ◌++◌, length, get_or, drop, map, Option}
+use Rattle.mag_text.proofs.Common.{Some, None, Ok, Err, refl, sym, ap, ◌∙◌, arith, ◌&&◌, ◌||◌, not, codes, nat_le, All, IfSome, w64, AllByRecursion}
+use Rattle.mag_text.proofs.Common.{list_all, and_parts, or_parts, nat_tests, ints, length-prefix_len, is_line_feed, number_of, words_of, is_blank}
+use Rattle.mag_text.proofs.Common.{from_first_word, IsWord, line_of, number_of-decimal, IsWord-test, words-decimals, and_then, LONGEST_LABEL}
+use Rattle.mag_text.proofs.Common.{OneLabel, LayerId, RawTech, is_in_range, IsLabel, is_text_byte, begins_with_blank, ends_with_blank, is_label_text}
+use Rattle.mag_text.proofs.Common.{is_position, has_sides, is_label_area, EmptyRect, Label, Four, if_touched, if_form, words_say, says}
+use Rattle.mag_text.proofs.Common.{label_numbers, layer_word, layer_at, first_name, IsWellFormed}
+use Rattle.std.specs.Prelude.{reverse, FitsSigned}
+use Rattle.std.specs.List.{before_first, prefix_len}
 use Rattle.std.proofs.Math.Numerals.{one-add}
 use Rattle.std.proofs.Math.Seq.{drop-append_seam}
-use Rattle.std.proofs.lemmas.Bool.{and_parts, or_parts}
-use Rattle.std.proofs.lemmas.Bool.Decides.{nat_tests}
-use Rattle.std.proofs.lemmas.Int.{ints}
 use Rattle.std.proofs.lemmas.List.{reverse-reverse}
-use Rattle.std.proofs.lemmas.List.Folds.{length-prefix_len}
 use Rattle.text_scan.specs.Decimal.{decimal}
-use Rattle.text_scan.specs.Lines.{is_line_feed}
-use Rattle.text_scan.specs.Numbers.{number_of}
-use Rattle.text_scan.specs.Words.{words_of, is_blank, from_first_word}
-use Rattle.text_scan.specs.Written.{IsWord, line_of}
-use Rattle.text_scan.proofs.DecimalLemmas.{number_of-decimal}
 use Rattle.text_scan.proofs.WordLemmas.{words_of-blank, words_of-at, from_first_word-in_word}
-use Rattle.text_scan.proofs.WrittenLemmas.{IsWord-test, words-decimals}
-use Rattle.text_form.specs.SaidLines.{and_then}
-use Rattle.tech_model.specs.declared.limits.TheConstants.{LONGEST_LABEL}
-use Rattle.tech_model.specs.declared.raw.Label.{Label as OneLabel}
-use Rattle.tech_model.specs.declared.raw.LayerId.{LayerId}
-use Rattle.tech_model.specs.declared.raw.RawTech.{RawTech}
-use Rattle.cell_library.specs.CellPaint.Painting.{is_in_range}
-use Rattle.cell_library.specs.CellBodies.Bodies.{IsLabel}
-use Rattle.cell_library.specs.CellBodies.Words.{is_text_byte, begins_with_blank, ends_with_blank, is_label_text, without_last_blanks, without_outer_blanks}
-use Rattle.cell_library.specs.CellBodies.Numbers.{is_position, has_sides, is_label_area}
+use Rattle.cell_library.specs.CellBodies.Words.{without_last_blanks, without_outer_blanks}
 use Rattle.cell_library.proofs.CellBodies.BlankLaws.{without_first_blanks-none}
-use Rattle.mag_text.specs.declared.faults.MagFault.TheVariants.{EmptyRect}
-use Rattle.mag_text.specs.declared.files.MagLine.TheVariants.{Label}
-use Rattle.mag_text.specs.NumberForms.{Four, rect_in, if_touched, position_in}
+use Rattle.mag_text.specs.NumberForms.{rect_in, position_in}
 use Rattle.mag_text.specs.WordForms.{after_word, after_words}
-use Rattle.mag_text.specs.LineForms.{if_form, label_layer_in, label_place, label_at, label_line_of, label_behind, label_line, label_text, line_by_key}
-use Rattle.mag_text.specs.LineForms.{words_say, says}
-use Rattle.mag_text.specs.WrittenTexts.{label_numbers, layer_word}
+use Rattle.mag_text.specs.LineForms.{label_layer_in, label_place, label_at, label_line_of, label_behind, label_line, label_text, line_by_key}
 use Rattle.mag_text.specs.WrittenTexts.{label_line as written_label}
-use Rattle.tech_model.specs.Types.{layer_at, first_name}
-use Rattle.tech_model.specs.WellFormed.{IsWellFormed}
 use Rattle.mag_text.proofs.LayerNames.{first_name-plain, label_layer-word}
 use Rattle.mag_text.proofs.ReadLines.{IsWord-plain_name, has_coordinates, coordinate_fits, rect-read}
 

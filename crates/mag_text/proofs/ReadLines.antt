@@ -1,43 +1,29 @@
 -- What written lines say by themselves.
-use Rattle.std.proofs.Common.{◌≡◌, ◌<◌, ◌==◌, ℕ, zero, suc, ℤ, pos, Bool, true, false, cond, List, [], ◌∷◌, length, get_or, drop, map, Ok, Err, FitsSigned}
-use Rattle.std.proofs.Common.{refl, sym, ap, ◌∙◌, subst, arith}
-use Rattle.std.specs.Prelude.{◌&&◌, not, codes, nat_le}
-use Rattle.std.specs.Int.{w64}
-use Rattle.std.specs.List.{AllByRecursion, list_all, before_first, position_or_len}
-use Rattle.std.proofs.lemmas.Bool.{and_parts}
-use Rattle.std.proofs.lemmas.Bool.Decides.{Decides-by_and, nat_tests}
-use Rattle.std.proofs.lemmas.Int.{ints}
-use Rattle.std.proofs.lemmas.List.Folds.{length-prefix_len}
-use Rattle.geo_core.specs.declared.grids.Grid.{Grid}
-use Rattle.geo_core.specs.declared.squares.Rect.{Rect}
-use Rattle.geo_core.specs.Areas.{has_square}
+use Rattle.mag_text.proofs.Common.{◌≡◌, ◌<◌, ◌==◌, ℕ, zero, suc, ℤ, pos, Bool, true, false, cond, List, [], ◌∷◌, length, get_or, drop, map, Ok, Err}
+use Rattle.mag_text.proofs.Common.{FitsSigned, refl, sym, ap, ◌∙◌, subst, arith, ◌&&◌, not, codes, nat_le, w64, AllByRecursion, list_all, and_parts}
+use Rattle.mag_text.proofs.Common.{Decides-by_and, nat_tests, ints, length-prefix_len, Grid, Rect, has_square, words_of, is_blank, from_first_word}
+use Rattle.mag_text.proofs.Common.{IsWord, line_of, number_of-decimal, IsWord-test, words_of-line_of, words-decimals, and_then, RawTech}
+use Rattle.mag_text.proofs.Common.{is_coordinate, is_in_range, is_use_id, matrix, is_orientation, is_plain_name, is_grid, is_placing}
+use Rattle.mag_text.proofs.Common.{are_few_elements, Range, EmptyRect, NoOrientation, Nothing, Area, Use, Array, Transform, Box, coordinate_in}
+use Rattle.mag_text.proofs.Common.{index_in, if_painted, grid_in, six_in, if_form, words_say, says, numbers_line}
+use Rattle.std.specs.List.{before_first, position_or_len}
 use Rattle.text_scan.specs.Decimal.{decimal}
-use Rattle.text_scan.specs.Words.{words_of, is_blank, from_first_word}
-use Rattle.text_scan.specs.Written.{is_separator, IsWord, line_of}
-use Rattle.text_scan.proofs.DecimalLemmas.{number_of-decimal}
+use Rattle.text_scan.specs.Written.{is_separator}
 use Rattle.text_scan.proofs.WordLemmas.{words_of-split, words_of-none}
-use Rattle.text_scan.proofs.WrittenLemmas.{IsWord-test, words_of-line_of, words-decimals}
-use Rattle.text_form.specs.SaidLines.{and_then}
-use Rattle.tech_model.specs.declared.raw.RawTech.{RawTech}
-use Rattle.cell_library.specs.CellPaint.Painting.{is_coordinate, is_in_range}
-use Rattle.cell_library.specs.CellBodies.Words.{is_use_id_byte, is_use_id}
+use Rattle.cell_library.specs.CellBodies.Words.{is_use_id_byte}
 use Rattle.ext_model.specs.declared.limits.TheConstants.{LONGEST_USE_ID}
 use Rattle.geo_core.proofs.OrientationLaws.{six_of-is_orientation}
 use Rattle.geo_core.specs.declared.orients.Orient.{Orient}
 use Rattle.geo_core.specs.declared.orients.Orient.TheVariants.{R0, R90, R180, R270, Mx, My, Mx90, My90}
 use Rattle.geo_core.specs.Images.{six_of}
-use Rattle.geo_core.specs.Orientation.{matrix, is_orientation}
-use Rattle.text_scan.specs.PlainNames.{is_plain_byte, is_plain_name}
+use Rattle.text_scan.specs.PlainNames.{is_plain_byte}
 use Rattle.text_scan.specs.declared.plain_name.TheConstants.{LONGEST_NAME}
-use Rattle.cell_library.specs.CellBodies.Numbers.{is_displacement, is_index, is_grid, is_placing, are_elements, are_indices, are_displacements}
-use Rattle.cell_library.specs.CellBodies.Numbers.{are_few_elements}
-use Rattle.mag_text.specs.declared.faults.MagFault.TheVariants.{Range, EmptyRect, Transform as NoOrientation}
-use Rattle.mag_text.specs.declared.files.MagLine.TheVariants.{Nothing, Area, Use, Array, Transform, Box}
-use Rattle.mag_text.specs.NumberForms.{if_in, coordinate_in, displacement_in, index_in, rect_in, if_painted, grid_in, six_in}
+use Rattle.cell_library.specs.CellBodies.Numbers.{is_displacement, is_index, are_elements, are_indices, are_displacements}
+use Rattle.mag_text.specs.NumberForms.{if_in, displacement_in, rect_in}
 use Rattle.mag_text.specs.WordForms.{after_word}
-use Rattle.mag_text.specs.LineForms.{if_form, if_four, if_six, four_numbers, six_numbers, area_line, use_line, array_line, transform_line, box_line}
-use Rattle.mag_text.specs.LineForms.{line_by_key, begins_with_hash, words_say, says}
-use Rattle.mag_text.specs.WrittenTexts.{numbers_line, edges_of, numbers_of_grid}
+use Rattle.mag_text.specs.LineForms.{if_four, if_six, four_numbers, six_numbers, area_line, use_line, array_line, transform_line, box_line}
+use Rattle.mag_text.specs.LineForms.{line_by_key, begins_with_hash}
+use Rattle.mag_text.specs.WrittenTexts.{edges_of, numbers_of_grid}
 
 has_word_by : (line key : List ℕ) (words : List (List ℕ)) (n : ℕ) → words_of line ≡ key ∷ words → length (from_first_word line) ≡ n → 0 < n
 has_word_by line key words zero is none =

@@ -1,35 +1,21 @@
 -- The text of a written cell has the lines that it was made of.
-use Rattle.std.proofs.Common.{◌≡◌, ◌==◌, ℕ, ℤ, pos, Bool, true, false, List, [], ◌∷◌, ◌++◌, length, get_or, map, Option, Some, None, Ok, refl, ap, ◌∙◌, arith}
-use Rattle.std.specs.Prelude.{◌&&◌, ◌||◌, not, codes, nat_le, flat_map, All, if◌then◌else◌}
-use Rattle.std.specs.List.{AllByRecursion, list_all}
-use Rattle.std.proofs.lemmas.Bool.{and_parts, or_parts}
-use Rattle.std.proofs.lemmas.Bool.Decides.{Decides-by_and, nat_tests}
+use Rattle.mag_text.proofs.Common.{◌≡◌, ◌==◌, ℕ, ℤ, pos, Bool, true, false, List, [], ◌∷◌, ◌++◌, length, get_or, map, Option, Some, None, Ok, refl}
+use Rattle.mag_text.proofs.Common.{ap, ◌∙◌, arith, ◌&&◌, ◌||◌, not, codes, nat_le, flat_map, All, AllByRecursion, list_all, and_parts, or_parts}
+use Rattle.mag_text.proofs.Common.{Decides-by_and, nat_tests, Grid, Rect, is_line_feed, is_blank, IsWord, line_of, IsWord-test, words-decimals}
+use Rattle.mag_text.proofs.Common.{text_state, LONGEST_LABEL, OneLabel, RawTech, layer_at, first_name, IsWellFormed, IsLabel, is_text_byte}
+use Rattle.mag_text.proofs.Common.{begins_with_blank, ends_with_blank, is_label_text, LayerStrips, WrittenUse, nothing_yet, step, finish}
+use Rattle.mag_text.proofs.Common.{numbers_line, scale_lines, no_time_line, header_lines, group_line, area_line, group_lines, layer_lines}
+use Rattle.mag_text.proofs.Common.{array_lines, transform_line, box_line, use_lines, layer_word, label_numbers, label_line, labels_lines, end_line}
+use Rattle.mag_text.proofs.Common.{cell_lines, AreWritable, IsWritableUse, IsWritable, draft_of}
+use Rattle.std.specs.Prelude.{if◌then◌else◌}
 use Rattle.std.proofs.lemmas.List.Elements.{All-append, All-cons}
 use Rattle.finite_sets.proofs.Searches.{AllByRecursion-append}
-use Rattle.geo_core.specs.declared.grids.Grid.{Grid}
-use Rattle.geo_core.specs.declared.squares.Rect.{Rect}
 use Rattle.text_scan.specs.Decimal.{decimal}
-use Rattle.text_scan.specs.Lines.{is_line_feed}
-use Rattle.text_scan.specs.Words.{is_blank}
-use Rattle.text_scan.specs.Written.{IsWord, IsLine, line_of}
-use Rattle.text_scan.proofs.WrittenLemmas.{IsWord-test, IsLine-plain, IsLine-line_of, lines_of-text_of, words-decimals}
-use Rattle.text_form.specs.Folds.{text_state}
+use Rattle.text_scan.specs.Written.{IsLine}
+use Rattle.text_scan.proofs.WrittenLemmas.{IsLine-plain, IsLine-line_of, lines_of-text_of}
 use Rattle.text_form.proofs.FoldLaws.{text_state-ended}
-use Rattle.tech_model.specs.declared.limits.TheConstants.{LONGEST_LABEL}
-use Rattle.tech_model.specs.declared.raw.Label.{Label as OneLabel}
-use Rattle.tech_model.specs.declared.raw.RawTech.{RawTech}
-use Rattle.tech_model.specs.Types.{layer_at, first_name}
-use Rattle.tech_model.specs.WellFormed.{IsWellFormed}
-use Rattle.cell_library.specs.CellBodies.Bodies.{IsLabel}
-use Rattle.cell_library.specs.CellBodies.Words.{is_text_byte, begins_with_blank, ends_with_blank, is_label_text}
-use Rattle.mag_text.specs.declared.written.LayerStrips.{LayerStrips}
-use Rattle.mag_text.specs.declared.written.WrittenUse.{WrittenUse}
-use Rattle.mag_text.specs.Drafts.{nothing_yet, step, finish}
 use Rattle.mag_text.specs.MagTexts.{mag_in}
-use Rattle.mag_text.specs.WrittenTexts.{numbers_line, scale_lines, no_time_line, header_lines, group_line, area_line, group_lines, layer_lines, array_lines}
-use Rattle.mag_text.specs.WrittenTexts.{transform_line, box_line, use_lines, layer_word, label_numbers, label_line, labels_lines, end_line, cell_lines}
 use Rattle.mag_text.specs.WrittenTexts.{mag_text}
-use Rattle.mag_text.specs.ReadBack.{AreWritable, IsWritableUse, IsWritable, draft_of}
 use Rattle.mag_text.proofs.LayerNames.{first_name-plain}
 use Rattle.mag_text.proofs.ReadLines.{IsWord-plain_name, IsWord-use_id}
 use Rattle.mag_text.proofs.ReadLabels.{layer_word-is}

@@ -1,12 +1,10 @@
 -- A text is refused exactly at its first faulty line, or at its end.
-use Rattle.std.proofs.Common.{◌≡◌, ◌↔◌, ℕ, List, Result, Ok, Err, inl, inr, refl, sym, ap, ◌∙◌}
-use Rattle.text_scan.specs.Lines.{lines_of}
+use Rattle.mag_text.proofs.Common.{◌≡◌, ℕ, List, Result, Ok, Err, inl, inr, refl, sym, ap, ◌∙◌, lines_of, text_state, RawTech, MagFault, Draft}
+use Rattle.mag_text.proofs.Common.{nothing_yet, step, finish}
+use Rattle.std.proofs.Common.{◌↔◌}
 use Rattle.text_form.specs.declared.reading.At.{At}
-use Rattle.text_form.specs.Folds.{fault_at, first_fault_or, last_number, ended_at, finished, text_state}
+use Rattle.text_form.specs.Folds.{fault_at, first_fault_or, last_number, ended_at, finished}
 use Rattle.text_form.proofs.FoldLaws.{first_fault_or-first, first_fault_or-refused}
-use Rattle.tech_model.specs.declared.raw.RawTech.{RawTech}
-use Rattle.mag_text.specs.declared.faults.MagFault.{MagFault}
-use Rattle.mag_text.specs.Drafts.{Draft, nothing_yet, step, finish}
 use Rattle.mag_text.specs.MagTexts.{mag_in, HasNoEnd, IsRefusedText}
 
 unended : (raw : RawTech) (lines : List (List ℕ)) (at : At MagFault) (draft : Draft) (found : Result Draft MagFault)

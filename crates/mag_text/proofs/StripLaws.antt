@@ -1,29 +1,15 @@
 -- The strips of a cell's paint can be written.
-use Rattle.std.proofs.Common.{◌≡◌, ◌≢◌, ◌<◌, ℕ, ℤ, suc, pos, true, List, [], ◌∷◌, length, get_or, refl, sym, ap, ◌∙◌, subst, arith}
-use Rattle.std.specs.Prelude.{◌-ℤ◌, ◌≤ℤ◌, ◌<ℤ◌, neg_ℤ, nat_le}
-use Rattle.std.specs.List.{AllByRecursion}
-use Rattle.std.proofs.lemmas.Bool.{and_parts}
-use Rattle.std.proofs.lemmas.Bool.Decides.{nat_tests}
-use Rattle.std.proofs.lemmas.Int.{ints}
+use Rattle.mag_text.proofs.Common.{◌≡◌, ◌<◌, ℕ, ℤ, suc, pos, true, List, [], ◌∷◌, length, get_or, refl, sym, ap, ◌∙◌, subst, arith, nat_le}
+use Rattle.mag_text.proofs.Common.{AllByRecursion, and_parts, nat_tests, ints, Rect, Square, has_square, HasValue, IsStrip, RawTech, is_type}
+use Rattle.mag_text.proofs.Common.{plane_of, no_layer, type_number, IsWellFormed, Layout, is_coordinate, is_in_range, LayerStrips, own_image}
+use Rattle.mag_text.proofs.Common.{AreAllStrips, OneLabel, WrittenUse, IsPaintable, AreWritable, IsPaintInRange, FitsText, IsReadAs}
+use Rattle.std.proofs.Common.{◌≢◌}
+use Rattle.std.specs.Prelude.{◌-ℤ◌, ◌≤ℤ◌, ◌<ℤ◌, neg_ℤ}
 use Rattle.finite_sets.proofs.Searches.{AllByRecursion-from_In}
 use Rattle.geo_core.specs.declared.limits.TheConstants.{PAINT_EDGE}
-use Rattle.geo_core.specs.declared.squares.Rect.{Rect}
-use Rattle.geo_core.specs.declared.squares.Square.{Square}
-use Rattle.geo_core.specs.Areas.{has_square}
-use Rattle.geo_core.specs.Planes.{HasValue}
-use Rattle.geo_core.specs.Strips.{IsStrip}
-use Rattle.tech_model.specs.declared.raw.RawTech.{RawTech}
-use Rattle.tech_model.specs.Types.{is_type, plane_of, no_layer, type_number}
-use Rattle.tech_model.specs.WellFormed.{IsWellFormed}
-use Rattle.cell_library.specs.LayoutModel.Layouts.{Layout}
-use Rattle.cell_library.specs.CellPaint.Painting.{is_coordinate, is_in_range, kinds_on, place_at}
-use Rattle.mag_text.specs.declared.written.LayerStrips.{LayerStrips}
-use Rattle.mag_text.specs.WrittenTexts.{own_image, AreAllStrips}
-use Rattle.tech_model.specs.declared.raw.Label.{Label as OneLabel}
-use Rattle.mag_text.specs.declared.written.WrittenUse.{WrittenUse}
+use Rattle.cell_library.specs.CellPaint.Painting.{kinds_on, place_at}
 use Rattle.mag_text.specs.MagTexts.{mag_in}
 use Rattle.mag_text.specs.WrittenTexts.{IsWrittenText}
-use Rattle.mag_text.specs.ReadBack.{IsPaintable, AreWritable, IsPaintInRange, FitsText, IsReadAs}
 use Rattle.mag_text.proofs.ReadText.{mag_in-mag_text}
 
 -- what holds at each place holds of each item

@@ -1,18 +1,12 @@
 -- The set of ids grows as the list of uses does.
-use Rattle.std.proofs.Common.{◌≡◌, ℕ, Bool, true, false, List, [], ◌∷◌, ◌++◌, refl, sym, ap, ◌∙◌}
-use Rattle.std.specs.Prelude.{◌||◌, not, Vec, MatchBool}
-use Rattle.std.specs.List.{list_any}
+use Rattle.mag_text.proofs.Common.{◌≡◌, ℕ, Bool, true, false, List, [], ◌∷◌, ◌++◌, refl, sym, ap, ◌∙◌, ◌||◌, not, list_any, bytes_eq, Global}
+use Rattle.mag_text.proofs.Common.{same_text, CellUse, ids_of, has_id}
+use Rattle.std.specs.Prelude.{Vec, MatchBool}
 use Rattle.std.specs.List.Sorted.{IsPermutation}
-use Rattle.std.specs.Str.{bytes_eq}
-use Rattle.std.specs.declared.alloc.Global.{Global}
-use Rattle.std.specs.Cmp.Lexicographic.{same_text}
 use Rattle.std.proofs.lemmas.List.{map-append}
 use Rattle.std.proofs.lemmas.List.Folds.{list_any-append}
 use Rattle.std.proofs.lemmas.List.Sorted.{list_any-IsPermutation}
-use Rattle.cell_library.specs.CellBodies.declared.bodies.CellUse.{CellUse}
-use Rattle.cell_library.specs.CellBodies.Bodies.{ids_of}
 use Rattle.mag_text.specs.steps.UseIds.{AreIds}
-use Rattle.mag_text.specs.Drafts.{has_id}
 
 abbrev is_word : List ℕ → Vec ℕ Global → Bool
 is_word id word = bytes_eq id word.items

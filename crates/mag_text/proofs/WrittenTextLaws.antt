@@ -1,25 +1,17 @@
 -- What is appended, one part behind the other, is the text.
-use Rattle.std.proofs.Common.{◌≡◌, ◌==◌, ◌+◌, ◌<◌, ℕ, ℤ, false, List, length, inl, inr, subst, arith, [], ◌∷◌, ◌++◌, map, refl, sym, ap, ◌∙◌, append_assoc}
-use Rattle.std.proofs.Common.{append-nil}
-use Rattle.std.specs.Prelude.{codes, flat_map}
+use Rattle.mag_text.proofs.Common.{◌≡◌, ◌==◌, ◌+◌, ◌<◌, ℕ, ℤ, false, List, length, inl, inr, subst, arith, [], ◌∷◌, ◌++◌, map, refl, sym, ap, ◌∙◌}
+use Rattle.mag_text.proofs.Common.{append_assoc, append-nil, codes, flat_map, Rect, get_or, line_of, RawTech, first_name, layer_at, Layout}
+use Rattle.mag_text.proofs.Common.{LayerStrips, WrittenUse, numbers_line, scale_lines, no_time_line, tech_line, header_lines, group_line, area_line}
+use Rattle.mag_text.proofs.Common.{group_lines, layer_lines, array_lines, use_line, use_lines, layer_word, label_numbers, label_line, AreLayerStrips}
+use Rattle.mag_text.proofs.Common.{labels_lines, end_line, numbers_behind_blanks, text_of_each, transform_line, box_line}
 use Rattle.std.specs.List.{join_with_byte}
-use Rattle.geo_core.specs.declared.squares.Rect.{Rect}
 use Rattle.std.proofs.lemmas.Bool.{cases_eq}
 use Rattle.std.proofs.lemmas.List.{length-append, get_or_push, get_or_append_left}
-use Rattle.std.proofs.Common.{get_or}
 use Rattle.text_scan.specs.Decimal.{decimal}
-use Rattle.text_scan.specs.Written.{line_of, text_of}
+use Rattle.text_scan.specs.Written.{text_of}
 use Rattle.text_scan.proofs.WrittenLemmas.{text_of-append, lines_behind}
 use Rattle.tech_model.specs.declared.raw.Label.{Label}
-use Rattle.tech_model.specs.declared.raw.RawTech.{RawTech}
-use Rattle.tech_model.specs.Types.{first_name, layer_at}
-use Rattle.cell_library.specs.LayoutModel.Layouts.{Layout}
-use Rattle.mag_text.specs.declared.written.LayerStrips.{LayerStrips}
-use Rattle.mag_text.specs.declared.written.WrittenUse.{WrittenUse}
-use Rattle.mag_text.specs.WrittenTexts.{numbers_line, scale_lines, no_time_line, tech_line, header_lines, group_line, area_line, group_lines, layer_lines}
-use Rattle.mag_text.specs.WrittenTexts.{array_lines, use_line, use_lines, layer_word, label_numbers, label_line, AreLayerStrips, labels_lines, end_line}
 use Rattle.mag_text.specs.WrittenTexts.{mag_text}
-use Rattle.mag_text.specs.WrittenTexts.{numbers_behind_blanks, text_of_each, transform_line, box_line}
 
 -- numbers behind a word
 numbers_behind : (word : List ℕ) (numbers : List ℤ) → join_with_byte 32 (word ∷ map decimal numbers) ≡ word ++ numbers_behind_blanks numbers

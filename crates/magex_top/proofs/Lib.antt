@@ -1,3 +1,4 @@
+mod Common
 mod OneLine
 mod RestLaws
 mod RunLaws

@@ -1,13 +1,10 @@
 -- Each line of a script has one effect in a sound run.
-use Rattle.std.proofs.Common.{◌≡◌, ℕ, ℤ, [], ap, sym, ◌∙◌, subst}
-use Rattle.std.specs.Prelude.{None, Some, Ok, Err, Option, Result}
-use Rattle.outside_io.specs.Files.{Files}
-use Rattle.session_model.specs.Effects.{Effect}
+use Rattle.magex_top.proofs.Common.{◌≡◌, ℕ, [], ap, sym, ◌∙◌, subst, Ok, Err, Result, Files, Effect, Command, LineFault, command_of, State}
+use Rattle.magex_top.proofs.Common.{CommandMeans, IsRunSession, ReadLineMeans, RunLineMeans, RunState, run_state_of, session_effect}
+use Rattle.std.proofs.Common.{ℤ}
+use Rattle.std.specs.Prelude.{None, Some, Option}
 use Rattle.session_model.specs.Scripts.{HasOneEffect, IsSoundState, MeansInSound}
-use Rattle.script_lines.specs.declared.commands.Command.{Command}
 use Rattle.script_lines.specs.declared.commands.Command.TheVariants as command
-use Rattle.script_lines.specs.declared.faults.LineFault.{LineFault}
-use Rattle.script_lines.specs.Commands.{command_of}
 use Rattle.line_answers.specs.LineEffects.{FreeEffect, LeavesState}
 use Rattle.library_commands.specs.LookCommands.declared.looks.Look.TheVariants as look
 use Rattle.extract_commands.specs.CircuitCommands.declared.circuits.CircuitFile.TheVariants as file
@@ -20,9 +17,7 @@ use Rattle.library_commands.specs.OneEffects.{CheckMeansOneEffect, EditMeansOneE
 use Rattle.library_commands.specs.OneEffects.{TechMeansOneEffect, WriteMeansOneEffect}
 use Rattle.library_commands.specs.declared.command_returns.Way.TheVariants as way
 use Rattle.library_commands.specs.Workspace.KeptSessions.{SeesSoundLibrary}
-use Rattle.library_commands.specs.Workspace.States.{State}
 use Rattle.library_commands.proofs.SessionLaws.{library_is_seen}
-use Rattle.magex_top.specs.Sessions.{CommandMeans, IsRunSession, ReadLineMeans, RunLineMeans, RunState, run_state_of, session_effect}
 
 -- the effects of commands that leave the state are as those of the commands alone
 one_free : (state : State) (Means : FreeEffect → Type 0) → ((effect other : FreeEffect) → Means effect → Means other → effect ≡ other)

@@ -1,23 +1,16 @@
 -- What a line does rests on the files alone that it fetches, and so a run that was cut short is made good by another.
-use Rattle.std.proofs.Common.{◌≡◌, ◌∙◌, ℕ, Bool, true, false, List, [], Option, Some, None, refl, ap, subst}
-use Rattle.std.specs.Prelude.{nat_lt, length, MatchBool, MatchOption, Result, Ok, Err}
-use Rattle.text_scan.specs.Lines.{lines_of}
-use Rattle.outside_io.specs.Files.{Files}
-use Rattle.outside_io.specs.declared.limits.TheConstants.{LONGEST_FILE}
-use Rattle.run_words.specs.declared.words.RunWords.{RunWords}
-use Rattle.run_words.specs.RunWords.{words_of}
+use Rattle.magex_top.proofs.Common.{◌≡◌, ◌∙◌, ℕ, [], Option, Some, refl, ap, subst, Result, Ok, Err, lines_of, Files, LONGEST_FILE, RunWords}
+use Rattle.magex_top.proofs.Common.{words_of, Effect, with_stores, WholeSession, stores_in, Command, LineFault, command_of, State, Status}
+use Rattle.magex_top.proofs.Common.{CommandMeans, ReadLineMeans, RunLineMeans, first_run, session_effect}
+use Rattle.std.proofs.Common.{Bool, true, false, List, None}
+use Rattle.std.specs.Prelude.{nat_lt, length, MatchBool, MatchOption}
 use Rattle.session_model.specs.declared.answer.Store.{Store}
-use Rattle.session_model.specs.Effects.{Effect, with_stores}
 use Rattle.session_model.specs.Fetches.{AgreeOn}
 use Rattle.session_model.specs.Progress.{StoresSome}
 use Rattle.session_model.specs.Reruns.{FetchesNoneStored, RestsOnFetched}
-use Rattle.session_model.specs.Scripts.{WholeSession, stores_in}
 use Rattle.session_model.proofs.RerunLaws.{made_good}
-use Rattle.script_lines.specs.declared.commands.Command.{Command}
 use Rattle.script_lines.specs.declared.commands.Command.TheVariants.{Tech, Load, New, Edit, Paint, Erase, Place, Array, Move, Delete, Label, Unlabel}
 use Rattle.script_lines.specs.declared.commands.Command.TheVariants.{Undo, Redo, Save, Squares, Drc, Cif, Cifstat, Nodes, Extract, Flat, Sim, Ext2sim, Vectors, Grade, Simrun, Generate}
-use Rattle.script_lines.specs.declared.faults.LineFault.{LineFault}
-use Rattle.script_lines.specs.Commands.{command_of}
 use Rattle.extract_commands.proofs.CircuitCommands.RestLaws.{ext2sim_rests}
 use Rattle.extract_commands.proofs.NetworkCommands.RestLaws.{simrun_rests}
 use Rattle.extract_commands.specs.declared.command_vectors.VectorQuestion.TheVariants as question
@@ -25,10 +18,7 @@ use Rattle.extract_commands.proofs.RestLaws.{vectors_rest}
 use Rattle.library_commands.proofs.CifCommands.RestLaws.{cifstat_rests}
 use Rattle.library_commands.proofs.OneChecks.{check_rests}
 use Rattle.library_commands.proofs.RestLaws.{load_rests, tech_rests}
-use Rattle.library_commands.specs.Workspace.States.{State}
-use Rattle.magex_top.specs.declared.status.Status.{Status}
 use Rattle.magex_top.specs.Runs.{IsScriptSession, SessionsAreMadeGood, long_session, usage_session}
-use Rattle.magex_top.specs.Sessions.{CommandMeans, ReadLineMeans, RunLineMeans, first_run, session_effect}
 
 -- most commands read no file
 command_rests : (budget number : ℕ) (state : State) (files others : Files) (command : Command) (effect : Effect State)

@@ -1,32 +1,25 @@
 -- What a run means in each case of its words and its script.
-use Rattle.std.proofs.Common.{◌≡◌, ℕ, ◌<◌, ◌≤◌, ◌∙◌, inl, inr, List, [], ◌∷◌, ◌++◌, length, Some, None, refl, sym, ap, subst, Option, arith}
+use Rattle.magex_top.proofs.Common.{◌≡◌, ℕ, ◌∙◌, [], ◌∷◌, Some, refl, sym, ap, subst, Option, arith, is_some, Err, lines_of, Files, LONGEST_FILE}
+use Rattle.magex_top.proofs.Common.{Halt, Effect, with_stores, IsCutShort, Progress, is_told, text_of, WholeSession, lines_in, stores_in, Status}
+use Rattle.magex_top.proofs.Common.{Done, Told, WriteFault, RunWords, words_of, is_quiet, usage_text, IsRunSession, RunLineMeans, RunState}
+use Rattle.magex_top.proofs.Common.{first_run, run_state_of, reply, status_of}
+use Rattle.std.proofs.Common.{◌<◌, ◌≤◌, inl, inr, List, ◌++◌, length, None}
 use Rattle.std.proofs.lemmas.Bool.Decides.{nat_tests}
 use Rattle.std.proofs.lemmas.List.{append-nil}
-use Rattle.std.specs.Prelude.{nat_lt, if◌then◌else◌, is_some, Bool, IsErrOf, MatchBool, MatchOption, true, false, Err}
-use Rattle.text_scan.specs.Lines.{lines_of}
-use Rattle.outside_io.specs.Files.{Files}
+use Rattle.std.specs.Prelude.{nat_lt, if◌then◌else◌, Bool, IsErrOf, MatchBool, MatchOption, true, false}
 use Rattle.outside_io.specs.ToldBytes.{ToldBytes}
-use Rattle.outside_io.specs.declared.limits.TheConstants.{LONGEST_FILE}
 use Rattle.session_model.specs.declared.report.ReportLine.{ReportLine}
 use Rattle.outside_io.specs.declared.outside.Shelf.{Ghosts as ShelfWords}
-use Rattle.session_model.specs.declared.answer.Halt.{Halt}
 use Rattle.session_model.specs.declared.answer.Halt.TheVariants as halt
 use Rattle.session_model.specs.Causes.{UnlessReadFault, UnlessWriteFault}
 use Rattle.session_model.specs.Counted.{AreCounted}
-use Rattle.session_model.specs.Effects.{Effect, with_stores}
-use Rattle.session_model.specs.Progress.{BeginsNext, DoesFirst, IsCutShort, IsPrefixOf, Progress}
-use Rattle.session_model.specs.Reports.{is_told, report_of, text_of}
-use Rattle.session_model.specs.Scripts.{Act, LinesMean, MeansInSound, ScriptActs, WholeSession, lines_in, stores_in}
+use Rattle.session_model.specs.Progress.{BeginsNext, DoesFirst, IsPrefixOf}
+use Rattle.session_model.specs.Reports.{report_of}
+use Rattle.session_model.specs.Scripts.{Act, LinesMean, MeansInSound, ScriptActs}
 use Rattle.session_model.proofs.ProgressLaws.{DoesPart-weaker, LinesMean-weaker, Progress-weaker}
 use Rattle.session_model.proofs.SessionLaws.{no_stores}
-use Rattle.magex_top.specs.declared.status.Status.{Status}
-use Rattle.magex_top.specs.declared.status.Status.TheVariants.{Done, Told, ReadFault, WriteFault}
-use Rattle.run_words.specs.declared.words.RunWords.{RunWords}
-use Rattle.run_words.specs.RunWords.{words_of}
-use Rattle.magex_top.specs.Runs.{IsScriptSession, IsSessionOf, RunReaches, is_quiet, long_session, usage_session, usage_text}
-use Rattle.magex_top.specs.Sessions.{IsRunSession, RunLineMeans, RunState, first_run, run_state_of}
-use Rattle.line_answers.specs.LineEffects.{reply}
-use Rattle.magex_top.specs.Statuses.{status_of}
+use Rattle.magex_top.specs.declared.status.Status.TheVariants.{ReadFault}
+use Rattle.magex_top.specs.Runs.{IsScriptSession, IsSessionOf, RunReaches, long_session, usage_session}
 
 -- what is not too long passes no test of it
 fits_test : (n : ℕ) → n ≤ LONGEST_FILE → nat_lt LONGEST_FILE n ≡ false

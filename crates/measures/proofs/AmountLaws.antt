@@ -1,26 +1,20 @@
 -- The amounts of tiles and contacts, summed by region, are what their regions measure.
-use Rattle.std.proofs.Common.{◌≡◌, ℕ, ◌+◌, ◌<◌, ℤ, pos, ◌+ℤ◌, ◌-ℤ◌, ◌*ℤ◌, ◌<ℤ◌, Bool, true, false, cond, eqb, ◌&&◌, List, [], ◌∷◌, ◌++◌, map, length, get_or}
-use Rattle.std.proofs.Common.{inl, inr, refl, sym, ◌∙◌, ap, subst, arith, append_assoc}
-use Rattle.std.specs.Prelude.{All}
-use Rattle.std.proofs.lemmas.Int.{ints}
-use Rattle.std.proofs.lemmas.List.{get_or-map, length-map, ext_get_or}
+use Rattle.measures.proofs.Common.{◌≡◌, ℕ, ◌<◌, ℤ, pos, ◌-ℤ◌, ◌*ℤ◌, List, [], ◌∷◌, ◌++◌, map, length, get_or, refl, sym, ◌∙◌, ap, subst, arith, All}
+use Rattle.measures.proofs.Common.{ints, get_or-map, length-map, In, Lists, sum_on, one_if, All-from_In, IsNear, Amount, Contact, RegionTile}
+use Rattle.measures.proofs.Common.{area_amounts, perimeter_amounts, shared_amounts}
+use Rattle.std.proofs.Common.{◌+◌, ◌+ℤ◌, ◌<ℤ◌, Bool, true, false, cond, eqb, ◌&&◌}
+use Rattle.std.proofs.Common.{inl, inr, append_assoc}
+use Rattle.std.proofs.lemmas.List.{ext_get_or}
 use Rattle.std.proofs.lemmas.List.Elements.{All-map, All-append}
 use Rattle.std.proofs.lemmas.List.FromFn.{length-range_with_len, get_or-range_with_len}
-use Rattle.geo_core.specs.FiniteSets.Lists.{In, Lists}
-use Rattle.geo_core.specs.FiniteSets.Total.{sum_on, one_if}
 use Rattle.geo_core.proofs.FiniteSets.Members.{In-get_or}
-use Rattle.geo_core.proofs.FiniteSets.Searches.{All-from_In}
 use Rattle.geo_core.proofs.FiniteSets.Sums.{sum_on-append, sum_on-map, sum_on-same}
-use Rattle.geo_core.specs.Areas.{IsNear}
 use Rattle.geo_core.specs.Covering.{IsProper}
-use Rattle.key_sums.specs.declared.Amount.{Amount}
 use Rattle.key_sums.specs.Amounts.{counts_for, sum_of}
-use Rattle.flood_nodes.specs.RectContacts.declared.contacts.Contact.{Contact}
 use Rattle.flood_nodes.specs.RectContacts.Squares.{area_of, perimeter_of}
-use Rattle.layout_model.specs.declared.region_tiles.RegionTile.{RegionTile}
 use Rattle.flood_nodes.specs.SoundTiles.{IsSoundTile}
 use Rattle.flood_nodes.specs.TileShares.{no_tile, tile_at, indices_of, IsTileContact, is_of, open_by_contacts}
-use Rattle.measures.specs.steps.Sizes.{area_in, perimeter_in, shared_in, area_amounts, perimeter_amounts, shared_amounts}
+use Rattle.measures.specs.steps.Sizes.{area_in, perimeter_in, shared_in}
 
 -- one contact more
 pub shared_amounts-append : (contains : ℕ → Bool) (tiles : List RegionTile) (xs ys : List Contact)

@@ -1,20 +1,15 @@
 -- Areas and perimeters of places between the edges of planes are small.
-use Rattle.std.proofs.Common.{◌≡◌, ◌*◌, ◌^◌, ◌<◌, ◌≤◌, ℕ, ℤ, pos, neg_ℤ, ◌*ℤ◌, ◌≤ℤ◌, Bool, true, false, not, cond, List, [], ◌∷◌, map, length}
-use Rattle.std.proofs.Common.{inl, inr, ◌∙◌, ap, subst, arith}
-use Rattle.std.specs.Prelude.{All}
-use Rattle.std.proofs.lemmas.Int.{ints}
-use Rattle.std.proofs.lemmas.List.{length-map}
-use Rattle.geo_core.specs.FiniteSets.Lists.{In, Distinct, Lists}
+use Rattle.measures.proofs.Common.{◌≡◌, ◌<◌, ℕ, ℤ, pos, ◌*ℤ◌, List, [], ◌∷◌, map, length, ◌∙◌, ap, subst, arith, All, ints, length-map, In, Lists}
+use Rattle.measures.proofs.Common.{sum_on, one_if, All-from_In, Layout, area_at, perimeter_at, IsArea, IsPerimeter, AreMeasures}
+use Rattle.std.proofs.Common.{◌*◌, ◌^◌, ◌≤◌, neg_ℤ, ◌≤ℤ◌, Bool, true, false, not, cond}
+use Rattle.std.proofs.Common.{inl, inr}
+use Rattle.geo_core.specs.FiniteSets.Lists.{Distinct}
 use Rattle.geo_core.specs.FiniteSets.Range.{IsBetween, nonnegative_part, extent, integer_range, pairs_of}
-use Rattle.geo_core.specs.FiniteSets.Total.{sum_on, Total, one_if}
+use Rattle.geo_core.specs.FiniteSets.Total.{Total}
 use Rattle.geo_core.proofs.FiniteSets.Distincts.{Distinct-map, length-distinct}
 use Rattle.geo_core.proofs.FiniteSets.Members.{In-map_source}
 use Rattle.geo_core.proofs.FiniteSets.Ranges.{extent_up, Lists-integer_range, Lists-pairs_of, length-integer_range, length-pairs_of}
-use Rattle.geo_core.proofs.FiniteSets.Searches.{All-from_In}
 use Rattle.geo_core.proofs.FiniteSets.Totals.{Total-count, Total-le, Total-scale}
-use Rattle.layout_model.specs.Layouts.{Layout}
-use Rattle.layout_model.specs.Measures.{area_at, perimeter_at, IsArea, IsPerimeter}
-use Rattle.layout_model.specs.Nodes.{AreMeasures}
 use Rattle.layout_model.specs.Places.{Place, neighbours}
 use Rattle.layout_model.specs.Technologies.{Class}
 use Rattle.measures.specs.Bounds.{IsNearPlace, IsSmallMeasure}

@@ -1,34 +1,25 @@
 -- Columns of measures are the measures of regions.
-use Rattle.std.proofs.Common.{◌≡◌, ℕ, suc, ◌+◌, ◌<◌, ℤ, pos, Bool, true, false, eqb, List, [], ◌∷◌, ◌++◌, map, take, length, get_or, IsTrue, inl, inr}
-use Rattle.std.proofs.Common.{refl, sym, ◌∙◌, ap, subst, arith}
-use Rattle.std.specs.Prelude.{All}
+use Rattle.measures.proofs.Common.{◌≡◌, ℕ, ◌<◌, ℤ, pos, List, [], ◌∷◌, ◌++◌, map, take, length, get_or, refl, sym, ◌∙◌, ap, subst, arith, All, In}
+use Rattle.measures.proofs.Common.{Lists, ClassRec, Contact, RegionTile, Layout, area_at, perimeter_at, IsArea, IsPerimeter, AreMeasures}
+use Rattle.measures.proofs.Common.{AreLayoutTiles, AreMeasured, class_of, Column, IsColumn, AreColumns, pairs_at}
+use Rattle.std.proofs.Common.{suc, ◌+◌, Bool, true, false, eqb, IsTrue, inl, inr}
 use Rattle.std.specs.List.{list_any}
 use Rattle.std.proofs.lemmas.Bool.{cases_Bool, cases_lt, false≢true}
 use Rattle.std.proofs.lemmas.List.{get_or-take, get_or_append_left, get_or_default, get_or_push, length-append, length-take-le}
 use Rattle.std.proofs.lemmas.Option.{get_or_from_slice_get, slice_get_within}
-use Rattle.geo_core.specs.FiniteSets.Lists.{In, Lists}
 use Rattle.geo_core.proofs.FiniteSets.Members.{In-index}
 use Rattle.geo_core.proofs.FiniteSets.Totals.{Total-at, Total-iff}
 use Rattle.geo_core.proofs.FiniteSets.Searches.{list_any-fails}
-use Rattle.tech_model.specs.declared.raw.ClassRec.{ClassRec}
 use Rattle.tech_model.specs.declared.raw.RawTech.{RawTech}
 use Rattle.tech_model.specs.declared.raw.TypeId.{TypeId}
 use Rattle.tech_model.specs.Types.{is_type}
 use Rattle.tech_model.specs.WellFormed.{IsClass, IsWellFormed}
-use Rattle.flood_nodes.specs.RectContacts.declared.contacts.Contact.{Contact}
-use Rattle.layout_model.specs.declared.region_tiles.RegionTile.{RegionTile}
 use Rattle.layout_model.specs.Places.{Place}
-use Rattle.layout_model.specs.Layouts.{Layout}
-use Rattle.layout_model.specs.Measures.{area_at, perimeter_at, IsArea, IsPerimeter}
-use Rattle.layout_model.specs.Nodes.{AreMeasures}
-use Rattle.layout_model.specs.RegionTiles.{AreLayoutTiles, IsInRegion, AreMeasured}
-use Rattle.layout_model.specs.Technologies.{class_of}
+use Rattle.layout_model.specs.RegionTiles.{IsInRegion}
 use Rattle.flood_nodes.specs.TileShares.{no_tile, tile_at, IsTileContact, IsInTiles}
 use Rattle.flood_nodes.proofs.OpenEdges.{tiles_area, tiles_measure}
 use Rattle.flood_nodes.proofs.ShareLaws.{one_plane}
 use Rattle.flood_nodes.proofs.StackLaws.{same_from_test}
-use Rattle.measures.specs.declared.columns.Column.{Column}
-use Rattle.measures.specs.steps.Columns.{IsColumn, AreColumns, pairs_at}
 use Rattle.measures.proofs.AmountLaws.{from, area_sum, open_sum}
 
 -- space is of no class

@@ -1,12 +1,10 @@
 -- How large the area and the perimeter of a near rectangle are.
-use Rattle.std.proofs.Common.{◌≡◌, ◌^◌, ◌<◌, ◌≤◌, ℤ, pos, negsuc, ◌-ℤ◌, ◌*ℤ◌, ◌≤ℤ◌, ◌<ℤ◌, to_z, of_z, arith, sym, ◌∙◌, subst}
-use Rattle.std.specs.Int.{w64}
+use Rattle.measures.proofs.Common.{◌≡◌, ◌<◌, ℤ, pos, ◌-ℤ◌, ◌*ℤ◌, to_z, of_z, arith, sym, ◌∙◌, subst, w64, ints, to_z-of_z, IsNear}
+use Rattle.std.proofs.Common.{◌^◌, ◌≤◌, negsuc, ◌≤ℤ◌, ◌<ℤ◌}
 use Rattle.std.specs.Int.RustNames.{FitsSigned}
 use Rattle.std.proofs.Math.Nat.{mul-le-mul_left}
-use Rattle.std.proofs.lemmas.Int.{ints, to_z-of_z}
 use Rattle.geo_core.specs.declared.squares.Rect.{Rect}
 use Rattle.geo_core.specs.Covering.{IsProper}
-use Rattle.geo_core.specs.Areas.{IsNear}
 use Rattle.flood_nodes.specs.RectContacts.Squares.{area_of}
 
 -- a number from 0 on and below 2^58

@@ -1,14 +1,7 @@
 -- What places and edges count in the flat layout less what they count in the parts: nothing where parts do not meet.
-use Rattle.std.proofs.Common.{◌≡◌, ℕ, ℤ, pos, ◌-ℤ◌, List, slice_get, sym, ap, ◌∙◌, arith}
-use Rattle.std.specs.Prelude.{Some}
-use Rattle.std.proofs.lemmas.Int.{ints}
-use Rattle.tech_model.specs.FiniteSets.Total.{sum_on}
-use Rattle.tech_model.specs.declared.raw.RawTech.{RawTech}
-use Rattle.hierarchy_model.specs.LayoutModel.Places.{Place}
-use Rattle.hierarchy_model.specs.Offences.Offences.{SetLayout}
-use Rattle.hierarchy_model.specs.Restrictions.{PartStands}
-use Rattle.hierarchy_model.proofs.PartSearch.{NoneStands, empty_there}
-use Rattle.meeting_laws.specs.PartLayouts.{part_layout, parts_layout}
+use Rattle.meeting_laws.proofs.Common.{◌≡◌, ℕ, ℤ, pos, ◌-ℤ◌, List, slice_get, sym, ap, ◌∙◌, arith, Some, ints, sum_on, RawTech, Place, SetLayout}
+use Rattle.meeting_laws.proofs.Common.{PartStands, NoneStands, part_layout, parts_layout}
+use Rattle.hierarchy_model.proofs.PartSearch.{empty_there}
 use Rattle.meeting_laws.proofs.LinkLaws.{StandsAtMost, part_of_empty, layout_of_none, layout_of_one}
 use Rattle.meeting_laws.proofs.ListSums.{sum_by_position, sum_of_none, sum_of_one}
 

@@ -5,6 +5,7 @@ pub use Rattle.hierarchy_model.proofs.Offences as Offences
 pub use Rattle.tree_records.proofs.CellNodes as CellNodes
 pub use Rattle.hierarchy_model.proofs as HierarchyModel
 pub use Rattle.tree_records.proofs as TreeRecords
+mod Common
 pub mod LinkLaws
 mod ListSums
 mod ExcessLaws

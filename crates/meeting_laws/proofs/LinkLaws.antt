@@ -1,19 +1,12 @@
 -- Links of the flat layout: each is one of a part, or leads from one square at which parts meet to another.
-use Rattle.std.proofs.Common.{◌≡◌, ◌≢◌, ◌⊎◌, ℕ, List, slice_get, inl, inr, sym, ap, ◌∙◌}
-use Rattle.std.specs.Prelude.{Some}
+use Rattle.meeting_laws.proofs.Common.{◌≡◌, ◌≢◌, ◌⊎◌, ℕ, List, slice_get, inl, inr, sym, ap, ◌∙◌, Some, Square, RawTech, connects, or_space}
+use Rattle.meeting_laws.proofs.Common.{IsMaterial, Place, SetLayout, PartStands, NoneStands, who_stands, part_layout, parts_layout}
 use Rattle.std.proofs.lemmas.Bool.{cases_eq}
-use Rattle.tech_model.specs.GeoCore.declared.squares.Square.{Square}
-use Rattle.tech_model.specs.declared.raw.RawTech.{RawTech}
-use Rattle.tech_model.specs.Types.{connects}
-use Rattle.hierarchy_model.specs.LayoutModel.LayerTypes.{or_space}
-use Rattle.hierarchy_model.specs.LayoutModel.Layouts.{IsMaterial}
 use Rattle.hierarchy_model.specs.LayoutModel.Links.{AreLinked}
-use Rattle.hierarchy_model.specs.LayoutModel.Places.{Place, AreNeighbours, AreStacked}
+use Rattle.hierarchy_model.specs.LayoutModel.Places.{AreNeighbours, AreStacked}
 use Rattle.hierarchy_model.proofs.LayoutModel.PlaceLaws.{AreNeighbours-sym, AreStacked-sym}
-use Rattle.hierarchy_model.specs.Offences.Offences.{SetLayout}
-use Rattle.hierarchy_model.specs.Restrictions.{PartStands}
-use Rattle.hierarchy_model.proofs.PartSearch.{NoneStands, TwoStand, who_stands, flat_of_none, flat_of_one, type_of_empty}
-use Rattle.meeting_laws.specs.PartLayouts.{part_layout, parts_layout, HoldsAllMeetings, IsPartLink}
+use Rattle.hierarchy_model.proofs.PartSearch.{TwoStand, flat_of_none, flat_of_one, type_of_empty}
+use Rattle.meeting_laws.specs.PartLayouts.{HoldsAllMeetings, IsPartLink}
 
 -- The places are edge neighbours, or one square on two planes.
 abbrev pub AreNear : Place → Place → Type 0

@@ -1,8 +1,6 @@
 -- Sums over lists of which few things count, and over lists that are alike.
-use Rattle.std.proofs.Common.{◌≡◌, ◌≢◌, ℕ, zero, suc, ℤ, pos, ◌+ℤ◌, List, [], ◌∷◌, map, slice_get, refl, sym, ap, ◌∙◌, arith}
-use Rattle.std.specs.Prelude.{Some}
-use Rattle.std.proofs.lemmas.Int.{ints}
-use Rattle.tech_model.specs.FiniteSets.Total.{sum_on}
+use Rattle.meeting_laws.proofs.Common.{◌≡◌, ◌≢◌, ℕ, ℤ, pos, List, slice_get, sym, ap, ◌∙◌, arith, Some, ints, sum_on}
+use Rattle.std.proofs.Common.{zero, suc, ◌+ℤ◌, [], ◌∷◌, map, refl}
 use Rattle.tech_model.proofs.FiniteSets.Sums.{sum_on-map, sum_on-zero}
 
 -- weights that agree at each position of the list

@@ -1,21 +1,15 @@
 -- Links of parts are links of the flat layout where no place offends, and so are those of restricted parts.
-use Rattle.std.proofs.Common.{◌≡◌, ℕ, List, slice_get, inl, inr, sym, ap, subst, ◌∙◌, IsTrue}
-use Rattle.std.specs.Prelude.{Some}
+use Rattle.meeting_laws.proofs.Common.{◌≡◌, ℕ, List, slice_get, inl, inr, sym, ap, ◌∙◌, Some, Square, RawTech, connects, joined, or_space}
+use Rattle.meeting_laws.proofs.Common.{IsMaterial, Place, SetLayout, IsRestriction, part_layout, parts_layout}
+use Rattle.std.proofs.Common.{subst, IsTrue}
 use Rattle.tech_model.proofs.FiniteSets.Chains.{Chain-weaker}
-use Rattle.tech_model.specs.GeoCore.declared.squares.Square.{Square}
-use Rattle.tech_model.specs.declared.raw.RawTech.{RawTech}
 use Rattle.tech_model.specs.Rules.{KeepsRules}
-use Rattle.tech_model.specs.Types.{connects, is_within, joined}
-use Rattle.hierarchy_model.specs.LayoutModel.LayerTypes.{or_space}
-use Rattle.hierarchy_model.specs.LayoutModel.Layouts.{IsMaterial}
+use Rattle.tech_model.specs.Types.{is_within}
 use Rattle.hierarchy_model.specs.LayoutModel.Links.{AreLinked, AreOneNode}
-use Rattle.hierarchy_model.specs.LayoutModel.Places.{Place}
-use Rattle.hierarchy_model.specs.Offences.Offences.{SetLayout, joined_at, Offends}
-use Rattle.hierarchy_model.specs.Restrictions.{IsRestriction}
+use Rattle.hierarchy_model.specs.Offences.Offences.{joined_at, Offends}
 use Rattle.hierarchy_model.proofs.CleanLaws.{part_within}
 use Rattle.hierarchy_model.proofs.KindLaws.{defined_or_not}
 use Rattle.tech_model.proofs.WithinLaws.{within_space}
-use Rattle.meeting_laws.specs.PartLayouts.{part_layout, parts_layout}
 use Rattle.meeting_laws.proofs.RestrictionLaws.{layout_inside}
 
 -- where no place offends the type of a part is within the flat type

@@ -1,20 +1,17 @@
 -- What is counted by types of places and of edges is counted where parts meet, and so are area, perimeter and capacitance.
-use Rattle.std.proofs.Common.{◌≡◌, ℕ, suc, ℤ, pos, ◌+ℤ◌, ◌-ℤ◌, Bool, true, false, List, [], ◌∷◌, if◌then◌else◌, refl, sym, ap, ◌∙◌, arith}
+use Rattle.meeting_laws.proofs.Common.{◌≡◌, ℕ, ℤ, pos, ◌-ℤ◌, List, sym, ap, ◌∙◌, arith, ints, sum_on, Square, RawTech, Place, SetLayout}
+use Rattle.meeting_laws.proofs.Common.{IsRestriction, part_layout, parts_layout}
+use Rattle.std.proofs.Common.{suc, ◌+ℤ◌, Bool, true, false, [], ◌∷◌, if◌then◌else◌, refl}
 use Rattle.std.specs.Prelude.{◌*ℤ◌, All, not}
-use Rattle.std.proofs.lemmas.Int.{ints}
 use Rattle.std.proofs.Math.IntN.{zero-*ℤ}
-use Rattle.tech_model.specs.FiniteSets.Total.{sum_on, one_if}
+use Rattle.tech_model.specs.FiniteSets.Total.{one_if}
 use Rattle.tech_model.proofs.FiniteSets.Sums.{sum_on-add, sum_on-sub, sum_on-swap, sum_on-same, sum_on-zero, sum_on-nothing, sum_on-scale_right}
-use Rattle.tech_model.specs.GeoCore.declared.squares.Square.{Square}
-use Rattle.tech_model.specs.declared.raw.RawTech.{RawTech}
 use Rattle.hierarchy_model.specs.LayoutModel.Layouts.{Layout}
-use Rattle.hierarchy_model.specs.LayoutModel.Places.{Place, neighbours}
+use Rattle.hierarchy_model.specs.LayoutModel.Places.{neighbours}
 use Rattle.hierarchy_model.specs.LayoutModel.Technologies.{Class}
 use Rattle.tree_records.proofs.FloodNodes.OpenEdges.{Lists-neighbours}
-use Rattle.hierarchy_model.specs.Offences.Offences.{SetLayout}
-use Rattle.hierarchy_model.specs.Restrictions.{IsRestriction}
 use Rattle.tree_records.specs.PlaceWeights.{PlaceWeight, area_weight, perimeter_weight, capacitance_weight}
-use Rattle.meeting_laws.specs.PartLayouts.{part_layout, parts_layout, HoldsAllMeetings, excess}
+use Rattle.meeting_laws.specs.PartLayouts.{HoldsAllMeetings, excess}
 use Rattle.meeting_laws.specs.Laws.{IsCountedWithin}
 use Rattle.meeting_laws.proofs.ListSums.{sum_by_position}
 use Rattle.meeting_laws.proofs.ExcessLaws.{place_excess, edge_excess}

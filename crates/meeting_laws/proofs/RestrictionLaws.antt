@@ -1,16 +1,11 @@
 -- Parts restricted to the squares at which they meet: their flat layout, and what it counts beyond them.
-use Rattle.std.proofs.Common.{◌≡◌, ◌⊎◌, ℕ, ℤ, pos, ◌-ℤ◌, List, [], ◌∷◌, map, bit_or, inl, inr, refl, sym, ap, ◌∙◌}
-use Rattle.tech_model.specs.FiniteSets.Total.{sum_on}
+use Rattle.meeting_laws.proofs.Common.{◌≡◌, ◌⊎◌, ℕ, ℤ, pos, ◌-ℤ◌, List, inl, inr, sym, ap, ◌∙◌, sum_on, Square, RawTech, joined, or_space, Place}
+use Rattle.meeting_laws.proofs.Common.{SetLayout, PartStands, IsRestriction, NoneStands, who_stands, part_layout, parts_layout}
+use Rattle.std.proofs.Common.{[], ◌∷◌, map, bit_or, refl}
 use Rattle.tech_model.proofs.FiniteSets.Places.{map-pointwise}
-use Rattle.tech_model.specs.GeoCore.declared.squares.Square.{Square}
-use Rattle.tech_model.specs.declared.raw.RawTech.{RawTech}
-use Rattle.tech_model.specs.Types.{joined}
-use Rattle.hierarchy_model.specs.LayoutModel.LayerTypes.{or_space}
-use Rattle.hierarchy_model.specs.LayoutModel.Places.{Place, AreNeighbours}
-use Rattle.hierarchy_model.specs.Offences.Offences.{SetLayout, union_of}
-use Rattle.hierarchy_model.specs.Restrictions.{PartStands, IsRestriction}
-use Rattle.hierarchy_model.proofs.PartSearch.{NoneStands, who_stands}
-use Rattle.meeting_laws.specs.PartLayouts.{part_layout, parts_layout, HoldsAllMeetings}
+use Rattle.hierarchy_model.specs.LayoutModel.Places.{AreNeighbours}
+use Rattle.hierarchy_model.specs.Offences.Offences.{union_of}
+use Rattle.meeting_laws.specs.PartLayouts.{HoldsAllMeetings}
 use Rattle.meeting_laws.proofs.LinkLaws.{layout_of_none, one_or_meet}
 use Rattle.meeting_laws.proofs.ListSums.{same_sums}
 use Rattle.meeting_laws.proofs.ExcessLaws.{place_excess, edge_excess, place_of_none, place_of_one, edge_of_none, edge_of_one, edge_to_none}

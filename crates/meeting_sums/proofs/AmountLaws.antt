@@ -1,15 +1,9 @@
 -- Amounts that are added one after another.
-use Rattle.std.proofs.Common.{◌≡◌, ◌⊎◌, ℕ, ◌<◌, pos, ℤ, ◌+ℤ◌, ◌-ℤ◌, Bool, true, false, cond, eqb, List, [], ◌∷◌, ◌++◌, inl, inr, refl, sym, ◌∙◌, ap, arith}
-use Rattle.std.specs.Prelude.{All}
-use Rattle.std.proofs.lemmas.Int.{ints}
-use Rattle.finite_sets.specs.Total.{sum_on}
+use Rattle.meeting_sums.proofs.Common.{◌≡◌, ◌⊎◌, ℕ, ◌<◌, pos, ℤ, ◌+ℤ◌, ◌-ℤ◌, Bool, true, false, cond, eqb, List, [], ◌∷◌, ◌++◌, inl, inr, refl, sym}
+use Rattle.meeting_sums.proofs.Common.{◌∙◌, ap, arith, All, ints, sum_on, sum_on-push, Amount, PartKind, for_group, for_both, AddAmounts}
 use Rattle.finite_sets.proofs.Members.{In-push_cases}
 use Rattle.finite_sets.proofs.Searches.{All-from_In}
-use Rattle.finite_sets.proofs.Sums.{sum_on-push}
-use Rattle.key_sums.specs.declared.Amount.{Amount}
 use Rattle.key_sums.specs.Amounts.{counts_for, sum_of}
-use Rattle.offences.specs.declared.stacks.PartKind.{PartKind}
-use Rattle.meeting_sums.specs.steps.Counts.{for_group, for_both, AddAmounts}
 
 nothing_more : (n : ℤ) → n ≡ n +ℤ pos 0
 nothing_more n = omega (arith, ints)

@@ -1,8 +1,6 @@
 -- Capacitances of areas and perimeters that may be negative are small.
-use Rattle.std.proofs.Common.{ℕ, suc, ◌^◌, ◌≤◌, ℤ, pos, negsuc, neg_ℤ, ◌*ℤ◌, ◌≤ℤ◌, subst, sym, arith}
+use Rattle.meeting_sums.proofs.Common.{ℕ, suc, ◌^◌, ◌≤◌, ℤ, pos, negsuc, neg_ℤ, ◌*ℤ◌, ◌≤ℤ◌, subst, sym, arith, mul-le-mul_left, ints}
 use Rattle.std.proofs.Math.IntN.{negsuc-*ℤ-pos, pos-*ℤ-pos}
-use Rattle.std.proofs.Math.Nat.{mul-le-mul_left}
-use Rattle.std.proofs.lemmas.Int.{ints}
 
 -- between so much below and above 0
 abbrev pub IsAround : ℕ → ℤ → Type 0

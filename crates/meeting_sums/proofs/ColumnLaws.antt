@@ -1,19 +1,8 @@
 -- A column for each class, and what they have for each group.
-use Rattle.std.proofs.Common.{◌≡◌, ℕ, ◌+◌, ◌<◌, pos, ℤ, ◌+ℤ◌, ◌-ℤ◌, List, [], ◌∷◌, ◌++◌, take, length, get_or, inl, inr, sym, ◌∙◌, ap, subst, arith}
-use Rattle.std.specs.Prelude.{All}
-use Rattle.std.proofs.lemmas.Bool.{cases_lt}
-use Rattle.std.proofs.lemmas.Int.{ints}
-use Rattle.std.proofs.lemmas.List.{get_or_append_left, get_or_default, get_or-take, get_or_push, length-append, length-take-le}
-use Rattle.finite_sets.specs.Lists.{In}
-use Rattle.finite_sets.proofs.Members.{In-index}
-use Rattle.key_sums.specs.declared.Amount.{Amount}
-use Rattle.rect_contacts.specs.declared.contacts.Contact.{Contact}
-use Rattle.tech_model.specs.declared.raw.ClassRec.{ClassRec}
-use Rattle.offences.specs.LayoutModel.Technologies.{class_of}
-use Rattle.offences.specs.declared.plane_stacks.PlaneStack.{PlaneStack}
-use Rattle.meeting_sums.specs.declared.columns.Column.{Column}
-use Rattle.meeting_sums.specs.declared.sums.MeetingSum.{MeetingSum}
-use Rattle.meeting_sums.specs.steps.Counts.{AddAmounts, IsColumn, AreColumns}
+use Rattle.meeting_sums.proofs.Common.{◌≡◌, ℕ, ◌+◌, ◌<◌, pos, ℤ, ◌+ℤ◌, ◌-ℤ◌, List, [], ◌∷◌, ◌++◌, take, length, get_or, inl, inr, sym, ◌∙◌, ap}
+use Rattle.meeting_sums.proofs.Common.{subst, arith, All, cases_lt, ints, get_or_default, get_or-take, In, In-index, Amount, Contact, ClassRec}
+use Rattle.meeting_sums.proofs.Common.{class_of, PlaneStack, Column, MeetingSum, AddAmounts, IsColumn, AreColumns}
+use Rattle.std.proofs.lemmas.List.{get_or_append_left, get_or_push, length-append, length-take-le}
 use Rattle.meeting_sums.proofs.AmountLaws.{keys_all}
 
 -- a sum that stands for none

@@ -1,33 +1,18 @@
 -- The sums of groups are what their places count, in each class and together as capacitance.
-use Rattle.std.proofs.Common.{◌≡◌, ℕ, suc, ◌<◌, pos, ℤ, ◌+ℤ◌, ◌-ℤ◌, ◌*ℤ◌, true, false, List, [], ◌∷◌, map, length, get_or, inl, inr}
-use Rattle.std.proofs.Common.{refl, sym, ◌∙◌, ap, subst, arith}
+use Rattle.meeting_sums.proofs.Common.{◌≡◌, ℕ, suc, ◌<◌, pos, ℤ, ◌+ℤ◌, ◌-ℤ◌, ◌*ℤ◌, true, false, List, [], ◌∷◌, map, length, get_or, inl, inr, refl}
+use Rattle.meeting_sums.proofs.Common.{sym, ◌∙◌, ap, subst, arith, ints, slice_get_within, get_or_from_slice_get, In, Lists, sum_on, Total, In-index}
+use Rattle.meeting_sums.proofs.Common.{Total-add, Total-at, Total-from_list, Total-iff, Total-same, Contact, ClassRec, RawTech, Place, Class}
+use Rattle.meeting_sums.proofs.Common.{capacitance, class_of, IsTileContact, IsInTiles, PlaneStack, SetLayout, ArePlaneStacks, area_weight}
+use Rattle.meeting_sums.proofs.Common.{perimeter_weight, part_layout, parts_layout, excess, Column, MeetingSum, area_beyond, perimeter_beyond}
+use Rattle.meeting_sums.proofs.Common.{IsColumn, AreColumns, pairs_at, tiles_of, IsInGroup}
 use Rattle.std.proofs.Math.IntN.{*ℤ_comm}
-use Rattle.std.proofs.lemmas.Int.{ints}
-use Rattle.std.proofs.lemmas.Option.{slice_get_within, get_or_from_slice_get}
-use Rattle.finite_sets.specs.Lists.{In, Lists}
-use Rattle.finite_sets.specs.Total.{sum_on, Total}
-use Rattle.finite_sets.proofs.Members.{In-index}
 use Rattle.finite_sets.proofs.Sums.{sum_on-add, sum_on-zero, sum_on-scale_right}
-use Rattle.finite_sets.proofs.Totals.{Total-add, Total-at, Total-from_list, Total-iff, Total-same, Total-scale}
-use Rattle.rect_contacts.specs.declared.contacts.Contact.{Contact}
-use Rattle.tech_model.specs.declared.raw.ClassRec.{ClassRec}
-use Rattle.tech_model.specs.declared.raw.RawTech.{RawTech}
+use Rattle.finite_sets.proofs.Totals.{Total-scale}
 use Rattle.tech_model.specs.WellFormed.{IsWellFormed, IsClass}
 use Rattle.meeting_laws.proofs.Measures.MeasureLaws.{space_out}
 use Rattle.offences.specs.LayoutModel.Layouts.{Layout}
-use Rattle.offences.specs.LayoutModel.Places.{Place}
-use Rattle.offences.specs.LayoutModel.Technologies.{Class, capacitance, class_of}
-use Rattle.meeting_laws.specs.FloodNodes.TileShares.{IsTileContact, IsInTiles}
-use Rattle.offences.specs.declared.plane_stacks.PlaneStack.{PlaneStack}
-use Rattle.offences.specs.Offences.{SetLayout}
-use Rattle.offences.specs.PlaneStacks.{ArePlaneStacks}
-use Rattle.meeting_laws.specs.TreeRecords.PlaceWeights.{PlaceWeight, area_weight, perimeter_weight, capacitance_weight}
-use Rattle.meeting_laws.specs.PartLayouts.{part_layout, parts_layout, excess}
+use Rattle.meeting_laws.specs.TreeRecords.PlaceWeights.{PlaceWeight, capacitance_weight}
 use Rattle.meeting_laws.proofs.QuantityLaws.{combined, product_of_difference}
-use Rattle.meeting_sums.specs.declared.columns.Column.{Column}
-use Rattle.meeting_sums.specs.declared.sums.MeetingSum.{MeetingSum}
-use Rattle.meeting_sums.specs.steps.Counts.{area_beyond, perimeter_beyond, IsColumn, AreColumns, pairs_at}
-use Rattle.meeting_sums.specs.StackTiles.{tiles_of, IsInGroup}
 use Rattle.meeting_sums.specs.Sums.{AreMeetingMeasures, IsMeetingSum, IsSumOf, AreMeetingSums}
 use Rattle.meeting_sums.proofs.ColumnLaws.{no_sum}
 use Rattle.meeting_sums.proofs.MeetingLaws.{of_group, in_group, from_group, tiles_area_beyond, tiles_perimeter_beyond}

@@ -1,22 +1,15 @@
 -- The type of a part in a list of types by part.
-use Rattle.std.proofs.Common.{◌≡◌, ◌≢◌, ℕ, zero, suc, ◌+◌, ◌-◌, ◌<◌, ◌≤◌, pos, ℤ, ◌+ℤ◌, Bool, cond, eqb, List, [], ◌∷◌, length, get_or, take}
-use Rattle.std.proofs.Common.{drop, inl, inr, refl, sym, ◌∙◌, ap, subst, arith, ne_eqb}
-use Rattle.std.specs.Prelude.{All}
+use Rattle.meeting_sums.proofs.Common.{◌≡◌, ℕ, suc, ◌+◌, ◌<◌, ◌≤◌, pos, ℤ, ◌+ℤ◌, Bool, cond, eqb, List, [], ◌∷◌, length, get_or, take, inl, inr}
+use Rattle.meeting_sums.proofs.Common.{refl, sym, ◌∙◌, ap, subst, arith, All, range_with_len, cases_lt, ints, get_or-take, get_or-drop, length-take}
+use Rattle.meeting_sums.proofs.Common.{length-drop, length-range_with_len, get_or-range_with_len, In, Distinct, sum_on, In-get_or, In-index}
+use Rattle.meeting_sums.proofs.Common.{sum_on-same, PartKind, AreByPart, kind_in, one_plane}
+use Rattle.std.proofs.Common.{◌≢◌, zero, ◌-◌}
+use Rattle.std.proofs.Common.{drop, ne_eqb}
 use Rattle.std.specs.List.Sorted.{IsNonDecreasingBy}
-use Rattle.std.specs.List.{range_with_len}
-use Rattle.std.proofs.lemmas.Bool.{cases_eq, cases_lt}
-use Rattle.std.proofs.lemmas.Int.{ints}
-use Rattle.std.proofs.lemmas.List.{get_or-take, get_or-drop, length-take, length-drop}
-use Rattle.std.proofs.lemmas.List.FromFn.{length-range_with_len, get_or-range_with_len}
-use Rattle.finite_sets.specs.Lists.{In, Distinct}
-use Rattle.finite_sets.specs.Total.{sum_on}
+use Rattle.std.proofs.lemmas.Bool.{cases_eq}
 use Rattle.finite_sets.proofs.Distincts.{Distinct-from_places}
-use Rattle.finite_sets.proofs.Members.{In-get_or, In-index}
-use Rattle.finite_sets.proofs.Sums.{sum_on-add, sum_on-same, sum_on-nothing}
-use Rattle.offences.specs.declared.stacks.PartKind.{PartKind}
-use Rattle.offences.specs.TypedStacks.{AreByPart, kind_in}
+use Rattle.finite_sets.proofs.Sums.{sum_on-add, sum_on-nothing}
 use Rattle.offences.proofs.KindLaws.{kind_in-absent}
-use Rattle.meeting_laws.proofs.FloodNodes.ShareLaws.{one_plane}
 
 -- parts that rise, as searches ask for them
 pub rising_parts : (kinds : List PartKind) → AreByPart kinds → IsNonDecreasingBy (λ entry. entry.part) kinds

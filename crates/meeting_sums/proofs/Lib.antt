@@ -2,6 +2,7 @@
 pub use Rattle.rect_contacts.proofs as RectContacts
 pub use Rattle.offences.proofs as Offences
 pub use Rattle.meeting_laws.proofs as LowerMeetingLaws
+mod Common
 mod TileTests
 mod AmountLaws
 mod KindLaws

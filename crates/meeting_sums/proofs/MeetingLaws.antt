@@ -1,37 +1,15 @@
 -- What the pieces of a group and their contacts count is what their places count in the flat layout beyond the parts.
-use Rattle.std.proofs.Common.{◌≡◌, ℕ, ◌<◌, pos, ℤ, ◌+ℤ◌, ◌-ℤ◌, ◌*ℤ◌, Bool, false, cond, eqb, ◌&&◌, List, length, get_or}
-use Rattle.std.proofs.Common.{Some, sym, ◌∙◌, ap, subst, arith}
-use Rattle.std.specs.Prelude.{slice_get, slice_index}
-use Rattle.std.specs.List.{range_with_len}
-use Rattle.std.proofs.lemmas.Int.{ints}
-use Rattle.std.proofs.lemmas.List.FromFn.{length-range_with_len, get_or-range_with_len}
-use Rattle.std.proofs.lemmas.Option.{slice_get_within, slice_get-get_or, get_or_from_slice_get}
-use Rattle.finite_sets.specs.Lists.{In, Lists}
-use Rattle.finite_sets.specs.Total.{sum_on, Total, one_if}
-use Rattle.finite_sets.proofs.Members.{In-get_or, In-index}
-use Rattle.finite_sets.proofs.Sums.{sum_on-sub, sum_on-same}
-use Rattle.finite_sets.proofs.Totals.{Total-at, Total-same, Total-sub}
-use Rattle.geo_core.specs.declared.squares.Rect.{Rect}
-use Rattle.geo_core.specs.Covering.{Covers}
-use Rattle.rect_contacts.specs.declared.contacts.Contact.{Contact}
-use Rattle.rect_contacts.specs.Squares.{area_of, perimeter_of}
-use Rattle.tech_model.specs.declared.raw.RawTech.{RawTech}
+use Rattle.meeting_sums.proofs.Common.{◌≡◌, ℕ, ◌<◌, pos, ℤ, ◌+ℤ◌, ◌-ℤ◌, ◌*ℤ◌, Bool, false, cond, eqb, ◌&&◌, List, length, get_or, Some, sym, ◌∙◌, ap}
+use Rattle.meeting_sums.proofs.Common.{subst, arith, slice_get, slice_index, range_with_len, ints, length-range_with_len, get_or-range_with_len}
+use Rattle.meeting_sums.proofs.Common.{slice_get_within, slice_get-get_or, get_or_from_slice_get, In, Lists, sum_on, Total, one_if, In-get_or}
+use Rattle.meeting_sums.proofs.Common.{In-index, sum_on-sub, sum_on-same, Total-at, Total-same, Rect, Covers, Contact, area_of, perimeter_of}
+use Rattle.meeting_sums.proofs.Common.{RawTech, Place, Class, RegionTile, no_tile, tile_at, IsTileContact, IsInTiles, Lists-indices_of, one_plane}
+use Rattle.meeting_sums.proofs.Common.{same_from_test, PlaneStack, SetLayout, ArePlaneStacks, kind_in, area_weight, perimeter_weight, part_layout}
+use Rattle.meeting_sums.proofs.Common.{parts_layout, excess, flat_kind, beyond, for_group, for_both, no_piece, stack_at, contact_counted}
+use Rattle.meeting_sums.proofs.Common.{area_beyond, shared_beyond, perimeter_beyond, tile_of, tiles_of, IsInGroup}
+use Rattle.finite_sets.proofs.Totals.{Total-sub}
 use Rattle.offences.specs.LayoutModel.Measures.{perimeter_at}
-use Rattle.offences.specs.LayoutModel.Places.{Place}
-use Rattle.offences.specs.LayoutModel.Technologies.{Class}
-use Rattle.offences.specs.LayoutModel.declared.region_tiles.RegionTile.{RegionTile}
-use Rattle.meeting_laws.specs.FloodNodes.TileShares.{no_tile, tile_at, indices_of, IsTileContact, IsInTiles}
-use Rattle.meeting_laws.proofs.FloodNodes.ShareLaws.{Lists-indices_of, one_plane}
-use Rattle.meeting_laws.proofs.FloodNodes.StackLaws.{same_from_test}
-use Rattle.offences.specs.declared.plane_stacks.PlaneStack.{PlaneStack}
-use Rattle.offences.specs.Offences.{SetLayout}
-use Rattle.offences.specs.PlaneStacks.{ArePlaneStacks}
-use Rattle.offences.specs.TypedStacks.{kind_in}
-use Rattle.meeting_laws.specs.TreeRecords.PlaceWeights.{area_weight, perimeter_weight}
-use Rattle.meeting_laws.specs.PartLayouts.{part_layout, parts_layout, excess}
-use Rattle.meeting_sums.specs.steps.Counts.{flat_kind, beyond, for_group, for_both, no_piece, stack_at, contact_counted}
-use Rattle.meeting_sums.specs.steps.Counts.{area_beyond, shared_beyond, perimeter_beyond}
-use Rattle.meeting_sums.specs.StackTiles.{tile_of, tiles_of, IsInGroup}
+use Rattle.meeting_laws.specs.FloodNodes.TileShares.{indices_of}
 use Rattle.meeting_sums.proofs.KindLaws.{sum_by_kinds}
 use Rattle.meeting_sums.proofs.StackLaws.{tiles_long, tile_is, counted, contacts_within}
 use Rattle.meeting_sums.proofs.StackTests.{pieces_spread, flat_test, part_test}

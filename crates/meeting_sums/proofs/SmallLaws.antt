@@ -1,41 +1,19 @@
 -- What groups of pieces count is small, since their places are few and parts too.
-use Rattle.std.proofs.Common.{◌≡◌, ℕ, ◌*◌, ◌^◌, ◌<◌, ◌≤◌, pos, negsuc, neg_ℤ, ℤ, ◌+ℤ◌, ◌-ℤ◌, ◌*ℤ◌, ◌≤ℤ◌, Bool, true, false, cond, ◌&&◌, List, [], ◌∷◌}
-use Rattle.std.proofs.Common.{map, length, get_or, sym, ◌∙◌, ap, subst, arith}
-use Rattle.std.specs.Prelude.{All}
-use Rattle.std.specs.List.{range_with_len}
+use Rattle.meeting_sums.proofs.Common.{◌≡◌, ℕ, ◌*◌, ◌^◌, ◌<◌, ◌≤◌, pos, negsuc, neg_ℤ, ℤ, ◌+ℤ◌, ◌-ℤ◌, ◌*ℤ◌, ◌≤ℤ◌, Bool, true, false, cond, ◌&&◌}
+use Rattle.meeting_sums.proofs.Common.{List, [], ◌∷◌, map, length, get_or, sym, ◌∙◌, ap, subst, arith, All, range_with_len, mul-le-mul_left, ints}
+use Rattle.meeting_sums.proofs.Common.{get_or-map, length-map, All-map, length-range_with_len, slice_get_within, get_or_from_slice_get, In, Distinct}
+use Rattle.meeting_sums.proofs.Common.{Lists, sum_on, one_if, In-index, Rect, IsNear, IsProper, Contact, area_of, perimeter_of, ClassRec, Place}
+use Rattle.meeting_sums.proofs.Common.{Class, class_of, RegionTile, AreSpread, no_tile, tile_at, IsTileContact, IsInTiles, Lists-indices_of}
+use Rattle.meeting_sums.proofs.Common.{PlaneStack, PartKind, AreByPart, kind_in, flat_kind, beyond, beyond_both, no_piece, stack_at, contact_counted}
+use Rattle.meeting_sums.proofs.Common.{IsSmallSum, Column, area_beyond, shared_beyond, perimeter_beyond, AreColumns, pairs_at, tile_of, tiles_of}
 use Rattle.std.proofs.Math.IntN.{pos-*ℤ-pos}
-use Rattle.std.proofs.Math.Nat.{mul-le-mul_left}
-use Rattle.std.proofs.lemmas.Int.{ints}
-use Rattle.std.proofs.lemmas.List.{get_or-map, length-map}
-use Rattle.std.proofs.lemmas.List.Elements.{All-map}
-use Rattle.std.proofs.lemmas.List.FromFn.{length-range_with_len}
-use Rattle.std.proofs.lemmas.Option.{slice_get_within, get_or_from_slice_get}
-use Rattle.finite_sets.specs.Lists.{In, Distinct, Lists}
-use Rattle.finite_sets.specs.Total.{sum_on, one_if}
 use Rattle.finite_sets.proofs.Distincts.{Distinct-from_places, length-distinct}
-use Rattle.finite_sets.proofs.Members.{In-index, In-map_source}
+use Rattle.finite_sets.proofs.Members.{In-map_source}
 use Rattle.finite_sets.proofs.Sums.{sum_on-count, sum_on-le, sum_on-scale, sum_on-zero}
-use Rattle.geo_core.specs.declared.squares.Rect.{Rect}
-use Rattle.geo_core.specs.Areas.{IsNear}
-use Rattle.geo_core.specs.Covering.{IsProper}
-use Rattle.rect_contacts.specs.declared.contacts.Contact.{Contact}
-use Rattle.rect_contacts.specs.Squares.{area_of, perimeter_of}
-use Rattle.tech_model.specs.declared.raw.ClassRec.{ClassRec}
-use Rattle.offences.specs.LayoutModel.Places.{Place}
-use Rattle.offences.specs.LayoutModel.Technologies.{Class, class_of}
-use Rattle.offences.specs.LayoutModel.declared.region_tiles.RegionTile.{RegionTile}
-use Rattle.meeting_laws.specs.FloodNodes.Stacking.{AreSpread}
-use Rattle.meeting_laws.specs.FloodNodes.TileShares.{no_tile, tile_at, indices_of, IsTileContact, IsInTiles}
-use Rattle.meeting_laws.proofs.FloodNodes.ShareLaws.{Lists-indices_of, cond_not_negative}
+use Rattle.meeting_laws.specs.FloodNodes.TileShares.{indices_of}
+use Rattle.meeting_laws.proofs.FloodNodes.ShareLaws.{cond_not_negative}
 use Rattle.meeting_laws.specs.Measures.Bounds.{IsNearPlace, IsSmallMeasure}
 use Rattle.meeting_laws.proofs.Measures.BoundLaws.{measures_are_small}
-use Rattle.offences.specs.declared.plane_stacks.PlaneStack.{PlaneStack}
-use Rattle.offences.specs.declared.stacks.PartKind.{PartKind}
-use Rattle.offences.specs.TypedStacks.{AreByPart, kind_in}
-use Rattle.meeting_sums.specs.steps.Counts.{flat_kind, beyond, beyond_both, no_piece, stack_at, contact_counted, IsSmallSum}
-use Rattle.meeting_sums.specs.declared.columns.Column.{Column}
-use Rattle.meeting_sums.specs.steps.Counts.{area_beyond, shared_beyond, perimeter_beyond, AreColumns, pairs_at}
-use Rattle.meeting_sums.specs.StackTiles.{tile_of, tiles_of}
 use Rattle.meeting_sums.proofs.AmountLaws.{gated}
 use Rattle.meeting_sums.proofs.KindLaws.{In-below}
 use Rattle.meeting_sums.proofs.MeetingLaws.{of_group}

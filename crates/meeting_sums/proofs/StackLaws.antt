@@ -1,29 +1,12 @@
 -- Pieces of planes and the tiles that stand for them, by their places in the list.
-use Rattle.std.proofs.Common.{◌≡◌, ◌⊎◌, ℕ, ◌+◌, ◌<◌, Bool, pos, negsuc, ℤ, ◌+ℤ◌, ◌-ℤ◌, ◌*ℤ◌, ◌≤ℤ◌, List, [], ◌∷◌, ◌++◌, take, length, get_or}
-use Rattle.std.proofs.Common.{inl, inr, sym, ◌∙◌, ap, subst, arith}
-use Rattle.std.specs.Prelude.{slice_index, All}
-use Rattle.std.specs.List.{range_with_len}
-use Rattle.std.proofs.lemmas.Int.{ints}
-use Rattle.std.proofs.lemmas.List.{get_or_default, get_or-map, length-map, map-id, take_more}
+use Rattle.meeting_sums.proofs.Common.{◌≡◌, ◌⊎◌, ℕ, ◌+◌, ◌<◌, Bool, pos, negsuc, ℤ, ◌+ℤ◌, ◌-ℤ◌, ◌*ℤ◌, ◌≤ℤ◌, List, [], ◌∷◌, ◌++◌, take, length}
+use Rattle.meeting_sums.proofs.Common.{get_or, inl, inr, sym, ◌∙◌, ap, subst, arith, slice_index, All, range_with_len, ints, get_or_default}
+use Rattle.meeting_sums.proofs.Common.{get_or-map, length-map, take_more, In, Lists, sum_on, In-get_or, sum_on-push, Rect, IsNear, IsProper, Amount}
+use Rattle.meeting_sums.proofs.Common.{Contact, area_of, perimeter_of, RegionTile, AreSpread, no_tile, IsTileContact, PlaneStack, AreByPart, beyond}
+use Rattle.meeting_sums.proofs.Common.{beyond_both, for_group, for_both, no_piece, stack_at, contact_counted, AddAmounts, tile_of, tiles_of}
+use Rattle.std.proofs.lemmas.List.{map-id}
 use Rattle.std.proofs.lemmas.List.FromFn.{map-range_with_len_more}
-use Rattle.finite_sets.specs.Lists.{In, Lists}
-use Rattle.finite_sets.specs.Total.{sum_on}
-use Rattle.finite_sets.proofs.Members.{In-get_or}
-use Rattle.finite_sets.proofs.Sums.{sum_on-push}
-use Rattle.geo_core.specs.declared.squares.Rect.{Rect}
-use Rattle.geo_core.specs.Areas.{IsNear}
-use Rattle.geo_core.specs.Covering.{IsProper}
-use Rattle.key_sums.specs.declared.Amount.{Amount}
-use Rattle.rect_contacts.specs.declared.contacts.Contact.{Contact}
-use Rattle.rect_contacts.specs.Squares.{area_of, perimeter_of}
-use Rattle.offences.specs.LayoutModel.declared.region_tiles.RegionTile.{RegionTile}
-use Rattle.meeting_laws.specs.FloodNodes.Stacking.{AreSpread}
-use Rattle.meeting_laws.specs.FloodNodes.TileShares.{no_tile, IsTileContact}
-use Rattle.offences.specs.declared.plane_stacks.PlaneStack.{PlaneStack}
 use Rattle.offences.specs.declared.stacks.TypedStack.{TypedStack}
-use Rattle.offences.specs.TypedStacks.{AreByPart}
-use Rattle.meeting_sums.specs.steps.Counts.{beyond, beyond_both, for_group, for_both, no_piece, stack_at, contact_counted, AddAmounts}
-use Rattle.meeting_sums.specs.StackTiles.{tile_of, tiles_of}
 use Rattle.meeting_sums.proofs.AmountLaws.{adds_then}
 
 -- the pieces are as many as their tiles

@@ -1,34 +1,22 @@
 -- What stands at the places of pieces, in the flat layout and in each part.
-use Rattle.std.proofs.Common.{◌≡◌, ◌≢◌, ℕ, ◌<◌, ◌≤◌, Bool, true, false, List, length, get_or, Option, Some, None, IsTrue, inl, inr, refl, sym, ◌∙◌, ap, subst}
-use Rattle.std.proofs.Common.{arith}
-use Rattle.std.specs.Prelude.{slice_get, unwrap_or, All}
+use Rattle.meeting_sums.proofs.Common.{◌≡◌, ℕ, ◌<◌, ◌≤◌, Bool, true, false, List, length, get_or, Some, inl, inr, refl, sym, ◌∙◌, ap, subst, arith}
+use Rattle.meeting_sums.proofs.Common.{slice_get, All, get_or_default, All-map, slice_get_within, slice_get-get_or, get_or_from_slice_get, In-get_or}
+use Rattle.meeting_sums.proofs.Common.{In-index, IsNear, Covers, IsProper, RawTech, Place, LiesIn, LieApart, AreLayoutTiles, RegionTile, AreSpread}
+use Rattle.meeting_sums.proofs.Common.{no_tile, PlaneStack, SetLayout, ArePlaneStacks, AreByPart, kind_in, part_layout, parts_layout, flat_kind}
+use Rattle.meeting_sums.proofs.Common.{no_piece, stack_at, tile_of, tiles_of}
+use Rattle.std.proofs.Common.{◌≢◌, Option, None, IsTrue}
+use Rattle.std.specs.Prelude.{unwrap_or}
 use Rattle.std.specs.Option.{option_map}
 use Rattle.std.proofs.lemmas.Bool.{cases_Bool, false≢true}
-use Rattle.std.proofs.lemmas.List.{get_or_default}
-use Rattle.std.proofs.lemmas.List.Elements.{All-map}
-use Rattle.std.proofs.lemmas.Option.{slice_get_within, slice_get-get_or, get_or_from_slice_get}
-use Rattle.finite_sets.proofs.Members.{In-get_or, In-index}
-use Rattle.geo_core.specs.Areas.{IsNear}
-use Rattle.geo_core.specs.Covering.{Covers, IsProper}
-use Rattle.tech_model.specs.declared.raw.RawTech.{RawTech}
 use Rattle.tech_model.specs.declared.raw.TypeId.{TypeId}
 use Rattle.tech_model.specs.Types.{is_type, type_number}
 use Rattle.tech_model.specs.WellFormed.{IsWellFormed}
 use Rattle.offences.specs.LayoutModel.LayerTypes.{or_space}
-use Rattle.offences.specs.LayoutModel.Places.{Place}
-use Rattle.offences.specs.LayoutModel.RegionTiles.{LiesIn, LieApart, AreLayoutTiles}
-use Rattle.offences.specs.LayoutModel.declared.region_tiles.RegionTile.{RegionTile}
-use Rattle.meeting_laws.specs.FloodNodes.Stacking.{AreSpread, AreTyped}
-use Rattle.meeting_laws.specs.FloodNodes.TileShares.{no_tile}
-use Rattle.offences.specs.declared.plane_stacks.PlaneStack.{PlaneStack}
+use Rattle.meeting_laws.specs.FloodNodes.Stacking.{AreTyped}
 use Rattle.offences.specs.Changes.{number_of}
-use Rattle.offences.specs.Offences.{SetLayout, joined_at, flat_type}
-use Rattle.offences.specs.PlaneStacks.{ArePlaneStacks}
-use Rattle.offences.specs.TypedStacks.{IsTypedStack, AreByPart, kind_in, on_plane}
-use Rattle.meeting_laws.specs.PartLayouts.{part_layout, parts_layout}
+use Rattle.offences.specs.Offences.{joined_at, flat_type}
+use Rattle.offences.specs.TypedStacks.{IsTypedStack, on_plane}
 use Rattle.meeting_laws.proofs.LinkLaws.{part_of_empty, layout_of_none}
-use Rattle.meeting_sums.specs.steps.Counts.{flat_kind, no_piece, stack_at}
-use Rattle.meeting_sums.specs.StackTiles.{tile_of, tiles_of}
 use Rattle.meeting_sums.proofs.StackLaws.{tiles_long, tile_is}
 use Rattle.meeting_sums.proofs.TileTests.{IsTest, stands, lies_from_test, test_from_lies}
 

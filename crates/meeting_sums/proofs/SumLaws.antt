@@ -1,14 +1,9 @@
 -- Sums that count under tests, over pieces, parts and contacts.
-use Rattle.std.proofs.Common.{◌≡◌, ℕ, ◌+◌, ◌<◌, pos, ℤ, ◌+ℤ◌, ◌-ℤ◌, ◌*ℤ◌, Bool, true, false, cond, ◌&&◌, List, [], ◌∷◌, map, length, get_or}
-use Rattle.std.proofs.Common.{inl, inr, refl, sym, ◌∙◌, ap, arith}
-use Rattle.std.specs.List.{range_with_len}
-use Rattle.std.proofs.lemmas.Int.{ints}
-use Rattle.std.proofs.lemmas.List.{get_or-map, length-map, ext_get_or}
-use Rattle.std.proofs.lemmas.List.FromFn.{length-range_with_len, get_or-range_with_len}
-use Rattle.finite_sets.specs.Lists.{In, Lists}
-use Rattle.finite_sets.specs.Total.{sum_on, Total, one_if}
-use Rattle.finite_sets.proofs.Sums.{sum_on-add, sum_on-sub, sum_on-map, sum_on-swap, sum_on-zero}
-use Rattle.finite_sets.proofs.Totals.{Total-add, Total-at, Total-from_list}
+use Rattle.meeting_sums.proofs.Common.{◌≡◌, ℕ, ◌+◌, ◌<◌, pos, ℤ, ◌+ℤ◌, ◌-ℤ◌, ◌*ℤ◌, Bool, true, false, cond, ◌&&◌, List, [], ◌∷◌, map, length, get_or}
+use Rattle.meeting_sums.proofs.Common.{inl, inr, refl, sym, ◌∙◌, ap, arith, range_with_len, ints, get_or-map, length-map, length-range_with_len}
+use Rattle.meeting_sums.proofs.Common.{get_or-range_with_len, In, Lists, sum_on, Total, one_if, sum_on-sub, Total-add, Total-at, Total-from_list}
+use Rattle.std.proofs.lemmas.List.{ext_get_or}
+use Rattle.finite_sets.proofs.Sums.{sum_on-add, sum_on-map, sum_on-swap, sum_on-zero}
 
 -- a sum over a list, by its positions
 pub sum_by_positions : {X : Type 0} (w : X → ℤ) (xs : List X) (d : X) → sum_on w xs ≡ sum_on (λ (k : ℕ). w (get_or xs k d)) (range_with_len 0 (length xs))

@@ -1,35 +1,23 @@
 -- Tiles that pass a test, with places that do: their areas, and their edges to places that do not, are what the lengths of contacts say.
-use Rattle.std.proofs.Common.{◌≡◌, ◌≢◌, ℕ, ◌+◌, ◌<◌, pos, ℤ, ◌+ℤ◌, ◌-ℤ◌, ◌*ℤ◌, Bool, true, false, cond, eqb, ◌&&◌, not, List, map, length}
-use Rattle.std.proofs.Common.{get_or, Some, inl, inr, refl, sym, ◌∙◌, ap, subst, arith}
-use Rattle.std.specs.Prelude.{slice_get, All}
-use Rattle.std.specs.List.{list_any, range_with_len}
+use Rattle.meeting_sums.proofs.Common.{◌≡◌, ℕ, ◌+◌, ◌<◌, pos, ℤ, ◌+ℤ◌, ◌-ℤ◌, ◌*ℤ◌, Bool, true, false, cond, eqb, ◌&&◌, List, map, length, get_or}
+use Rattle.meeting_sums.proofs.Common.{Some, inl, inr, refl, sym, ◌∙◌, ap, subst, arith, slice_get, All, range_with_len, get_or-map, length-map}
+use Rattle.meeting_sums.proofs.Common.{length-range_with_len, get_or-range_with_len, slice_get_within, slice_get-get_or, get_or_from_slice_get, In}
+use Rattle.meeting_sums.proofs.Common.{Lists, sum_on, Total, one_if, In-index, In-get_or, sum_on-same, Total-at, Total-iff, Total-same, IsNear}
+use Rattle.meeting_sums.proofs.Common.{Covers, IsProper, Contact, area_of, perimeter_of, Place, LiesIn, LieApart, AreLayoutTiles, RegionTile}
+use Rattle.meeting_sums.proofs.Common.{AreSpread, no_tile, tile_at, IsTileContact, IsInTiles, Lists-indices_of, one_plane, same_from_test}
+use Rattle.std.proofs.Common.{◌≢◌, not}
+use Rattle.std.specs.List.{list_any}
 use Rattle.std.proofs.lemmas.Bool.{cases_Bool, and_parts}
-use Rattle.std.proofs.lemmas.List.{get_or-map, length-map}
-use Rattle.std.proofs.lemmas.List.FromFn.{length-range_with_len, get_or-range_with_len}
-use Rattle.std.proofs.lemmas.Option.{slice_get_within, slice_get-get_or, get_or_from_slice_get}
-use Rattle.finite_sets.specs.Lists.{In, Lists}
-use Rattle.finite_sets.specs.Total.{sum_on, Total, one_if}
 use Rattle.finite_sets.proofs.Listings.{Lists-iff}
-use Rattle.finite_sets.proofs.Members.{In-index, In-get_or}
-use Rattle.finite_sets.proofs.Sums.{sum_on-same}
-use Rattle.finite_sets.proofs.Totals.{Total-at, Total-iff, Total-same}
 use Rattle.finite_sets.proofs.Searches.{list_any-passes, list_any-source}
-use Rattle.geo_core.specs.Areas.{IsNear}
-use Rattle.geo_core.specs.Covering.{Covers, IsProper, is_covered}
+use Rattle.geo_core.specs.Covering.{is_covered}
 use Rattle.geo_core.proofs.CoveringLaws.{Covers-is_covered, is_covered-Covers}
-use Rattle.rect_contacts.specs.declared.contacts.Contact.{Contact}
-use Rattle.rect_contacts.specs.Squares.{area_of, perimeter_of}
-use Rattle.offences.specs.LayoutModel.Places.{Place, neighbours}
+use Rattle.offences.specs.LayoutModel.Places.{neighbours}
 use Rattle.offences.specs.LayoutModel.Layouts.{Layout, IsMaterial}
 use Rattle.offences.specs.LayoutModel.Measures.{area_at, perimeter_at, IsArea, IsPerimeter}
-use Rattle.offences.specs.LayoutModel.RegionTiles.{LiesIn, LieApart, AreLayoutTiles}
-use Rattle.offences.specs.LayoutModel.declared.region_tiles.RegionTile.{RegionTile}
 use Rattle.meeting_laws.specs.FloodNodes.Renumbered.{AreRenumbered}
-use Rattle.meeting_laws.specs.FloodNodes.Stacking.{AreSpread}
-use Rattle.meeting_laws.specs.FloodNodes.TileShares.{no_tile, tile_at, indices_of, shared_by, IsTileContact, IsInTiles, is_of, open_by_contacts}
+use Rattle.meeting_laws.specs.FloodNodes.TileShares.{indices_of, shared_by, is_of, open_by_contacts}
 use Rattle.meeting_laws.proofs.FloodNodes.OpenEdges.{tiles_area, tiles_measure}
-use Rattle.meeting_laws.proofs.FloodNodes.ShareLaws.{Lists-indices_of, one_plane}
-use Rattle.meeting_laws.proofs.FloodNodes.StackLaws.{same_from_test}
 
 -- The tiles have the same planes and areas, in their places.
 pub record HaveSameAreas (tiles others : List RegionTile) : Type 0 where

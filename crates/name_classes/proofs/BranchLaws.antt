@@ -1,24 +1,10 @@
 -- The branches that tables of uses find.
-use Rattle.std.proofs.Common.{◌≡◌, ◌<◌, ℕ, Bool, true, false, inl, inr, List, [], length, map, get_or, refl, sym, ◌∙◌, ap, subst, arith}
-use Rattle.std.specs.Prelude.{Option, Some, None, slice_get, find}
-use Rattle.std.specs.Str.{bytes_eq}
-use Rattle.std.proofs.lemmas.Slice.Eq.{bytes_eq-Decides}
-use Rattle.std.proofs.lemmas.Bool.{cases_Bool}
-use Rattle.std.proofs.lemmas.Option.{slice_get_within, slice_get_read, get_or_from_slice_get}
-use Rattle.full_names.specs.ElementTree.declared.tree.ElementTree.{ElementTree}
-use Rattle.partition.specs.FiniteSets.Lists.{Distinct}
+use Rattle.name_classes.proofs.Common.{◌≡◌, ◌<◌, ℕ, Bool, true, false, inl, inr, List, [], length, map, get_or, refl, sym, ◌∙◌, ap, subst, arith}
+use Rattle.name_classes.proofs.Common.{Option, Some, None, slice_get, find, bytes_eq, bytes_eq-Decides, cases_Bool, slice_get_within, slice_get_read}
+use Rattle.name_classes.proofs.Common.{get_or_from_slice_get, ElementTree, Distinct, In-slice_get, slice_get-In, slice_get-one, UseRec, CellExt}
+use Rattle.name_classes.proofs.Common.{branches_of, FullNames, IsReached, UseTable, Resolver, number_of, IsResolver, IsBranchOf, LacksUse}
 use Rattle.partition.proofs.FiniteSets.Searches.{find-In, find-passes, find-none, none_found}
-use Rattle.partition.proofs.FiniteSets.Places.{In-slice_get, slice_get-In, slice_get-one}
-use Rattle.ext_model.specs.declared.records.UseRec.{UseRec}
-use Rattle.ext_model.specs.declared.records.CellExt.{CellExt}
 use Rattle.full_names.specs.ElementTree.declared.tree.Branch.{Branch}
-use Rattle.full_names.specs.ElementTree.Trees.{branches_of}
-use Rattle.full_names.specs.declared.names.FullNames.{FullNames}
-use Rattle.full_names.specs.Names.{IsReached}
-use Rattle.name_classes.specs.declared.tables.UseTable.{UseTable}
-use Rattle.name_classes.specs.declared.paths.Resolver.{Resolver}
-use Rattle.name_classes.specs.steps.UseTables.{number_of}
-use Rattle.name_classes.specs.steps.Paths.{IsResolver, IsBranchOf, LacksUse}
 use Rattle.name_classes.proofs.ListLaws.{place_of_image}
 use Rattle.name_classes.proofs.TreeLaws.{tree_of_names, lawful_at, reached_at}
 

@@ -1,39 +1,27 @@
 -- The classes of joined numbers are the nodes of the full names.
-use Rattle.std.proofs.Common.{◌≡◌, ◌⊎◌, ◌≤◌, ◌==◌, ℕ, Bool, true, cond, inl, inr, List, [], ◌++◌, length, map, refl}
-use Rattle.std.proofs.Common.{sym, ◌∙◌, ap, subst, arith}
-use Rattle.std.specs.Prelude.{Option, Some, slice_get, if◌then◌else◌}
+use Rattle.name_classes.proofs.Common.{◌≡◌, ◌⊎◌, ◌==◌, ℕ, Bool, true, cond, inl, inr, List, [], ◌++◌, length, map, refl, sym, ◌∙◌, ap, subst, arith}
+use Rattle.name_classes.proofs.Common.{Option, Some, slice_get, if◌then◌else◌, slice_get-get_or, slice_get_within, slice_get-map}
+use Rattle.name_classes.proofs.Common.{get_or_from_slice_get, option_map, In, Distinct, In-append_left, In-append_right, one_place, In-slice_get}
+use Rattle.name_classes.proofs.Common.{slice_get-In, slice_get-one, In-flat_map, NodeRec, MergeRec, CellExt, names_of, node_names, Element, ids_of}
+use Rattle.name_classes.proofs.Common.{name_in, TreeElement, FullNames, AreNames, IsElement, elements_in, MergeEnd, Link, RecordLinks, AreLabels}
+use Rattle.name_classes.proofs.Common.{IsLink, HasLink, IsGlobalName, IsNear, HasLinks, AreAllLinks, AreFirsts, AreJoined, once_at}
+use Rattle.std.proofs.Common.{◌≤◌}
 use Rattle.std.proofs.lemmas.Bool.Decides.{nat_tests}
-use Rattle.std.proofs.lemmas.Option.{slice_get-get_or, slice_get_within, slice_get-map, get_or_from_slice_get}
 use Rattle.std.proofs.lemmas.List.{length-map}
-use Rattle.std.specs.Option.{option_map}
-use Rattle.partition.specs.FiniteSets.Lists.{In, Distinct}
 use Rattle.partition.specs.FiniteSets.Chain.{Chain, EitherWay}
 use Rattle.partition.specs.FiniteSets.Chain.Chain.{stay, go}
-use Rattle.partition.proofs.FiniteSets.Members.{In-append_left, In-append_right, In-map, In-map_source}
+use Rattle.partition.proofs.FiniteSets.Members.{In-map, In-map_source}
 use Rattle.partition.proofs.FiniteSets.Distincts.{length-distinct}
 use Rattle.partition.proofs.FiniteSets.Chains.{Chain-one, Chain-append, Chain-same, Chain-either_back}
-use Rattle.partition.proofs.FiniteSets.Places.{one_place, In-slice_get, slice_get-In, slice_get-one}
-use Rattle.partition.proofs.FiniteSets.Images.{In-flat_map}
 use Rattle.partition.specs.Divides.{IsPair}
 use Rattle.partition.specs.Marks.{IsNumbered}
-use Rattle.ext_model.specs.declared.records.NodeRec.{NodeRec}
-use Rattle.ext_model.specs.declared.records.MergeRec.{MergeRec}
-use Rattle.ext_model.specs.declared.records.CellExt.{CellExt}
 use Rattle.ext_model.specs.Paths.{last_name, path_text}
-use Rattle.ext_model.specs.RecordNames.{names_of, node_names}
-use Rattle.circuit_model.specs.Elements.{Element, ids_of}
-use Rattle.circuit_model.specs.FullNames.{name_in, IsFullName, AreLinked, AreOneNode, AreInNameOrder}
-use Rattle.full_names.specs.ElementTree.declared.tree.TreeElement.{TreeElement}
-use Rattle.full_names.specs.declared.names.FullNames.{FullNames}
+use Rattle.circuit_model.specs.FullNames.{IsFullName, AreLinked, AreOneNode, AreInNameOrder}
 use Rattle.full_names.specs.NameLists.{IsFullNameList}
-use Rattle.full_names.specs.Names.{AreNames, IsElement, elements_in}
 use Rattle.full_names.proofs.ListOrders.{Distinct-names, pairwise_names}
-use Rattle.name_classes.specs.declared.classes.MergeEnd.{MergeEnd}
-use Rattle.name_classes.specs.declared.links.Link.{Link}
-use Rattle.name_classes.specs.declared.links.RecordLinks.{RecordLinks}
-use Rattle.name_classes.specs.Classes.{name_at, AreLabels, firsts_of, EndsAt, HasEnds}
-use Rattle.name_classes.specs.steps.Links.{IsLink, HasLink, IsGlobalName, IsNear, IsLinkedTo, HasLinks, AreAllLinks, AreFirsts}
-use Rattle.name_classes.specs.steps.Joins.{IsLinkAt, IsJoinOf, AreJoined, once_at, links_at}
+use Rattle.name_classes.specs.Classes.{name_at, firsts_of, EndsAt, HasEnds}
+use Rattle.name_classes.specs.steps.Links.{IsLinkedTo}
+use Rattle.name_classes.specs.steps.Joins.{IsLinkAt, IsJoinOf, links_at}
 use Rattle.name_classes.proofs.ListLaws.{at_place}
 use Rattle.name_classes.proofs.TreeLaws.{tree_of_names, element_at}
 use Rattle.name_classes.proofs.SeenLaws.{record_here}

@@ -1,27 +1,12 @@
 -- What the links of a record join in each of its elements.
-use Rattle.std.proofs.Common.{◌≡◌, ◌⊎◌, ◌+◌, ◌==◌, ℕ, Bool, inl, inr, List, [], ◌++◌, refl, sym, ◌∙◌, ap, subst, arith}
-use Rattle.std.specs.Prelude.{Some, slice_get, if◌then◌else◌}
-use Rattle.std.proofs.lemmas.Bool.{cases_Bool, cases_lt}
-use Rattle.partition.specs.FiniteSets.Lists.{In}
-use Rattle.partition.proofs.FiniteSets.Members.{In-append_left, In-append_right, In-append_cases}
-use Rattle.partition.proofs.FiniteSets.Places.{In-slice_get, slice_get-In, slice_get-one}
+use Rattle.name_classes.proofs.Common.{◌≡◌, ◌⊎◌, ◌+◌, ◌==◌, ℕ, Bool, inl, inr, List, [], ◌++◌, refl, sym, ◌∙◌, ap, subst, arith, Some, slice_get}
+use Rattle.name_classes.proofs.Common.{if◌then◌else◌, cases_Bool, cases_lt, In, In-append_left, In-append_right, In-append_cases, In-slice_get}
+use Rattle.name_classes.proofs.Common.{slice_get-In, slice_get-one, NodeRec, MergeRec, CellExt, names_of, Element, name_in, TreeElement, FullNames}
+use Rattle.name_classes.proofs.Common.{AreNames, IsElement, HasSpot, GivesName, elements_in, MergeEnd, Link, RecordLinks, EndsThere, IsEndFrom}
+use Rattle.name_classes.proofs.Common.{IsLink, IsLinkIn, AreLinksOf, HasLinks, AreAllLinks, AddsJoins, AreJoined, once_at}
 use Rattle.partition.specs.Divides.{KeepsPairs}
-use Rattle.ext_model.specs.declared.records.NodeRec.{NodeRec}
-use Rattle.ext_model.specs.declared.records.MergeRec.{MergeRec}
-use Rattle.ext_model.specs.declared.records.CellExt.{CellExt}
-use Rattle.ext_model.specs.RecordNames.{names_of}
-use Rattle.circuit_model.specs.Elements.{Element}
-use Rattle.circuit_model.specs.FullNames.{name_in}
-use Rattle.full_names.specs.ElementTree.declared.tree.TreeElement.{TreeElement}
-use Rattle.full_names.specs.declared.names.FullNames.{FullNames}
 use Rattle.full_names.specs.NameLists.{IsFullNameList}
-use Rattle.full_names.specs.Names.{AreNames, IsElement, HasSpot, GivesName, elements_in}
-use Rattle.name_classes.specs.declared.classes.MergeEnd.{MergeEnd}
-use Rattle.name_classes.specs.declared.links.Link.{Link}
-use Rattle.name_classes.specs.declared.links.RecordLinks.{RecordLinks}
-use Rattle.name_classes.specs.steps.Paths.{EndsThere, IsEndFrom}
-use Rattle.name_classes.specs.steps.Links.{IsLink, IsLinkIn, AreLinksOf, HasLinks, AreAllLinks}
-use Rattle.name_classes.specs.steps.Joins.{HasEndsAt, HasJoin, AddsJoins, IsLinkAt, AreJoined, once_at, links_at}
+use Rattle.name_classes.specs.steps.Joins.{HasEndsAt, HasJoin, IsLinkAt, links_at}
 use Rattle.name_classes.proofs.ListLaws.{at_place}
 use Rattle.name_classes.proofs.TreeLaws.{element_at}
 use Rattle.name_classes.proofs.JoinLaws.{more_pairs}

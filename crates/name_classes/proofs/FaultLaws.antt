@@ -1,24 +1,14 @@
 -- The links of merges, and which path leads nowhere first.
-use Rattle.std.proofs.Common.{◌≡◌, ◌⊎◌, ℕ, Bool, true, cond, inl, inr, List, [], ◌∷◌, ◌++◌, take, sym, ◌∙◌, ap, subst}
-use Rattle.std.proofs.Common.{arith, length-append}
-use Rattle.std.specs.Prelude.{Option, Some, None, Result, Ok, Err, IfErr, slice_get}
+use Rattle.name_classes.proofs.Common.{◌≡◌, ◌⊎◌, ℕ, Bool, true, cond, inl, inr, List, [], ◌∷◌, ◌++◌, take, sym, ◌∙◌, ap, subst, arith, length-append}
+use Rattle.name_classes.proofs.Common.{Option, Some, None, slice_get, In, slice_get-In, slice_get-one, MergeRec, CellExt, slashes_in, FlatFault}
+use Rattle.name_classes.proofs.Common.{Memory, TreeElement, FullNames, MergeEnd, Link, IsEndFrom, HasRecord, IsLink, AreMergeLinks, IsMergeFault}
+use Rattle.std.specs.Prelude.{Result, Ok, Err, IfErr}
 use Rattle.std.specs.Result.{IsErrAnd}
 use Rattle.std.specs.Option.{option_or}
-use Rattle.partition.specs.FiniteSets.Lists.{In}
-use Rattle.partition.proofs.FiniteSets.Places.{slice_get-In, slice_get-one}
 use Rattle.partition.proofs.FiniteSets.Firsts.{first_some-at}
-use Rattle.ext_model.specs.declared.records.MergeRec.{MergeRec}
-use Rattle.ext_model.specs.declared.records.CellExt.{CellExt}
-use Rattle.ext_model.specs.NodeNames.{slashes_in}
-use Rattle.circuit_model.specs.declared.faults.FlatFault.{FlatFault}
-use Rattle.circuit_model.specs.declared.faults.FlatFault.TheVariants.{NoPath, Memory}
+use Rattle.circuit_model.specs.declared.faults.FlatFault.TheVariants.{NoPath}
 use Rattle.circuit_model.specs.Refusals.{first_fault, leads, path_fault, merge_fault}
-use Rattle.full_names.specs.ElementTree.declared.tree.TreeElement.{TreeElement}
-use Rattle.full_names.specs.declared.names.FullNames.{FullNames}
-use Rattle.name_classes.specs.declared.classes.MergeEnd.{MergeEnd}
-use Rattle.name_classes.specs.declared.links.Link.{Link}
-use Rattle.name_classes.specs.steps.Paths.{IsEndFrom}
-use Rattle.name_classes.specs.steps.Links.{HasRecord, IsLink, AreMergeLinks, IsPathFault, IsMergeFault}
+use Rattle.name_classes.specs.steps.Links.{IsPathFault}
 use Rattle.name_classes.proofs.ListLaws.{at_place, slice_get-push_both}
 
 -- ---- the first fault of a list

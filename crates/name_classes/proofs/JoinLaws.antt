@@ -1,15 +1,9 @@
 -- Numbers of full names that links join, one after another.
-use Rattle.std.proofs.Common.{◌≡◌, ◌<◌, ℕ, inl, inr, List, [], ◌∷◌, ◌++◌, length, refl, ◌∙◌, subst}
-use Rattle.std.proofs.Common.{arith, append_assoc}
-use Rattle.std.proofs.lemmas.Option.{slice_get_within}
-use Rattle.partition.specs.FiniteSets.Lists.{In}
-use Rattle.partition.proofs.FiniteSets.Members.{In-append_left, In-append_right, In-append_cases}
+use Rattle.name_classes.proofs.Common.{◌≡◌, ◌<◌, ℕ, inl, inr, List, [], ◌∷◌, ◌++◌, length, refl, ◌∙◌, subst, arith, append_assoc, slice_get_within}
+use Rattle.name_classes.proofs.Common.{In, In-append_left, In-append_right, In-append_cases, FullNames, Spot, AreNames, HasSpot, GivesName, Link}
+use Rattle.name_classes.proofs.Common.{AddsJoins}
 use Rattle.partition.specs.Divides.{Divides, IsPair, AddsPair}
-use Rattle.full_names.specs.declared.names.FullNames.{FullNames}
-use Rattle.full_names.specs.declared.names.Spot.{Spot}
-use Rattle.full_names.specs.Names.{AreNames, HasSpot, GivesName}
-use Rattle.name_classes.specs.declared.links.Link.{Link}
-use Rattle.name_classes.specs.steps.Joins.{JoinsEnds, IsJoin, HasJoin, AddsJoins}
+use Rattle.name_classes.specs.steps.Joins.{JoinsEnds, IsJoin, HasJoin}
 use Rattle.name_classes.proofs.PathLaws.{append_none}
 
 -- the number of a name is below the count

@@ -4,6 +4,7 @@ pub use Rattle.ext_model.proofs.GeoCore as GeoCore
 pub use Rattle.ext_model.proofs as ExtModel
 pub use Rattle.full_names.proofs.ElementTree as ElementTree
 pub use Rattle.full_names.proofs as FullNames
+mod Common
 pub mod ListLaws
 pub mod TreeLaws
 pub mod PathLaws

@@ -1,27 +1,18 @@
 -- Links of the names of nodes, which grow alias by alias and node by node.
-use Rattle.std.proofs.Common.{◌≡◌, ℕ, Bool, true, false, inl, inr, List, [], ◌∷◌, ◌++◌, refl, sym, subst}
-use Rattle.std.specs.Prelude.{Option, Some, None, IsTrue, IfSome}
+use Rattle.name_classes.proofs.Common.{◌≡◌, ℕ, Bool, true, false, inl, inr, List, [], ◌∷◌, ◌++◌, refl, sym, subst, Option, Some, None, In}
+use Rattle.name_classes.proofs.Common.{In-append_left, In-push_cases, In-flat_map, NodeRec, CellExt, names_of, is_node_name-lawful}
+use Rattle.name_classes.proofs.Common.{slashes_in-node_name, FullNames, AreNames, MergeEnd, Link, IsEndFrom, IsNameOf, HasRecord, IsLink, HasLink}
+use Rattle.name_classes.proofs.Common.{IsGlobalName, IsNear, IsLinkIn, AreNodeLinks}
+use Rattle.std.specs.Prelude.{IsTrue, IfSome}
 use Rattle.std.specs.Bool.{then_some}
-use Rattle.partition.specs.FiniteSets.Lists.{In}
-use Rattle.partition.proofs.FiniteSets.Members.{In-append_left, In-push, In-push_cases}
-use Rattle.partition.proofs.FiniteSets.Images.{In-flat_map}
+use Rattle.partition.proofs.FiniteSets.Members.{In-push}
 use Rattle.ext_model.specs.declared.names.NameKind.TheVariants.{Global}
-use Rattle.ext_model.specs.declared.records.NodeRec.{NodeRec}
-use Rattle.ext_model.specs.declared.records.CellExt.{CellExt}
 use Rattle.ext_model.specs.NodeNames.{is_global, name_kind}
-use Rattle.ext_model.specs.RecordNames.{names_of}
 use Rattle.ext_model.proofs.NameKinds.{kinds_tell_global_names}
 use Rattle.ext_model.proofs.PathNames.{last_name-whole}
-use Rattle.ext_model.proofs.RecordNameLaws.{is_node_name-lawful, slashes_in-node_name}
-use Rattle.full_names.specs.declared.names.FullNames.{FullNames}
-use Rattle.full_names.specs.Names.{AreNames}
-use Rattle.name_classes.specs.declared.classes.MergeEnd.{MergeEnd}
-use Rattle.name_classes.specs.declared.links.Link.{Link}
 use Rattle.name_classes.specs.declared.links.NodeLinks.{NodeLinks}
-use Rattle.name_classes.specs.steps.Paths.{IsEndFrom, IsNameOf}
-use Rattle.name_classes.specs.steps.Links.{HasRecord, IsLink, HasLink, IsGlobalName, IsNodeLink, IsNear, IsLinkedByGlobal, IsLinkedTo, AddsAlias, Grow}
+use Rattle.name_classes.specs.steps.Links.{IsNodeLink, IsLinkedByGlobal, IsLinkedTo, AddsAlias, Grow}
 use Rattle.name_classes.specs.steps.Links.{AddsNode}
-use Rattle.name_classes.specs.steps.Links.{IsLinkIn, AreNodeLinks}
 use Rattle.name_classes.proofs.TreeLaws.{lawful_at}
 
 -- the names of a node of an element's record

@@ -1,11 +1,6 @@
 -- What stands at a place of a list.
-use Rattle.std.proofs.Common.{◌≡◌, ◌+◌, ℕ, List, [], ◌∷◌, ◌++◌, length, map, sym, ◌∙◌, ap}
-use Rattle.std.proofs.Common.{subst, arith}
-use Rattle.std.specs.Prelude.{Option, Some, slice_get}
-use Rattle.std.proofs.lemmas.Option.{slice_get_within, slice_get-map}
-use Rattle.std.specs.Option.{option_map}
-use Rattle.partition.specs.FiniteSets.Lists.{Distinct}
-use Rattle.partition.proofs.FiniteSets.Places.{one_place, slice_get-below, slice_get-one}
+use Rattle.name_classes.proofs.Common.{◌≡◌, ◌+◌, ℕ, List, [], ◌∷◌, ◌++◌, length, map, sym, ◌∙◌, ap, subst, arith, Option, Some, slice_get}
+use Rattle.name_classes.proofs.Common.{slice_get_within, slice_get-map, option_map, Distinct, one_place, slice_get-below, slice_get-one}
 use Rattle.partition.proofs.FiniteSets.OneForOne.{AreOneForOne-push, AreOneForOne-from_places, AreOneForOne-there}
 
 -- there is a thing at each place

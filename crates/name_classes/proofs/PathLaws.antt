@@ -1,38 +1,21 @@
 -- Paths that are taken down the tree, name by name.
-use Rattle.std.proofs.Common.{◌||◌, ◌≡◌, ◌<◌, ◌+◌, ◌-◌, ◌==◌, ℕ, suc, Bool, false, cond, inl, inr, List, [], ◌∷◌, ◌++◌, length, map}
-use Rattle.std.proofs.Common.{get_or, refl, sym, ◌∙◌, ap, subst, arith, append_assoc}
-use Rattle.std.specs.Prelude.{Option, Some, None, slice_get, find}
-use Rattle.std.specs.Str.{bytes_eq}
-use Rattle.std.proofs.lemmas.Slice.Eq.{bytes_eq-Decides}
-use Rattle.std.proofs.lemmas.Bool.{cases_Bool}
-use Rattle.std.proofs.lemmas.Option.{slice_get_within, get_or_from_slice_get}
-use Rattle.std.proofs.lemmas.List.Sums.{sum_by-cons}
+use Rattle.name_classes.proofs.Common.{◌≡◌, ◌<◌, ◌+◌, ◌==◌, ℕ, suc, Bool, false, cond, inl, inr, List, [], ◌∷◌, ◌++◌, length, map, get_or, refl, sym}
+use Rattle.name_classes.proofs.Common.{◌∙◌, ap, subst, arith, append_assoc, Option, Some, None, slice_get, find, bytes_eq, bytes_eq-Decides}
+use Rattle.name_classes.proofs.Common.{cases_Bool, slice_get_within, get_or_from_slice_get, sum_by-cons, In, In-slice_get, slice_get-one}
+use Rattle.name_classes.proofs.Common.{slice_get-below, SLASH, UseRec, CellExt, slashes_in, node_names, is_node_name-lawful, slashes_in-node_name}
+use Rattle.name_classes.proofs.Common.{Element, ids_of, ext_of, name_in, TreeElement, ElementTree, branches_of, FullNames, Spot, elements_in}
+use Rattle.name_classes.proofs.Common.{AreNames, IsElement, IsReached, IsSpotOf, LacksName, Resolver, IsResolver, IsSplit, IsBranchOf, LacksUse}
+use Rattle.name_classes.proofs.Common.{EndsThere, IsEndFrom, IsNameOf}
+use Rattle.std.proofs.Common.{◌||◌, ◌-◌}
 use Rattle.std.proofs.lemmas.List.{map-append}
-use Rattle.partition.specs.FiniteSets.Lists.{In}
 use Rattle.partition.proofs.FiniteSets.Searches.{find-passes, list_any-of_In}
-use Rattle.partition.proofs.FiniteSets.Places.{In-slice_get, slice_get-one, slice_get-below}
-use Rattle.ext_model.specs.declared.names.TheConstants.{SLASH}
-use Rattle.ext_model.specs.declared.records.UseRec.{UseRec}
-use Rattle.ext_model.specs.declared.records.CellExt.{CellExt}
-use Rattle.ext_model.specs.NodeNames.{slashes_in}
 use Rattle.ext_model.specs.Paths.{path_text, full_name}
-use Rattle.ext_model.specs.RecordNames.{node_names}
 use Rattle.ext_model.proofs.PathOrders.{slashes_in-behind}
 use Rattle.ext_model.proofs.PathNames.{path_text-append, paths_name_below}
-use Rattle.ext_model.proofs.RecordNameLaws.{is_node_name-lawful, slashes_in-node_name}
-use Rattle.circuit_model.specs.Elements.{Element, ids_of, ext_of}
-use Rattle.circuit_model.specs.FullNames.{name_in}
 use Rattle.circuit_model.specs.FlatNodes.{is_among}
 use Rattle.circuit_model.specs.Refusals.{leads, before_slash, after_slash}
 use Rattle.full_names.specs.ElementTree.declared.tree.Branch.{Branch}
-use Rattle.full_names.specs.ElementTree.declared.tree.TreeElement.{TreeElement}
-use Rattle.full_names.specs.ElementTree.declared.tree.ElementTree.{ElementTree}
-use Rattle.full_names.specs.ElementTree.Trees.{branches_of}
-use Rattle.full_names.specs.declared.names.FullNames.{FullNames}
-use Rattle.full_names.specs.declared.names.Spot.{Spot}
-use Rattle.full_names.specs.Names.{elements_in, AreNames, IsElement, IsReached, IsSpotOf, LacksName}
-use Rattle.name_classes.specs.declared.paths.Resolver.{Resolver}
-use Rattle.name_classes.specs.steps.Paths.{IsResolver, IsSplit, IsBranchOf, LacksUse, EndsThere, IsEndFrom, LeadsNowhere, IsNameOf}
+use Rattle.name_classes.specs.steps.Paths.{LeadsNowhere}
 use Rattle.name_classes.proofs.ListLaws.{at_place}
 use Rattle.name_classes.proofs.TreeLaws.{tree_of_names, element_at, record_of, reached, lawful_at, one_cell, child_of_use}
 

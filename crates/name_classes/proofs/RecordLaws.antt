@@ -1,14 +1,8 @@
 -- The records of elements as they are read.
-use Rattle.std.proofs.Common.{◌≡◌, ◌<◌, ℕ, List, length, get_or, sym, ◌∙◌, ap, arith}
-use Rattle.std.specs.Prelude.{Some, slice_get, pos}
+use Rattle.name_classes.proofs.Common.{◌≡◌, ◌<◌, ℕ, List, length, get_or, sym, ◌∙◌, ap, arith, Some, slice_get, slice_get_within, slice_get-get_or}
+use Rattle.name_classes.proofs.Common.{CellExt, TreeElement, ElementTree, Resolver, IsResolver, HasRecord}
+use Rattle.std.specs.Prelude.{pos}
 use Rattle.ext_model.specs.GeoCore.declared.orients.Orient.TheVariants.{R0}
-use Rattle.std.proofs.lemmas.Option.{slice_get_within, slice_get-get_or}
-use Rattle.ext_model.specs.declared.records.CellExt.{CellExt}
-use Rattle.full_names.specs.ElementTree.declared.tree.TreeElement.{TreeElement}
-use Rattle.full_names.specs.ElementTree.declared.tree.ElementTree.{ElementTree}
-use Rattle.name_classes.specs.declared.paths.Resolver.{Resolver}
-use Rattle.name_classes.specs.steps.Paths.{IsResolver}
-use Rattle.name_classes.specs.steps.Links.{HasRecord}
 use Rattle.name_classes.proofs.TreeLaws.{element_at, record_of}
 
 module _ (resolver : Resolver) (is : IsResolver resolver) (number : ℕ) (within : number < length resolver.tree.now.elements) (elements : List TreeElement)

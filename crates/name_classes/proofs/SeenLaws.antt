@@ -1,23 +1,18 @@
 -- Records whose links are made when their first element is met.
-use Rattle.std.proofs.Common.{◌≡◌, ◌<◌, ◌+◌, ℕ, zero, suc, Bool, true, false, inl, inr, List, length, refl, sym, ◌∙◌, ap, subst, arith, Vec}
+use Rattle.name_classes.proofs.Common.{◌≡◌, ◌<◌, ◌+◌, ℕ, zero, suc, Bool, true, false, inl, inr, List, length, refl, sym, ◌∙◌, ap, subst, arith}
+use Rattle.name_classes.proofs.Common.{Some, None, slice_get, cases_lt, slice_get_within, slice_get-In, slice_get-one, CellExt, FlatFault, Element}
+use Rattle.name_classes.proofs.Common.{TreeElement, FullNames, AreNames, IsElement, elements_in, RecordLinks, AreLinksOf, HasLinks, AreAllLinks}
+use Rattle.name_classes.proofs.Common.{IsMergeFault, IsPathFaultOf}
+use Rattle.std.proofs.Common.{Vec}
 use Rattle.std.proofs.Common.{Global}
-use Rattle.std.specs.Prelude.{Some, None, slice_get, slice_set, replicate}
-use Rattle.std.proofs.lemmas.Bool.{cases_eq, cases_lt}
+use Rattle.std.specs.Prelude.{slice_set, replicate}
+use Rattle.std.proofs.lemmas.Bool.{cases_eq}
 use Rattle.std.proofs.lemmas.List.{length-set, with_items_is}
 use Rattle.std.specs.Vec.{with_items}
-use Rattle.std.proofs.lemmas.Option.{slice_get_within}
-use Rattle.partition.proofs.FiniteSets.Places.{slice_get-In, slice_get-one, slice_get-set_same, slice_get-set_other, slice_get-In_take}
+use Rattle.partition.proofs.FiniteSets.Places.{slice_get-set_same, slice_get-set_other, slice_get-In_take}
 use Rattle.partition.proofs.FiniteSets.Firsts.{first_some-none, first_some-at}
-use Rattle.ext_model.specs.declared.records.CellExt.{CellExt}
-use Rattle.circuit_model.specs.declared.faults.FlatFault.{FlatFault}
-use Rattle.circuit_model.specs.Elements.{Element}
 use Rattle.circuit_model.specs.Refusals.{first_fault, merge_fault, element_fault}
-use Rattle.full_names.specs.ElementTree.declared.tree.TreeElement.{TreeElement}
-use Rattle.full_names.specs.declared.names.FullNames.{FullNames}
-use Rattle.full_names.specs.Names.{AreNames, IsElement, elements_in}
-use Rattle.name_classes.specs.declared.links.RecordLinks.{RecordLinks}
-use Rattle.name_classes.specs.steps.Links.{AreLinksOf, HasLinks, AreAllLinks, IsMergeFault}
-use Rattle.name_classes.specs.Classes.{HasNoPathFault, IsPathFaultOf}
+use Rattle.name_classes.specs.Classes.{HasNoPathFault}
 use Rattle.name_classes.proofs.ListLaws.{at_place}
 use Rattle.name_classes.proofs.TreeLaws.{tree_of_names, element_at, record_of}
 use Rattle.name_classes.proofs.FaultLaws.{one_record, merges_sound}

@@ -1,14 +1,12 @@
 -- Where the first slash of a path stands.
-use Rattle.std.proofs.Common.{◌≡◌, ◌+◌, ◌-◌, ◌==◌, ℕ, suc, Bool, false, cond, inl, inr, List, [], ◌∷◌, length, take, drop, refl, sym, ◌∙◌, ap}
-use Rattle.std.proofs.Common.{subst, arith, take_all, length-drop}
-use Rattle.std.specs.Prelude.{Some, None, position}
+use Rattle.name_classes.proofs.Common.{◌≡◌, ◌+◌, ◌==◌, ℕ, suc, Bool, false, cond, inl, inr, List, [], ◌∷◌, length, take, refl, sym, ◌∙◌, ap, subst}
+use Rattle.name_classes.proofs.Common.{arith, Some, None, cases_Bool, sum_by-cons, SLASH, slashes_in, IsSplit}
+use Rattle.std.proofs.Common.{◌-◌, drop}
+use Rattle.std.proofs.Common.{take_all, length-drop}
+use Rattle.std.specs.Prelude.{position}
 use Rattle.std.specs.List.{position_from}
-use Rattle.std.proofs.lemmas.Bool.{cases_Bool, eqb-true}
+use Rattle.std.proofs.lemmas.Bool.{eqb-true}
 use Rattle.std.proofs.lemmas.Iterator.Adapters.{position_from-zero}
-use Rattle.std.proofs.lemmas.List.Sums.{sum_by-cons}
-use Rattle.ext_model.specs.declared.names.TheConstants.{SLASH}
-use Rattle.ext_model.specs.NodeNames.{slashes_in}
-use Rattle.name_classes.specs.steps.Paths.{IsSplit}
 
 is_slash : ℕ → Bool
 is_slash byte = byte == SLASH

@@ -1,16 +1,8 @@
 -- Tables of uses that grow use by use.
-use Rattle.std.proofs.Common.{◌≡◌, ℕ, Bool, true, cond, inl, inr, List, [], ◌∷◌, ◌++◌, length, length-append, sym, ◌∙◌, ap, subst}
-use Rattle.std.proofs.Common.{arith}
-use Rattle.std.specs.Prelude.{Some, None, slice_get}
-use Rattle.std.specs.Str.{bytes_eq}
-use Rattle.std.proofs.lemmas.Slice.Eq.{bytes_eq-Decides}
-use Rattle.std.proofs.lemmas.Bool.{cases_Bool}
-use Rattle.partition.proofs.FiniteSets.Members.{In-push_cases}
+use Rattle.name_classes.proofs.Common.{◌≡◌, ℕ, Bool, true, cond, inl, inr, List, [], ◌∷◌, ◌++◌, length, length-append, sym, ◌∙◌, ap, subst, arith}
+use Rattle.name_classes.proofs.Common.{Some, None, slice_get, bytes_eq, bytes_eq-Decides, cases_Bool, In-push_cases, UseRec, CellExt, UseTable}
+use Rattle.name_classes.proofs.Common.{number_of, IsTableOf, AreUseTables}
 use Rattle.partition.proofs.FiniteSets.Places.{slice_get-append_left, slice_get-push_new}
-use Rattle.ext_model.specs.declared.records.UseRec.{UseRec}
-use Rattle.ext_model.specs.declared.records.CellExt.{CellExt}
-use Rattle.name_classes.specs.declared.tables.UseTable.{UseTable}
-use Rattle.name_classes.specs.steps.UseTables.{number_of, IsTableOf, AreUseTables}
 use Rattle.name_classes.proofs.ListLaws.{slice_get-push_both}
 
 -- the table with one more use

@@ -1,20 +1,14 @@
 -- The elements of a tree of records by their numbers.
-use Rattle.std.proofs.Common.{◌≡◌, ◌⊎◌, ℕ, zero, suc, inl, inr, List, [], ◌∷◌, ◌++◌, refl, sym, ◌∙◌, ap, subst}
-use Rattle.std.specs.Prelude.{Option, Some, None, slice_get}
+use Rattle.name_classes.proofs.Common.{◌≡◌, ◌⊎◌, ℕ, zero, suc, inl, inr, List, [], ◌∷◌, ◌++◌, refl, sym, ◌∙◌, ap, subst, Option, Some, None}
+use Rattle.name_classes.proofs.Common.{slice_get, In, In-slice_get, slice_get-In, slice_get-below, UseRec, CellExt, Element, ext_of, TreeElement}
+use Rattle.name_classes.proofs.Common.{FullNames, elements_in, AreNames, IsElement, IsReached}
 use Rattle.std.proofs.lemmas.List.Elements.{All-contains}
-use Rattle.partition.specs.FiniteSets.Lists.{In}
 use Rattle.partition.proofs.FiniteSets.Members.{Contains-from_In}
 use Rattle.partition.proofs.FiniteSets.Images.{In-flat_map_source}
-use Rattle.partition.proofs.FiniteSets.Places.{In-slice_get, slice_get-In, slice_get-below}
-use Rattle.ext_model.specs.declared.records.UseRec.{UseRec}
-use Rattle.ext_model.specs.declared.records.CellExt.{CellExt}
 use Rattle.ext_model.specs.Lawful.{IsLawful}
 use Rattle.circuit_model.specs.declared.limits.TheConstants.{LONGEST_CHAIN}
-use Rattle.circuit_model.specs.Elements.{Element, ext_of, of_option, elements_below, elements_of}
-use Rattle.full_names.specs.ElementTree.declared.tree.TreeElement.{TreeElement}
+use Rattle.circuit_model.specs.Elements.{of_option, elements_below, elements_of}
 use Rattle.full_names.specs.ElementTree.Trees.{IsTreeOfElements}
-use Rattle.full_names.specs.declared.names.FullNames.{FullNames}
-use Rattle.full_names.specs.Names.{elements_in, AreNames, IsElement, IsReached}
 use Rattle.name_classes.proofs.ListLaws.{at_place, place_of_image}
 
 -- the record of the root, and the elements below it

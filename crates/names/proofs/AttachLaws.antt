@@ -1,38 +1,26 @@
 -- Labels attach to the least places of the tiles that take them.
-use Rattle.std.proofs.Common.{◌≡◌, ℕ, Bool, true, false, Option, Some, None, List, length, IsTrue, inl, inr, arith, refl, sym, subst, ◌∙◌, ap}
-use Rattle.std.specs.Prelude.{slice_get, IsPermutation, find}
-use Rattle.std.proofs.lemmas.Bool.{cases_lt, and_parts, and_from, false≢true}
-use Rattle.std.proofs.lemmas.List.{get_or_past}
-use Rattle.std.proofs.lemmas.List.Sorted.{IsPermutation-sym}
-use Rattle.std.proofs.lemmas.Option.{none-some, slice_get_within, slice_get-get_or, get_or_from_slice_get}
-use Rattle.geo_core.specs.FiniteSets.Lists.{In}
+use Rattle.names.proofs.Common.{◌≡◌, ℕ, Bool, true, false, Option, Some, None, List, length, IsTrue, inl, inr, arith, refl, sym, subst, ◌∙◌, ap}
+use Rattle.names.proofs.Common.{IsPermutation, cases_lt, and_parts, false≢true, get_or_past, IsPermutation-sym, none-some, In, In-get_or, In-index}
+use Rattle.names.proofs.Common.{In-permutation, Square, Rect, common_rect, corner_of, has_square, IsProper-has_square, has_square-IsProper}
+use Rattle.names.proofs.Common.{corner_covered, Label, RawTech, is_type, IsWellFormed, Place, IsNoLater, Layout, IsMaterial, AreLayoutTiles}
+use Rattle.names.proofs.Common.{IsInRegion, RegionTile, is_naming_text, no_tile, Attachment, touched, place_of, IsAttachment}
+use Rattle.std.specs.Prelude.{slice_get, find}
+use Rattle.std.proofs.lemmas.Bool.{and_from}
+use Rattle.std.proofs.lemmas.Option.{slice_get_within, slice_get-get_or, get_or_from_slice_get}
 use Rattle.geo_core.specs.FiniteSets.Least.{IsLeast}
 use Rattle.geo_core.proofs.FiniteSets.Leasts.{IsLeast-unique}
-use Rattle.geo_core.proofs.FiniteSets.Members.{In-get_or, In-index, In-permutation}
 use Rattle.geo_core.proofs.FiniteSets.Searches.{find-In, All-In}
-use Rattle.geo_core.specs.declared.squares.Square.{Square}
-use Rattle.geo_core.specs.declared.squares.Rect.{Rect}
-use Rattle.geo_core.specs.Areas.{common_rect, corner_of, has_square}
 use Rattle.geo_core.specs.Covering.{Covers, IsProper}
-use Rattle.geo_core.proofs.CoveringLaws.{IsProper-has_square, has_square-IsProper, covers_first, covers_second, covers_both, covers_is_proper, corner_covered}
-use Rattle.tech_model.specs.declared.raw.Label.{Label}
+use Rattle.geo_core.proofs.CoveringLaws.{covers_first, covers_second, covers_both, covers_is_proper}
 use Rattle.tech_model.specs.declared.raw.LayerId.{LayerId}
 use Rattle.tech_model.specs.declared.raw.TypeId.{TypeId}
-use Rattle.tech_model.specs.declared.raw.RawTech.{RawTech}
-use Rattle.tech_model.specs.Types.{is_type, image_on, images_of, is_on, is_within, no_layer}
-use Rattle.tech_model.specs.WellFormed.{IsWellFormed}
+use Rattle.tech_model.specs.Types.{image_on, images_of, is_on, is_within, no_layer}
 use Rattle.tech_model.proofs.TypeLaws.{within_type}
 use Rattle.tech_model.proofs.WellFormedLaws.{type_bounds, layer_well_formed}
-use Rattle.layout_model.specs.Places.{Place, IsNoLater}
-use Rattle.layout_model.specs.Layouts.{Layout, IsMaterial}
-use Rattle.layout_model.specs.RegionTiles.{LiesIn, AreLayoutTiles, IsInRegion}
-use Rattle.layout_model.specs.declared.region_tiles.RegionTile.{RegionTile}
+use Rattle.layout_model.specs.RegionTiles.{LiesIn}
 use Rattle.layout_model.proofs.PlaceLaws.{IsNoLater-antisym}
-use Rattle.ext_model.specs.NodeNames.{is_naming_text}
-use Rattle.flood_nodes.specs.TileShares.{no_tile}
-use Rattle.names.specs.declared.attaching.Attachment.{Attachment}
-use Rattle.names.specs.Attachments.{touched, Suits, AttachesTo}
-use Rattle.names.specs.steps.TakenLabels.{suits_kind, image_within, takes, attachment_on, place_of, IsLeastOn, IsAttachment}
+use Rattle.names.specs.Attachments.{Suits, AttachesTo}
+use Rattle.names.specs.steps.TakenLabels.{suits_kind, image_within, takes, attachment_on, IsLeastOn}
 use Rattle.names.proofs.PlaceOrders.{IsNoLater-trans, no_later_by_parts}
 use Rattle.names.proofs.TakingLaws.{IsLeastTaken-iff}
 

@@ -1,23 +1,11 @@
 -- Where labels attach, one after another.
-use Rattle.std.proofs.Common.{◌≡◌, ◌<◌, ◌+◌, ℕ, Bool, true, false, Option, Some, None, List, [], ◌∷◌, ◌++◌, length, get_or, inl, inr, arith, refl, sym, subst, ◌∙◌, ap}
-use Rattle.std.specs.Prelude.{All, IfSome, IsPermutation}
-use Rattle.std.specs.Option.{option_map}
-use Rattle.std.proofs.lemmas.Bool.{cases_eq, cases_lt, false≢true}
-use Rattle.std.proofs.lemmas.List.{get_or_append_left, get_or_push, get_or_past, get_or_default, length_push}
-use Rattle.std.proofs.lemmas.Option.{none-some, same_Some}
-use Rattle.geo_core.specs.FiniteSets.Lists.{In}
-use Rattle.geo_core.proofs.FiniteSets.Members.{In-get_or, In-index}
-use Rattle.ext_model.specs.NodeNames.{is_naming_text}
+use Rattle.names.proofs.Common.{◌≡◌, ◌<◌, ◌+◌, ℕ, Bool, true, false, Option, Some, None, List, [], ◌∷◌, ◌++◌, length, get_or, inl, inr, arith, refl}
+use Rattle.names.proofs.Common.{sym, subst, ◌∙◌, ap, All, IfSome, IsPermutation, option_map, cases_eq, cases_lt, false≢true, get_or_append_left}
+use Rattle.names.proofs.Common.{get_or_push, get_or_past, get_or_default, length_push, none-some, same_Some, In, In-get_or, In-index, is_naming_text}
+use Rattle.names.proofs.Common.{no_tile, region_found, text_at, IsNamed, AreCounted, AreFirstTiles, Label, RawTech, RegionTile, Attachment, label_at}
+use Rattle.names.proofs.Common.{no_label, IsAttachment, found_at}
 use Rattle.flood_nodes.specs.SoundTiles.{IsSoundTile}
-use Rattle.flood_nodes.specs.TileShares.{no_tile}
-use Rattle.names.specs.steps.CountedLabels.{region_found, text_at, IsNamed, AreCounted}
-use Rattle.names.specs.steps.FirstTiles.{AreFirstTiles}
-use Rattle.tech_model.specs.declared.raw.Label.{Label}
-use Rattle.tech_model.specs.declared.raw.RawTech.{RawTech}
-use Rattle.layout_model.specs.declared.region_tiles.RegionTile.{RegionTile}
-use Rattle.names.specs.declared.attaching.Attachment.{Attachment}
-use Rattle.names.specs.Attachments.{label_at, no_label}
-use Rattle.names.specs.steps.TakenLabels.{IsAttachment, AreAttachments, found_at}
+use Rattle.names.specs.steps.TakenLabels.{AreAttachments}
 use Rattle.names.proofs.AttachLaws.{attachment_moved}
 
 module _ (raw : RawTech) (tiles : List RegionTile) (labels : List Label) where

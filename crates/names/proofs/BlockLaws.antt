@@ -1,14 +1,10 @@
 -- Blocks of tiles, as they are made.
-use Rattle.std.proofs.Common.{◌≡◌, ◌<◌, ◌≤◌, ◌+◌, ℕ, pos, ◌≤ℤ◌, false, ◌&&◌, eqb, List, [], ◌∷◌, ◌++◌, length, get_or, inl, inr, arith, refl, sym, subst, ◌∙◌, ap}
-use Rattle.std.proofs.lemmas.Bool.{cases_eq, and_parts, eqb-true}
-use Rattle.std.proofs.lemmas.Int.{ints, clamps}
-use Rattle.std.proofs.lemmas.List.{get_or_append_left, get_or_push, length_push}
-use Rattle.geo_core.specs.declared.squares.Rect.{Rect}
-use Rattle.geo_core.specs.Areas.{LiesWithin, joined_rect}
+use Rattle.names.proofs.Common.{◌≡◌, ◌<◌, ◌≤◌, ◌+◌, ℕ, ◌≤ℤ◌, false, List, [], ◌∷◌, ◌++◌, length, get_or, inl, inr, arith, refl, sym, subst, ◌∙◌, ap}
+use Rattle.names.proofs.Common.{cases_eq, and_parts, eqb-true, ints, clamps, get_or_append_left, get_or_push, length_push, Rect, LiesWithin}
+use Rattle.names.proofs.Common.{RegionTile, tile_at, Block}
+use Rattle.std.proofs.Common.{pos, ◌&&◌, eqb}
+use Rattle.geo_core.specs.Areas.{joined_rect}
 use Rattle.geo_core.proofs.CoveringLaws.{within_joined_second}
-use Rattle.layout_model.specs.declared.region_tiles.RegionTile.{RegionTile}
-use Rattle.flood_nodes.specs.TileShares.{tile_at}
-use Rattle.names.specs.declared.blocks.Block.{Block}
 use Rattle.names.specs.steps.Blocks.{IsWithinBlock, IsBlockFrom, AddsTile, is_like}
 
 -- what stands past the end of a list of blocks

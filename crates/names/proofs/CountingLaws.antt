@@ -1,22 +1,14 @@
 -- Labels that are counted one after another.
-use Rattle.std.proofs.Common.{◌≡◌, ◌≢◌, ◌<◌, ◌+◌, ◌⊎◌, ℕ, Bool, true, false, Option, Some, None, List, [], ◌∷◌, ◌++◌, length, get_or, inl, inr, arith, refl, sym, subst, ◌∙◌, ap}
+use Rattle.names.proofs.Common.{◌≡◌, ◌≢◌, ◌<◌, ◌+◌, ◌⊎◌, ℕ, Bool, true, false, Option, Some, None, List, [], ◌∷◌, ◌++◌, length, get_or, inl, inr}
+use Rattle.names.proofs.Common.{arith, refl, sym, subst, ◌∙◌, ap, nat_cmp, Ordering, Less, Equal, Greater, slice_cmp, nat_cmp-IsAntisymmetric}
+use Rattle.names.proofs.Common.{slice_cmp-IsAntisymmetric, cases_eq, tied_itself, get_or_append_left, get_or_push, length_push, none-some, same_Some}
+use Rattle.names.proofs.Common.{EitherWay, In, Chain-one, Chain-append, Chain-same, Chain-weaker, In-append_left, IsJoined, IsPair, is_global}
+use Rattle.names.proofs.Common.{IsCounted, IsNamed, ShareText, AreCounted}
 use Rattle.std.specs.Option.{unwrap_or}
-use Rattle.std.specs.Ordering.{nat_cmp}
-use Rattle.std.specs.declared.cmp.Ordering.{Ordering}
-use Rattle.std.specs.declared.cmp.Ordering.TheVariants.{Less, Equal, Greater}
-use Rattle.std.specs.Cmp.Lexicographic.{slice_cmp}
-use Rattle.std.specs.FinMap.{nat_cmp-IsAntisymmetric, slice_cmp-IsAntisymmetric}
-use Rattle.std.proofs.lemmas.Bool.{cases_eq}
-use Rattle.std.proofs.lemmas.Cmp.{nat_list_cmp_total, tied_itself}
-use Rattle.std.proofs.lemmas.List.{get_or_append_left, get_or_push, length_push}
-use Rattle.std.proofs.lemmas.Option.{none-some, same_Some}
-use Rattle.geo_core.specs.FiniteSets.Chain.{EitherWay}
-use Rattle.geo_core.specs.FiniteSets.Lists.{In}
-use Rattle.geo_core.proofs.FiniteSets.Chains.{Chain-one, Chain-append, Chain-same, Chain-weaker, Chain-either_back}
-use Rattle.geo_core.proofs.FiniteSets.Members.{In-append_left, In-append_right, In-append_cases}
-use Rattle.partition.specs.Divides.{IsJoined, IsPair}
-use Rattle.ext_model.specs.NodeNames.{is_global}
-use Rattle.names.specs.steps.CountedLabels.{counted_region, joined_pair, IsCounted, IsFirstRegion, IsNamed, ShareText, AreCounted}
+use Rattle.std.proofs.lemmas.Cmp.{nat_list_cmp_total}
+use Rattle.geo_core.proofs.FiniteSets.Chains.{Chain-either_back}
+use Rattle.geo_core.proofs.FiniteSets.Members.{In-append_right, In-append_cases}
+use Rattle.names.specs.steps.CountedLabels.{counted_region, joined_pair, IsFirstRegion}
 
 -- two texts are one or not
 pub same_or_not : (a b : List ℕ) → (a ≡ b) ⊎ (a ≢ b)

@@ -1,22 +1,15 @@
 -- The first tiles of classes, among tiles in the order of places.
-use Rattle.std.proofs.Common.{◌≡◌, ◌≢◌, ◌<◌, ◌+◌, ◌⊎◌, ◌↔◌, ℕ, ℤ, Bool, true, false, Ordering, List, [], ◌∷◌, ◌++◌, length, get_or, set, inl, inr, arith, refl, sym, subst, ◌∙◌, ap}
-use Rattle.std.specs.Prelude.{AllPairs, IsPermutation}
+use Rattle.names.proofs.Common.{◌≡◌, ◌≢◌, ◌<◌, ◌+◌, ◌⊎◌, ℕ, Bool, true, false, List, [], ◌∷◌, ◌++◌, length, get_or, inl, inr, arith, refl, sym}
+use Rattle.names.proofs.Common.{subst, ◌∙◌, ap, AllPairs, IsPermutation, nat_cmp, cases_eq, false≢true, ints, all_pairs_push, IsPermutation-sym, In}
+use Rattle.names.proofs.Common.{In-get_or, In-index, In-push_cases, In-push, In-append_left, In-permutation, IsNoLater, RegionTile, tile_at, no_tile}
+use Rattle.names.proofs.Common.{corner_place, class_of, IsFirstTile, AreFirstTiles}
+use Rattle.std.proofs.Common.{◌↔◌, ℤ, Ordering, set}
 use Rattle.std.specs.Cmp.{IsTotalOrder}
 use Rattle.std.specs.List.Sorted.{IsSortedByKey}
-use Rattle.std.specs.Ordering.{nat_cmp, int_cmp, ordering_then}
-use Rattle.std.proofs.lemmas.Bool.{cases_eq, false≢true}
+use Rattle.std.specs.Ordering.{int_cmp, ordering_then}
 use Rattle.std.proofs.lemmas.Cmp.{nat_cmp_total, int_cmp_total, on_total, then_total}
-use Rattle.std.proofs.lemmas.Int.{ints}
 use Rattle.std.proofs.lemmas.List.{get_or-set_same, get_or-set_other, length-set}
-use Rattle.std.proofs.lemmas.List.Quantifiers.{all_pairs_push}
-use Rattle.std.proofs.lemmas.List.Sorted.{IsPermutation-sym}
-use Rattle.geo_core.specs.FiniteSets.Lists.{In}
-use Rattle.geo_core.proofs.FiniteSets.Members.{In-get_or, In-index, In-push_cases, In-push, In-append_left, In-permutation}
 use Rattle.geo_core.proofs.FiniteSets.Orders.{int_cmp-not_less, ordering_then-not_less, IsSortedByKey-pairs, nat_then-not_less}
-use Rattle.layout_model.specs.Places.{IsNoLater}
-use Rattle.layout_model.specs.declared.region_tiles.RegionTile.{RegionTile}
-use Rattle.flood_nodes.specs.TileShares.{tile_at, no_tile}
-use Rattle.names.specs.steps.FirstTiles.{corner_place, class_of, IsFirstTile, AreFirstTiles}
 use Rattle.names.proofs.PlaceOrders.{no_later_by_parts}
 use Rattle.names.proofs.TakingLaws.{IsSeen}
 

@@ -1,14 +1,9 @@
 -- Numbers that are put into groups one after another.
-use Rattle.std.proofs.Common.{◌≡◌, ◌<◌, ◌+◌, ℕ, Option, Some, None, List, [], ◌∷◌, ◌++◌, length, get_or, map, inl, inr, arith, sym, subst, ◌∙◌, ap, Vec, Global}
-use Rattle.std.specs.Prelude.{All, IfSome}
-use Rattle.std.proofs.lemmas.Bool.{cases_eq}
-use Rattle.std.proofs.lemmas.List.{get_or-map, length-map}
+use Rattle.names.proofs.Common.{◌≡◌, ◌<◌, ◌+◌, ℕ, Option, Some, None, List, [], ◌∷◌, ◌++◌, length, get_or, map, inl, inr, arith, sym, subst, ◌∙◌, ap}
+use Rattle.names.proofs.Common.{Vec, Global, All, IfSome, cases_eq, get_or-map, length-map, all_pairs_push, none-some, same_Some, In, In-get_or}
+use Rattle.names.proofs.Common.{In-push_cases, In-push, In-append_left, AreGroupsBy, AreGroups, key_at, class_in, region_key, label_key}
 use Rattle.std.proofs.lemmas.List.Elements.{All-map}
-use Rattle.std.proofs.lemmas.List.Quantifiers.{all_pairs_push}
-use Rattle.std.proofs.lemmas.Option.{none-some, same_Some}
-use Rattle.geo_core.specs.FiniteSets.Lists.{In}
-use Rattle.geo_core.proofs.FiniteSets.Members.{In-get_or, In-push_cases, In-push, In-append_left}
-use Rattle.names.specs.steps.Groups.{IsGroup, AreGroupsBy, AreGroups, AddsMember, key_at, class_in, region_key, label_key}
+use Rattle.names.specs.steps.Groups.{IsGroup, AddsMember}
 
 -- a group has nothing of no numbers
 pub group_none : (keys : ℕ → Option ℕ) (group : ℕ) (members : List ℕ) → members ≡ [] → IsGroup keys 0 group members

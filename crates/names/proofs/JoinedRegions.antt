@@ -1,32 +1,15 @@
 -- Labels, the regions that they name, and the regions that global names join.
-use Rattle.std.proofs.Common.{◌≡◌, ◌<◌, ℕ, true, Option, Some, None, List, length, get_or, inl, inr, arith, refl, sym, subst, ◌∙◌, ap}
-use Rattle.std.specs.Prelude.{slice_index, ◌↔◌}
-use Rattle.std.specs.Option.{option_map}
-use Rattle.std.proofs.lemmas.Bool.{false≢true}
-use Rattle.std.proofs.lemmas.List.{get_or-map, length-map}
-use Rattle.std.proofs.lemmas.Option.{none-some, same_Some, slice_get_within, get_or_from_slice_get}
-use Rattle.geo_core.specs.FiniteSets.Chain.{EitherWay}
+use Rattle.names.proofs.Common.{◌≡◌, ◌<◌, ℕ, true, Option, Some, None, List, length, get_or, inl, inr, arith, refl, sym, subst, ◌∙◌, ap, slice_index}
+use Rattle.names.proofs.Common.{◌↔◌, option_map, false≢true, get_or-map, length-map, none-some, same_Some, EitherWay, Chain-append, Chain-one}
+use Rattle.names.proofs.Common.{Chain-same, Chain-weaker, IsJoined, IsPair, Divides, Label, RawTech, connects, IsWellFormed, Place, Layout}
+use Rattle.names.proofs.Common.{IsMaterial, AreRegions, IsInRegion, regions_of, RegionTile, is_global, no_tile, Attachment, label_at, region_found}
+use Rattle.names.proofs.Common.{text_at, IsNamed, ShareText, AreCounted, key_at, place_of, IsAttachment, found_at}
+use Rattle.std.proofs.lemmas.Option.{slice_get_within, get_or_from_slice_get}
 use Rattle.geo_core.specs.FiniteSets.Chain.Chain.{stay, go}
-use Rattle.geo_core.proofs.FiniteSets.Chains.{Chain-append, Chain-one, Chain-same, Chain-weaker}
-use Rattle.partition.specs.Divides.{IsJoined, IsPair, Divides}
-use Rattle.tech_model.specs.declared.raw.Label.{Label}
-use Rattle.tech_model.specs.declared.raw.RawTech.{RawTech}
-use Rattle.tech_model.specs.Types.{connects}
-use Rattle.tech_model.specs.WellFormed.{IsWellFormed}
-use Rattle.layout_model.specs.Places.{Place}
-use Rattle.layout_model.specs.Layouts.{Layout, IsMaterial}
 use Rattle.layout_model.specs.Links.{AreOneNode}
-use Rattle.layout_model.specs.RegionTiles.{AreRegions, IsInRegion, regions_of}
-use Rattle.layout_model.specs.declared.region_tiles.RegionTile.{RegionTile}
-use Rattle.ext_model.specs.NodeNames.{is_global}
-use Rattle.flood_nodes.specs.TileShares.{no_tile}
 use Rattle.flood_nodes.proofs.TileEdges.{lies_in_one}
-use Rattle.names.specs.declared.attaching.Attachment.{Attachment}
-use Rattle.names.specs.Attachments.{AttachesTo, label_at, IsFirstToAttach, NamesPlace, HasText}
-use Rattle.names.specs.steps.CountedLabels.{region_found, text_at, IsNamed, ShareText, AreCounted}
-use Rattle.names.specs.steps.Groups.{key_at}
+use Rattle.names.specs.Attachments.{AttachesTo, IsFirstToAttach, NamesPlace, HasText}
 use Rattle.names.specs.NamedNodes.{ShareGlobal, AreOneNamedNode}
-use Rattle.names.specs.steps.TakenLabels.{place_of, IsAttachment, found_at}
 use Rattle.names.proofs.AttachLaws.{suits_material, found_attaches, none_attaches, one_place}
 
 module _ (raw : RawTech) (well : IsWellFormed raw) (layout : Layout) (labels : List Label) (tiles : List RegionTile) (count : ℕ)

@@ -1,3 +1,4 @@
+mod Common
 pub mod PlaceOrders
 mod TakingLaws
 mod BlockLaws

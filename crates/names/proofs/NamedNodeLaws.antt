@@ -1,38 +1,18 @@
 -- The nodes of classes of regions are the nodes of the layout, with their names.
-use Rattle.std.proofs.Common.{◌≡◌, ◌≢◌, ◌<◌, ℕ, Option, Some, None, List, [], ◌∷◌, length, get_or, inl, inr, arith, refl, sym, subst, ◌∙◌, ap}
-use Rattle.std.specs.Prelude.{slice_index, ◌↔◌, AllPairs}
-use Rattle.std.specs.declared.cmp.Ordering.TheVariants.{Less, Equal}
-use Rattle.std.proofs.lemmas.Cmp.{tied_itself}
-use Rattle.std.proofs.lemmas.List.{get_or-map, length-map}
-use Rattle.std.proofs.lemmas.Option.{none-some, same_Some}
+use Rattle.names.proofs.Common.{◌≡◌, ◌≢◌, ◌<◌, ℕ, Option, Some, None, List, [], ◌∷◌, length, get_or, inl, inr, arith, refl, sym, subst, ◌∙◌, ap}
+use Rattle.names.proofs.Common.{slice_index, ◌↔◌, AllPairs, Less, Equal, tied_itself, get_or-map, length-map, none-some, same_Some, In, Chain-same}
+use Rattle.names.proofs.Common.{In-get_or, In-index, corner_of, corner_covered, IsPair, Divides, Label, RawTech, connects, IsWellFormed, Place}
+use Rattle.names.proofs.Common.{IsBefore, IsNoLater, Layout, IsMaterial, AreRegions, IsInRegion, regions_of, RegionTile, name_cmp, name_cmp_total}
+use Rattle.names.proofs.Common.{no_tile, Attachment, NamedNode, label_at, AreTextsOf, AreUnattached, region_found, text_at, AreCounted, corner_place}
+use Rattle.names.proofs.Common.{class_of, IsFirstTile, AreFirstTiles, key_at, class_in, region_key, label_key, IsNodeOn, AreNodesOf, AreNamedNodes}
+use Rattle.names.proofs.Common.{IsAttachment, found_at}
 use Rattle.geo_core.specs.FiniteSets.Chain.Chain.{stay}
-use Rattle.geo_core.specs.FiniteSets.Lists.{In, Distinct, Lists}
-use Rattle.geo_core.proofs.FiniteSets.Chains.{Chain-same}
+use Rattle.geo_core.specs.FiniteSets.Lists.{Distinct, Lists}
 use Rattle.geo_core.proofs.FiniteSets.Distincts.{Distinct-from_places}
-use Rattle.geo_core.proofs.FiniteSets.Members.{In-get_or, In-index}
-use Rattle.geo_core.specs.Areas.{corner_of}
-use Rattle.geo_core.proofs.CoveringLaws.{corner_covered}
-use Rattle.partition.specs.Divides.{IsPair, Divides}
-use Rattle.tech_model.specs.declared.raw.Label.{Label}
-use Rattle.tech_model.specs.declared.raw.RawTech.{RawTech}
-use Rattle.tech_model.specs.Types.{connects}
-use Rattle.tech_model.specs.WellFormed.{IsWellFormed}
-use Rattle.layout_model.specs.Places.{Place, IsBefore, IsNoLater}
-use Rattle.layout_model.specs.Layouts.{Layout, IsMaterial}
-use Rattle.layout_model.specs.RegionTiles.{AreRegions, IsInRegion, regions_of}
-use Rattle.layout_model.specs.declared.region_tiles.RegionTile.{RegionTile}
-use Rattle.ext_model.specs.NameOrder.{name_cmp}
-use Rattle.ext_model.proofs.NameOrders.{name_cmp_total}
-use Rattle.flood_nodes.specs.TileShares.{no_tile}
-use Rattle.names.specs.declared.attaching.Attachment.{Attachment}
-use Rattle.names.specs.declared.nodes.NamedNode.{NamedNode}
-use Rattle.names.specs.Attachments.{label_at, NamesPlace, AreTextsOf, AreUnattached, IsUnattached}
-use Rattle.names.specs.steps.CountedLabels.{region_found, text_at, AreCounted}
-use Rattle.names.specs.steps.FirstTiles.{corner_place, class_of, IsFirstTile, AreFirstTiles}
+use Rattle.names.specs.Attachments.{NamesPlace, IsUnattached}
 use Rattle.names.specs.GeneratedNames.{generated_name}
-use Rattle.names.specs.steps.Groups.{key_at, class_in, region_key, label_key, IsGroup, AreNodeNames, IsNodeOn, AreNodesOf}
-use Rattle.names.specs.NamedNodes.{AreOneNamedNode, IsTextIn, IsNameOf, least_of, IsNamedNode, AreNamedNodes}
-use Rattle.names.specs.steps.TakenLabels.{IsAttachment, found_at}
+use Rattle.names.specs.steps.Groups.{IsGroup, AreNodeNames}
+use Rattle.names.specs.NamedNodes.{AreOneNamedNode, IsTextIn, IsNameOf, least_of, IsNamedNode}
 use Rattle.names.proofs.AttachLaws.{lies_on, tile_among, tile_proper, corner_first}
 use Rattle.names.proofs.JoinedRegions.{named_region, names_region, nodes_from_classes, node_material, region_below}
 use Rattle.names.proofs.PlaceOrders.{IsNoLater-trans}

@@ -1,22 +1,17 @@
 -- The names of nodes: texts in name order, each once.
-use Rattle.std.proofs.Common.{◌≡◌, ℕ, Bool, true, Ordering, List, map, inl, inr, refl, sym, subst, ◌∙◌, ap}
-use Rattle.std.specs.Prelude.{IsPermutation, IsSorted}
+use Rattle.names.proofs.Common.{◌≡◌, ℕ, Bool, true, List, map, inl, inr, refl, sym, subst, ◌∙◌, ap, IsPermutation, is_eq, Less, Equal, Greater}
+use Rattle.names.proofs.Common.{cases_Bool, false≢true, tied_itself, IsPermutation-sym, In, In-permutation, Label, name_cmp, name_cmp_total, text_at}
+use Rattle.std.proofs.Common.{Ordering}
+use Rattle.std.specs.Prelude.{IsSorted}
 use Rattle.std.specs.Cmp.{IsEquivalence}
 use Rattle.std.specs.List.{dedup}
 use Rattle.std.specs.List.Sorted.{IsStrictlySortedBy}
-use Rattle.std.specs.Ordering.{is_eq, eq_by_cmp}
-use Rattle.std.specs.declared.cmp.Ordering.TheVariants.{Less, Equal, Greater}
-use Rattle.std.proofs.lemmas.Bool.{cases_Bool, false≢true, false_from_ne_true}
-use Rattle.std.proofs.lemmas.Cmp.{tied_itself}
+use Rattle.std.specs.Ordering.{eq_by_cmp}
+use Rattle.std.proofs.lemmas.Bool.{false_from_ne_true}
 use Rattle.std.proofs.lemmas.List.Kept.{Contains-dedup, Contains-from_dedup, IsStrictlySortedBy-dedup}
-use Rattle.std.proofs.lemmas.List.Sorted.{IsPermutation-sym}
 use Rattle.std.proofs.lemmas.Map.Keys.{Less-from_sorted}
-use Rattle.geo_core.specs.FiniteSets.Lists.{In}
-use Rattle.geo_core.proofs.FiniteSets.Members.{In-map, In-map_source, In-permutation, In-from_Contains, Contains-from_In}
-use Rattle.tech_model.specs.declared.raw.Label.{Label}
-use Rattle.ext_model.specs.NameOrder.{name_cmp}
-use Rattle.ext_model.proofs.NameOrders.{name_cmp_total, name_cmp_exact}
-use Rattle.names.specs.steps.CountedLabels.{text_at}
+use Rattle.geo_core.proofs.FiniteSets.Members.{In-map, In-map_source, In-from_Contains, Contains-from_In}
+use Rattle.ext_model.proofs.NameOrders.{name_cmp_exact}
 use Rattle.names.specs.steps.Groups.{AreNamesAt}
 
 equal_from_test : (order : Ordering) → is_eq order ≡ true → order ≡ Equal

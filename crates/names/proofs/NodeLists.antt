@@ -1,14 +1,7 @@
 -- Nodes that are made one after another.
-use Rattle.std.proofs.Common.{◌≡◌, ◌<◌, ◌+◌, ℕ, List, [], ◌∷◌, ◌++◌, length, get_or, inl, inr, arith, sym, subst, ◌∙◌, ap, Vec, Global, Option}
-use Rattle.std.specs.Prelude.{All}
-use Rattle.std.proofs.lemmas.Bool.{cases_eq}
-use Rattle.std.proofs.lemmas.List.{get_or_append_left, get_or_push, length_push, get_or_default}
-use Rattle.tech_model.specs.declared.raw.Label.{Label}
-use Rattle.tech_model.specs.declared.raw.RawTech.{RawTech}
-use Rattle.layout_model.specs.declared.region_tiles.RegionTile.{RegionTile}
-use Rattle.names.specs.declared.nodes.NamedNode.{NamedNode}
-use Rattle.names.specs.steps.FirstTiles.{class_of}
-use Rattle.names.specs.steps.Groups.{IsNodeOn, AreNodesOn, AreNodesOf, AreGroupsBy, region_key, label_key}
+use Rattle.names.proofs.Common.{◌≡◌, ◌<◌, ◌+◌, ℕ, List, [], ◌∷◌, ◌++◌, length, get_or, inl, inr, arith, sym, subst, ◌∙◌, ap, Vec, Global, Option}
+use Rattle.names.proofs.Common.{All, cases_eq, get_or_append_left, get_or_push, length_push, get_or_default, Label, RawTech, RegionTile, NamedNode}
+use Rattle.names.proofs.Common.{class_of, IsNodeOn, AreNodesOn, AreNodesOf, AreGroupsBy, region_key, label_key}
 
 module _ (raw : RawTech) (labels : List Label) (firsts : List RegionTile) (classes : List ℕ) (regions indices : List (Vec ℕ Global)) where
   -- The first nodes were made.

@@ -1,14 +1,12 @@
 -- The order of places, by tests and by corners.
-use Rattle.std.proofs.Common.{◌≡◌, ◌<◌, ◌≤◌, ◌⊎◌, ℕ, ℤ, ◌≤ℤ◌, ◌<ℤ◌, Bool, true, false, cond, eqb, ltb, inl, inr, arith, refl, sym, subst}
+use Rattle.names.proofs.Common.{◌≡◌, ◌<◌, ◌≤◌, ◌⊎◌, ℕ, ◌≤ℤ◌, ◌<ℤ◌, Bool, true, false, cond, inl, inr, arith, refl, sym, subst, cases_Bool, eqb-true}
+use Rattle.names.proofs.Common.{ints, Place, IsBefore, IsNoLater, Attachment, place_of, stands_earlier}
+use Rattle.std.proofs.Common.{ℤ, eqb, ltb}
 use Rattle.std.specs.Prelude.{int_lt}
 use Rattle.std.specs.Ordering.{int_eq}
-use Rattle.std.proofs.lemmas.Bool.{cases_Bool, eqb-true, eqb-false, ltb-true, ltb-false, cases_order}
-use Rattle.std.proofs.lemmas.Int.{ints}
+use Rattle.std.proofs.lemmas.Bool.{eqb-false, ltb-true, ltb-false, cases_order}
 use Rattle.geo_core.proofs.FiniteSets.Orders.{less_equal_or_greater}
-use Rattle.layout_model.specs.Places.{Place, IsBefore, IsNoLater}
 use Rattle.layout_model.proofs.PlaceLaws.{IsBefore-trans}
-use Rattle.names.specs.declared.attaching.Attachment.{Attachment}
-use Rattle.names.specs.steps.TakenLabels.{place_of, stands_earlier}
 
 -- of three places in order the first is the least
 pub IsNoLater-trans : (a b c : Place) → IsNoLater a b → IsNoLater b c → IsNoLater a c

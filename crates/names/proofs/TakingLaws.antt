@@ -1,22 +1,10 @@
 -- The tile on which a label attaches, as tiles are seen one after another.
-use Rattle.std.proofs.Common.{◌≡◌, ◌<◌, ◌≤◌, ◌+◌, ◌⊎◌, ℕ, ◌≤ℤ◌, ◌<ℤ◌, Bool, true, false, cond, Option, Some, None, List, length, inl, inr, arith, refl, sym, subst, ◌∙◌, ap}
-use Rattle.std.proofs.lemmas.Bool.{cases_lt, cases_eq, and_parts, false≢true}
-use Rattle.std.proofs.lemmas.Int.{ints, clamps}
-use Rattle.geo_core.specs.FiniteSets.Lists.{In}
-use Rattle.geo_core.proofs.FiniteSets.Members.{In-get_or, In-index}
-use Rattle.geo_core.specs.declared.squares.Rect.{Rect}
-use Rattle.geo_core.specs.Areas.{LiesWithin, common_rect, has_square, corner_of}
-use Rattle.geo_core.proofs.CoveringLaws.{IsProper-has_square, has_square-IsProper}
-use Rattle.tech_model.specs.declared.raw.Label.{Label}
-use Rattle.tech_model.specs.declared.raw.RawTech.{RawTech}
-use Rattle.layout_model.specs.Places.{IsNoLater}
-use Rattle.layout_model.specs.declared.region_tiles.RegionTile.{RegionTile}
-use Rattle.flood_nodes.specs.TileShares.{tile_at, no_tile}
-use Rattle.names.specs.declared.attaching.Attachment.{Attachment}
-use Rattle.names.specs.declared.blocks.Block.{Block}
-use Rattle.names.specs.Attachments.{touched}
+use Rattle.names.proofs.Common.{◌≡◌, ◌<◌, ◌≤◌, ◌+◌, ◌⊎◌, ℕ, ◌≤ℤ◌, ◌<ℤ◌, Bool, true, false, cond, Option, Some, None, List, length, inl, inr, arith}
+use Rattle.names.proofs.Common.{refl, sym, subst, ◌∙◌, ap, cases_lt, cases_eq, and_parts, false≢true, ints, clamps, In, In-get_or, In-index, Rect}
+use Rattle.names.proofs.Common.{LiesWithin, common_rect, has_square, corner_of, IsProper-has_square, has_square-IsProper, Label, RawTech, IsNoLater}
+use Rattle.names.proofs.Common.{RegionTile, tile_at, no_tile, Attachment, Block, touched, place_of, stands_earlier}
 use Rattle.names.specs.steps.Blocks.{IsWithinBlock, IsBlockFrom, IsBeaten, IsBlockBeaten}
-use Rattle.names.specs.steps.TakenLabels.{suits_kind, takes, attachment_on, place_of, stands_earlier, earlier, IsLeastTaken}
+use Rattle.names.specs.steps.TakenLabels.{suits_kind, takes, attachment_on, earlier, IsLeastTaken}
 use Rattle.names.proofs.PlaceOrders.{IsNoLater-trans, no_later_by_parts, stands_earlier-true, stands_earlier-false}
 
 -- The tile stands in the list before this index.

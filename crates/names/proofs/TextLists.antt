@@ -1,18 +1,11 @@
 -- The texts of labels at the indices that have a fact, as the indices are gone through.
-use Rattle.std.proofs.Common.{◌≡◌, ◌<◌, ◌+◌, ℕ, true, false, Option, Some, None, List, [], ◌∷◌, ◌++◌, get_or, inl, inr, arith, refl, sym, subst, ◌∙◌, ap}
+use Rattle.names.proofs.Common.{◌≡◌, ◌<◌, ◌+◌, ℕ, true, false, Option, Some, None, List, [], ◌∷◌, ◌++◌, get_or, inl, inr, arith, refl, sym, subst}
+use Rattle.names.proofs.Common.{◌∙◌, ap, cases_eq, all_pairs_push, none-some, In, In-get_or, In-push_cases, In-push, In-append_left, Label}
+use Rattle.names.proofs.Common.{AreTextsOf, text_at, key_at}
 use Rattle.std.specs.Prelude.{is_some}
-use Rattle.std.proofs.lemmas.Bool.{cases_eq}
 use Rattle.std.proofs.lemmas.List.{map_push}
-use Rattle.std.proofs.lemmas.List.Quantifiers.{all_pairs_push}
-use Rattle.std.proofs.lemmas.Option.{none-some}
-use Rattle.geo_core.specs.FiniteSets.Lists.{In}
 use Rattle.geo_core.proofs.FiniteSets.Distincts.{Distinct-push}
 use Rattle.geo_core.proofs.FiniteSets.Listings.{Lists-none, Lists-iff}
-use Rattle.geo_core.proofs.FiniteSets.Members.{In-get_or, In-push_cases, In-push, In-append_left}
-use Rattle.tech_model.specs.declared.raw.Label.{Label}
-use Rattle.names.specs.Attachments.{AreTextsOf}
-use Rattle.names.specs.steps.CountedLabels.{text_at}
-use Rattle.names.specs.steps.Groups.{key_at}
 
 -- the index stands before this one, and the label at it names nothing
 abbrev pub IsLeftBelow : List (Option ℕ) → ℕ → ℕ → Type 0

@@ -1,12 +1,6 @@
 -- Maps from texts.
-use Rattle.std.proofs.Common.{◌≡◌, ◌≢◌, ℕ, List, true, false, inl, inr, refl, sym}
-use Rattle.std.specs.Ordering.{nat_cmp, is_eq}
-use Rattle.std.specs.declared.cmp.Ordering.{Ordering}
-use Rattle.std.specs.declared.cmp.Ordering.TheVariants.{Less, Equal, Greater}
-use Rattle.std.specs.Cmp.Lexicographic.{slice_cmp}
-use Rattle.std.specs.FinMap.{nat_cmp-IsAntisymmetric, slice_cmp-IsAntisymmetric}
-use Rattle.std.specs.BTreeMap.{is_at}
-use Rattle.std.proofs.lemmas.Bool.{cases_Bool, false≢true}
+use Rattle.names.proofs.Common.{◌≡◌, ◌≢◌, ℕ, List, true, false, inl, inr, refl, sym, nat_cmp, is_eq, Ordering, Less, Equal, Greater, slice_cmp}
+use Rattle.names.proofs.Common.{nat_cmp-IsAntisymmetric, slice_cmp-IsAntisymmetric, is_at, cases_Bool, false≢true}
 
 equal_from_test : (order : Ordering) → is_eq order ≡ true → order ≡ Equal
 equal_from_test Less is = absurd (false≢true is)

@@ -1,19 +1,12 @@
 -- What `simrun` does rests on the files alone that it fetches.
-use Rattle.std.proofs.Common.{◌≡◌, ◌∙◌, ℕ, List, [], ◌∷◌, ◌++◌, inl, inr, refl, sym, ap, subst, arith}
+use Rattle.network_commands.proofs.Common.{◌≡◌, ◌∙◌, ℕ, List, [], ◌∷◌, ◌++◌, inl, inr, refl, sym, ap, subst, arith, Files, At, FetchFault, text_in}
+use Rattle.network_commands.proofs.Common.{SimFile, sim_in, Network, RunsRead, RunsRecords, RunsSource, RunsVectors, SimrunMeans, sim_file, vec_file}
 use Rattle.std.specs.Prelude.{Contains, Result, Ok, Err}
 use Rattle.std.proofs.lemmas.List.Elements.{Contains-append_right}
-use Rattle.outside_io.specs.Files.{Files}
-use Rattle.text_form.specs.declared.reading.At.{At}
-use Rattle.session_model.specs.declared.fetching.FetchFault.{FetchFault}
-use Rattle.session_model.specs.Fetches.{AgreeOn, text_in}
+use Rattle.session_model.specs.Fetches.{AgreeOn}
 use Rattle.session_model.proofs.FetchLaws.{text_same}
 use Rattle.sim_text.specs.declared.faults.SimFault.{SimFault}
-use Rattle.sim_text.specs.declared.files.SimFile.{SimFile}
-use Rattle.sim_text.specs.SimTexts.{sim_in}
-use Rattle.switch_net.specs.Network.{Network}
 use Rattle.line_answers.specs.LineEffects.{FreeEffect}
-use Rattle.network_commands.specs.CommandSimrun.{RunsRead, RunsRecords, RunsSource, RunsVectors, SimrunMeans, sim_file}
-use Rattle.network_runs.specs.Simulations.{vec_file}
 
 -- the last of these names is one of them
 last_there : (fetched : List (List ℕ)) (file : List ℕ) → Contains (fetched ++ file ∷ []) file

@@ -1,27 +1,20 @@
 -- What `simrun` answers in each case.
-use Rattle.std.proofs.Common.{◌≡◌, ◌∙◌, ℕ, List, [], ◌∷◌, ◌++◌, refl, sym, ap, subst, inl, inr}
+use Rattle.network_commands.proofs.Common.{◌≡◌, ◌∙◌, ℕ, List, [], ◌∷◌, ◌++◌, refl, sym, ap, subst, inl, inr, Files, At, FetchFault, text_in, SimFile}
+use Rattle.network_commands.proofs.Common.{sim_in, Network, RunsRead, RunsRecords, RunsSource, RunsVectors, SimrunMeans, sim_file, IsNetOf, vec_file}
 use Rattle.std.specs.Prelude.{Option, Result, Ok, Err}
 use Rattle.std.proofs.lemmas.List.{append-nil}
 use Rattle.outside_io.specs.CallPlans.{CallPlan, told_after_call}
-use Rattle.outside_io.specs.Files.{Files}
-use Rattle.text_form.specs.declared.reading.At.{At}
 use Rattle.session_model.specs.declared.answer.Answer.{Answer}
-use Rattle.session_model.specs.declared.fetching.FetchFault.{FetchFault}
 use Rattle.session_model.specs.declared.report.ReportLine.{ReportLine}
 use Rattle.session_model.specs.Effects.{Answers, AnswersAfter, after_fetches}
-use Rattle.session_model.specs.Fetches.{text_in}
 use Rattle.sim_text.specs.declared.faults.SimFault.{SimFault}
-use Rattle.sim_text.specs.declared.files.SimFile.{SimFile}
 use Rattle.sim_text.specs.declared.limits.SimLimit.{SimLimit}
-use Rattle.sim_text.specs.SimTexts.{sim_in}
-use Rattle.switch_net.specs.Network.{Network}
 use Rattle.line_answers.proofs.AnswerLaws.{answers_refusal}
 use Rattle.line_answers.specs.LineEffects.{FreeEffect, IsOfInside, refused}
 use Rattle.line_answers.specs.Refusals.{file_refusal, refusal_line, too_many}
-use Rattle.network_commands.specs.CommandSimrun.{RunsRead, RunsRecords, RunsSource, RunsVectors, SimrunMeans, sim_file}
 use Rattle.network_commands.specs.Refusals.{sim_refusal}
 use Rattle.network_runs.specs.Refusals.{sim_limit_word}
-use Rattle.network_runs.specs.Simulations.{IsNetOf, PassesNet, TellsVectors, vec_file}
+use Rattle.network_runs.specs.Simulations.{PassesNet, TellsVectors}
 
 -- the refusal of a sim file
 pub sim_inside : (number : ℕ) (file : List ℕ) (at : At SimFault) (lines : List ReportLine)

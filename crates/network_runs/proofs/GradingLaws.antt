@@ -1,6 +1,7 @@
 -- The lines of grades, and what makes them those that are meant.
-use Rattle.std.proofs.Common.{◌≡◌, ◌<◌, ◌++◌, ℕ, Bool, not, List, [], ◌∷◌, map, filter, length, inl, inr, refl, sym, ◌∙◌, subst}
-use Rattle.std.specs.Prelude.{All}
+use Rattle.network_runs.proofs.Common.{◌≡◌, ◌<◌, ◌++◌, ℕ, List, [], ◌∷◌, map, length, refl, sym, ◌∙◌, subst, All, ReportLine, sim_of, Network}
+use Rattle.network_runs.proofs.Common.{Graded, IsOfInside, reply, no_lines_inside, reply_inside, TellsFaults, grade_line, preferred_names, IsNetOf}
+use Rattle.std.proofs.Common.{Bool, not, filter, inl, inr}
 use Rattle.std.specs.List.{AllZip, range_with_len}
 use Rattle.std.proofs.lemmas.List.{length-map}
 use Rattle.std.proofs.lemmas.List.Elements.{All-cons, All-nil}
@@ -8,21 +9,14 @@ use Rattle.finite_sets.specs.Lists.{In}
 use Rattle.finite_sets.proofs.Images.{In-flat_map_source}
 use Rattle.finite_sets.proofs.Members.{In-filter_source}
 use Rattle.use_orders.proofs.Listed.{In-numbers_below}
-use Rattle.session_model.specs.declared.report.ReportLine.{ReportLine}
 use Rattle.ext_model.specs.declared.circuits.Circuit.{Circuit}
 use Rattle.ext_model.specs.declared.records.NodeRec.{NodeRec}
-use Rattle.sim_records.specs.SimRecords.{sim_of}
-use Rattle.switch_net.specs.Network.{Network}
 use Rattle.sim_networks.specs.SimNetworks.{HasNodeForEach}
 use Rattle.vector_files.specs.declared.files.Vectors.{Vectors}
 use Rattle.vector_files.specs.LineForms.{is_rail}
 use Rattle.vector_runs.specs.declared.stuck_faults.StuckFault.{StuckFault}
-use Rattle.fault_grade.specs.declared.grading.Graded.{Graded}
 use Rattle.fault_grade.specs.Grades.{AreGrades, IsGrade, faults_at, faults_of}
-use Rattle.line_answers.specs.LineEffects.{IsOfInside, reply}
-use Rattle.line_answers.proofs.InsideLaws.{no_lines_inside, reply_inside}
-use Rattle.network_runs.specs.Grading.{TellsCoverage, TellsFaults, coverage_text, grade_line, grade_lines, preferred_names}
-use Rattle.network_runs.specs.Simulations.{IsNetOf}
+use Rattle.network_runs.specs.Grading.{TellsCoverage, coverage_text, grade_lines}
 
 -- a fault is one of a node
 faults_below : (names : List (List ℕ × ℕ)) (nodes : ℕ) (fault : StuckFault) → In fault (faults_of names nodes) → fault.node < nodes

@@ -1,3 +1,4 @@
+mod Common
 mod NetworkRunLaws
 mod SimulationLaws
 mod ShownLines

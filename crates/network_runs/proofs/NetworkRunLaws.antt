@@ -1,17 +1,11 @@
 -- What is told of runs on the networks of circuits.
-use Rattle.std.proofs.Common.{◌≡◌, ℕ, Bool, true, false, List, [], ◌∷◌, ◌++◌, cond, sym, subst}
-use Rattle.session_model.specs.declared.report.ReportLine.{ReportLine}
+use Rattle.network_runs.proofs.Common.{◌≡◌, ℕ, List, [], ◌∷◌, ◌++◌, sym, subst, ReportLine, sim_of, Network, Unsettled, summary_of, summary_text}
+use Rattle.network_runs.proofs.Common.{IsNetOf, vector_line, IsOfInside, reply, no_lines_inside, reply_inside}
+use Rattle.std.proofs.Common.{Bool, true, false, cond}
 use Rattle.ext_model.specs.declared.circuits.Circuit.{Circuit}
-use Rattle.sim_records.specs.SimRecords.{sim_of}
-use Rattle.switch_net.specs.Network.{Network}
-use Rattle.vector_runs.specs.declared.replies.VecReply.TheVariants.{Unsettled}
 use Rattle.stack_runs.specs.declared.outcomes.Outcome.{Outcome}
 use Rattle.stack_runs.specs.Outcomes.{IsOutcome}
-use Rattle.stack_runs.specs.Summaries.{summary_of, summary_text}
 use Rattle.network_runs.specs.NetworkRuns.{TellsOutcome, outcome_lines}
-use Rattle.network_runs.specs.Simulations.{IsNetOf, vector_line}
-use Rattle.line_answers.specs.LineEffects.{IsOfInside, reply}
-use Rattle.line_answers.proofs.InsideLaws.{no_lines_inside, reply_inside}
 
 -- what came of the vectors is told
 pub tells_outcome : (budget n : ℕ) (circuit : Circuit) (net : Network) (names : List (List ℕ × ℕ)) (outcome : Outcome) (lines : List ReportLine)

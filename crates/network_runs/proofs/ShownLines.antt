@@ -1,22 +1,20 @@
 -- The lines of a report, cut at a phase and at what is shown behind it.
-use Rattle.std.proofs.Common.{◌≡◌, ℕ, ◌<◌, List, [], ◌∷◌, ◌++◌, true, refl, sym, ap, subst, ◌∙◌, append_assoc}
-use Rattle.std.specs.Prelude.{All, map}
+use Rattle.network_runs.proofs.Common.{◌≡◌, ℕ, ◌<◌, List, [], ◌∷◌, ◌++◌, refl, sym, ap, subst, ◌∙◌, All, ReportLine, Network, Settled, vector_line}
+use Rattle.std.proofs.Common.{true, append_assoc}
+use Rattle.std.specs.Prelude.{map}
 use Rattle.std.proofs.lemmas.List.{map-append}
 use Rattle.std.proofs.lemmas.List.Elements.{All-map}
-use Rattle.session_model.specs.declared.report.ReportLine.{ReportLine}
 use Rattle.switch_net.specs.declared.switches.Level.{Level}
-use Rattle.switch_net.specs.Network.{Network}
 use Rattle.switch_net.specs.Path.{is_input, state_of}
 use Rattle.switch_net.specs.SimRecords.{AreStarts}
 use Rattle.vector_files.specs.declared.files.VecLine.{VecLine}
 use Rattle.vector_files.specs.declared.files.VecLine.TheVariants.{Phase, Show}
 use Rattle.vector_runs.specs.declared.replies.VecReply.{VecReply}
-use Rattle.vector_runs.specs.declared.replies.VecReply.TheVariants.{Settled}
 use Rattle.vector_runs.specs.Laws.{IsShow, RunsBoth}
 use Rattle.vector_runs.specs.Runs.{LinesRun, RunsPhase, Standing, begun_in, phase_reply, shown_in}
 use Rattle.vector_runs.proofs.SplitRuns.{lines_keep, phase_keeps, settled_rests, shows_keep, split_run}
 use Rattle.network_runs.specs.Headline.{ShowsSteadyValues}
-use Rattle.network_runs.specs.Simulations.{TellsRun, vector_line}
+use Rattle.network_runs.specs.Simulations.{TellsRun}
 
 -- a line without its number
 abbrev plain : ℕ × VecLine → VecLine

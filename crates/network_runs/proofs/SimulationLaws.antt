@@ -1,13 +1,9 @@
 -- The lines of vectors, and what makes them those that are meant.
-use Rattle.std.proofs.Common.{◌≡◌, ℕ, List, [], ◌∷◌, map, refl, sym, subst}
-use Rattle.session_model.specs.declared.report.ReportLine.{ReportLine}
-use Rattle.sim_text.specs.declared.files.SimFile.{SimFile}
-use Rattle.switch_net.specs.Network.{Network}
+use Rattle.network_runs.proofs.Common.{◌≡◌, ℕ, List, [], ◌∷◌, map, refl, sym, subst, ReportLine, SimFile, Network, Settled, Unsettled, IsOfInside}
+use Rattle.network_runs.proofs.Common.{IsNetOf, TellsVectors, vector_line, no_lines_inside}
 use Rattle.vector_runs.specs.declared.replies.VecReply.{VecReply}
-use Rattle.vector_runs.specs.declared.replies.VecReply.TheVariants.{Settled, Unsettled, Shown}
-use Rattle.line_answers.specs.LineEffects.{IsOfInside}
-use Rattle.network_runs.specs.Simulations.{IsNetOf, TellsNet, TellsVectors, vector_line}
-use Rattle.line_answers.proofs.InsideLaws.{no_lines_inside}
+use Rattle.vector_runs.specs.declared.replies.VecReply.TheVariants.{Shown}
+use Rattle.network_runs.specs.Simulations.{TellsNet}
 
 -- a line of vectors, and what is behind it
 vector_inside : (reply : VecReply) (lines : List ReportLine) → IsOfInside lines → IsOfInside (vector_line reply ∷ lines)

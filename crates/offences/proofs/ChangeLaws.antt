@@ -1,28 +1,16 @@
 -- Squares of channels beside which a role changes.
-use Rattle.std.proofs.Common.{◌≡◌, inl, inr, ◌==◌, ℕ, suc, bit_or, Bool, true, false, cond, List, [], ◌∷◌, refl, sym, ap, subst, ◌∙◌}
-use Rattle.std.specs.Prelude.{not, find, Option, Some, None, slice_get, count_by, ◌||◌}
-use Rattle.std.specs.List.{list_any}
-use Rattle.std.specs.Option.{option_map}
-use Rattle.std.specs.Int.Bits.{or_zero_l}
-use Rattle.std.proofs.lemmas.Bool.{eq-eqb, eqb-true, cases_Bool, not-true, not-false, not_from_false, both_ways, or_parts, and_cases}
-use Rattle.std.proofs.lemmas.Bool.{false_from_ne_true}
-use Rattle.geo_core.specs.FiniteSets.Lists.{In}
+use Rattle.offences.proofs.Common.{◌≡◌, inl, inr, ◌==◌, ℕ, suc, bit_or, Bool, true, false, cond, List, [], ◌∷◌, refl, sym, ap, subst, ◌∙◌, Option}
+use Rattle.offences.proofs.Common.{Some, None, slice_get, list_any, option_map, or_zero_l, eq-eqb, eqb-true, cases_Bool, both_ways}
+use Rattle.offences.proofs.Common.{false_from_ne_true, In, Square, Rect, Covers, TypeId, RawTech, IsWellFormed, is_channel, Place, PartKind}
+use Rattle.offences.proofs.Common.{TypedStack, number_of, SetLayout, joined_at, flat_type, union_of, HasKind, ChangesRole, is_hidden, is_shared}
+use Rattle.offences.proofs.Common.{is_lost, spoils, is_spoiled, sides_of, changed, role_of, kind_in, has_kind, on_plane, IsTypedStack}
+use Rattle.std.specs.Prelude.{not, find, count_by, ◌||◌}
+use Rattle.std.proofs.lemmas.Bool.{not-true, not-false, not_from_false, or_parts, and_cases}
 use Rattle.geo_core.proofs.FiniteSets.Searches.{find-In, find-passes, find-none}
-use Rattle.geo_core.specs.declared.squares.Square.{Square}
-use Rattle.geo_core.specs.declared.squares.Rect.{Rect}
-use Rattle.geo_core.specs.Covering.{Covers}
-use Rattle.tech_model.specs.declared.raw.TypeId.{TypeId}
-use Rattle.tech_model.specs.declared.raw.RawTech.{RawTech}
-use Rattle.tech_model.specs.WellFormed.{IsWellFormed}
-use Rattle.tech_model.specs.ChannelRoles.{is_channel}
-use Rattle.layout_model.specs.Places.{Place}
-use Rattle.offences.specs.declared.stacks.PartKind.{PartKind}
-use Rattle.offences.specs.declared.stacks.TypedStack.{TypedStack}
-use Rattle.offences.specs.Changes.{number_of, same_role}
-use Rattle.offences.specs.Offences.{SetLayout, joined_at, flat_type, union_of, HasKind, ChangesRole}
-use Rattle.offences.specs.steps.Pieces.{is_hidden, is_shared, is_lost, spoils, is_spoiled, changes_role, sides_of, changed, changed_by}
-use Rattle.offences.specs.Roles.{Role, Channel, Terminal, Other, role_of}
-use Rattle.offences.specs.TypedStacks.{kind_in, has_kind, owner_of, on_plane, IsTypedStack}
+use Rattle.offences.specs.Changes.{same_role}
+use Rattle.offences.specs.steps.Pieces.{changes_role, changed_by}
+use Rattle.offences.specs.Roles.{Role, Channel, Terminal, Other}
+use Rattle.offences.specs.TypedStacks.{owner_of}
 use Rattle.offences.proofs.KindLaws.{one_passes}
 use Rattle.offences.proofs.SideLaws.{sides_sound, sides_whole}
 use Rattle.offences.proofs.SpoiledLaws.{channel_is_material, same_some, some_is_not_none, has_entry, entry_has}

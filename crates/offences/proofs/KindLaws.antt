@@ -1,29 +1,19 @@
 -- The types of parts in a list by parts.
-use Rattle.std.proofs.Common.{◌≡◌, ◌≢◌, ◌⊎◌, inl, inr, ◌+◌, ◌<◌, ◌≤◌, ◌==◌, ℕ, suc, Bool, true, bit_or, cond, List, [], ◌∷◌, length, map, filter}
-use Rattle.std.proofs.Common.{get_or, refl, sym, ap, subst, ◌∙◌, arith}
-use Rattle.std.specs.Prelude.{AllPairs, Option, Some, None, unwrap_or, slice_get, count_by}
-use Rattle.std.specs.List.{range_with_len}
-use Rattle.std.specs.Option.{option_map}
-use Rattle.std.specs.Int.Bits.{or_zero_l, or_zero_r}
-use Rattle.std.proofs.lemmas.Bool.{eq-eqb, ne_eqb, eqb-true, cases_eq, cases_lt}
-use Rattle.std.proofs.lemmas.List.{length-map}
+use Rattle.offences.proofs.Common.{◌≡◌, ◌≢◌, ◌⊎◌, inl, inr, ◌+◌, ◌<◌, ◌≤◌, ◌==◌, ℕ, suc, Bool, true, bit_or, cond, List, [], ◌∷◌, length, map}
+use Rattle.offences.proofs.Common.{filter, get_or, refl, sym, ap, subst, ◌∙◌, arith, AllPairs, Option, Some, None, slice_get, range_with_len}
+use Rattle.offences.proofs.Common.{option_map, or_zero_l, or_zero_r, eq-eqb, ne_eqb, eqb-true, cases_eq, cases_lt, length-map, In, Lists, In-get_or}
+use Rattle.offences.proofs.Common.{In-index, In-filter, Pairwise-from_AllPairs, RawTech, type_number, joined, Place, PartSum, PartKind, SetLayout}
+use Rattle.offences.proofs.Common.{joined_at, listed_set, kind_of, kind_in, has_kind, AreByPart}
+use Rattle.std.specs.Prelude.{unwrap_or, count_by}
 use Rattle.std.proofs.lemmas.List.Sums.{length-filter, sum_by-cons}
-use Rattle.geo_core.specs.FiniteSets.Lists.{In, Distinct, Lists}
+use Rattle.geo_core.specs.FiniteSets.Lists.{Distinct}
 use Rattle.geo_core.proofs.FiniteSets.Distincts.{Distinct-from_places}
 use Rattle.geo_core.proofs.FiniteSets.Listings.{Lists-In, Lists-filter, Lists-map, Lists-iff}
-use Rattle.geo_core.proofs.FiniteSets.Members.{In-get_or, In-index, In-filter}
 use Rattle.geo_core.proofs.FiniteSets.Searches.{one_thing}
-use Rattle.geo_core.proofs.FiniteSets.Pairs.{Pairwise, Pairwise-from_AllPairs}
+use Rattle.geo_core.proofs.FiniteSets.Pairs.{Pairwise}
 use Rattle.geo_core.proofs.FiniteSets.Totals.{length-same_set}
 use Rattle.rect_overlays.proofs.RectContacts.BothWays.{Lists-below}
-use Rattle.tech_model.specs.declared.raw.RawTech.{RawTech}
-use Rattle.tech_model.specs.Types.{type_number, joined}
-use Rattle.layout_model.specs.Places.{Place}
-use Rattle.offences.specs.declared.part_sets.PartSum.{PartSum}
-use Rattle.offences.specs.declared.stacks.PartKind.{PartKind}
-use Rattle.offences.specs.Offences.{SetLayout, joined_at, parts_with, is_exactly}
-use Rattle.offences.specs.PartSets.{listed_set}
-use Rattle.offences.specs.TypedStacks.{kind_of, kind_in, has_kind, AreByPart}
+use Rattle.offences.specs.Offences.{parts_with, is_exactly}
 use Rattle.offences.proofs.UnionLaws.{set_if-same, set_if-other}
 
 -- each part stands before the next, by recursion

@@ -1,42 +1,28 @@
 -- Parts that are given as layers: their tiles make their sets, and offences depend on the sets nearby alone.
-use Rattle.std.proofs.Common.{◌≡◌, ◌≢◌, ◌⊎◌, inl, inr, ◌+◌, ◌<◌, ◌≤◌, ◌==◌, ℕ, Bool, bit_or, cond, ℤ, pos, ◌+ℤ◌, ◌<ℤ◌, ◌≤ℤ◌, List, []}
-use Rattle.std.proofs.Common.{◌∷◌, ◌++◌, length, map, take, get_or, refl, sym, ap, subst, ◌∙◌, arith}
-use Rattle.std.specs.Prelude.{All, Option, Some, None, slice_get, ◌&&◌}
-use Rattle.std.specs.Int.{bit_at}
-use Rattle.std.specs.List.{list_any}
-use Rattle.std.specs.Option.{option_map}
-use Rattle.std.proofs.lemmas.Bool.{cases_Bool, cases_eq, both_ways, and_parts, and_from, eq-eqb, eqb-true}
-use Rattle.std.proofs.lemmas.Int.{ints}
-use Rattle.std.proofs.lemmas.List.{length-map, get_or-map, same_lists, take_more, take_all, length-take-le, map-append}
+use Rattle.offences.proofs.Common.{◌≡◌, ◌≢◌, ◌⊎◌, inl, inr, ◌+◌, ◌<◌, ◌≤◌, ◌==◌, ℕ, Bool, bit_or, cond, ℤ, pos, ◌+ℤ◌, ◌<ℤ◌, ◌≤ℤ◌, List, [], ◌∷◌}
+use Rattle.offences.proofs.Common.{◌++◌, length, map, take, get_or, refl, sym, ap, subst, ◌∙◌, arith, All, Option, Some, None, slice_get, ◌&&◌}
+use Rattle.offences.proofs.Common.{bit_at, list_any, option_map, cases_Bool, cases_eq, both_ways, and_parts, and_from, eq-eqb, eqb-true, ints}
+use Rattle.offences.proofs.Common.{length-map, take_more, take_all, map-append, slice_get_within, slice_get-get_or, slice_get-map, In}
+use Rattle.offences.proofs.Common.{In-append_left, In-append_right, In-append_cases, In-map, In-map_source, list_any-In, All-from_In}
+use Rattle.offences.proofs.Common.{list_any-source, Square, Rect, widened, IsNear, common_rect, Covers, IsProper, is_covered, Covers-is_covered}
+use Rattle.offences.proofs.Common.{is_covered-Covers, covers_first, covers_second, covers_both, TypeId, RawTech, joined, IsWellFormed, Kinds, Place}
+use Rattle.offences.proofs.Common.{SetTile, layer_tile, ArePartTiles, SetLayout, joined_at, flat_type, union_of, HasKind, OffendsOn, HaveTypes}
+use Rattle.offences.proofs.Common.{CoverExactly, role_of, AreTilesOfParts, tile_part, tile_parts, set_layout, on_plane}
+use Rattle.std.proofs.lemmas.List.{get_or-map, same_lists, length-take-le}
 use Rattle.std.proofs.lemmas.List.FromFn.{get_or-map-range_with_len}
-use Rattle.std.proofs.lemmas.Option.{slice_get_within, slice_get-get_or, slice_get-map}
-use Rattle.geo_core.specs.FiniteSets.Lists.{In}
-use Rattle.geo_core.proofs.FiniteSets.Members.{In-append_left, In-append_right, In-append_cases, In-map, In-map_source}
-use Rattle.geo_core.proofs.FiniteSets.Searches.{list_any-In, All-from_In, list_any-source}
 use Rattle.geo_core.proofs.FiniteSets.Places.{slice_get-append_left, slice_get-push_new, slice_get-push_cases}
-use Rattle.geo_core.specs.declared.squares.Square.{Square}
-use Rattle.geo_core.specs.declared.squares.Rect.{Rect}
-use Rattle.geo_core.specs.Areas.{widened, IsNear, LiesWithin, common_rect}
-use Rattle.geo_core.specs.Covering.{Covers, IsProper, is_covered}
+use Rattle.geo_core.specs.Areas.{LiesWithin}
 use Rattle.geo_core.specs.Neighbours.{AreEdgeNeighbours, AreOneApart}
-use Rattle.geo_core.proofs.CoveringLaws.{Covers-is_covered, is_covered-Covers, covers_first, covers_second, covers_both, covers_widened}
-use Rattle.tech_model.specs.declared.raw.TypeId.{TypeId}
-use Rattle.tech_model.specs.declared.raw.RawTech.{RawTech}
+use Rattle.geo_core.proofs.CoveringLaws.{covers_widened}
 use Rattle.tech_model.specs.LayerTiles.{AreTilesOf}
 use Rattle.tech_model.specs.Rules.{KeepsRules}
-use Rattle.tech_model.specs.Types.{parts_of, joined}
-use Rattle.tech_model.specs.WellFormed.{IsWellFormed}
+use Rattle.tech_model.specs.Types.{parts_of}
 use Rattle.tech_model.proofs.JoinedLaws.{joined-type}
 use Rattle.tech_model.proofs.SetLaws.{set_not_empty}
-use Rattle.layout_model.specs.LayerTypes.{Kinds, AreTypesOf, or_space}
-use Rattle.layout_model.specs.Places.{Place, AreNeighbours}
-use Rattle.offences.specs.declared.set_tiles.SetTile.{SetTile}
-use Rattle.offences.specs.steps.LayerParts.{layer_tile, IsPartTile, ArePartTiles}
-use Rattle.offences.specs.Offences.{SetLayout, joined_at, flat_type, union_of, is_exactly, parts_with, HasKind, Offends, OffendsOn, HaveTypes}
-use Rattle.offences.specs.steps.Pieces.{CoverExactly}
-use Rattle.offences.specs.Roles.{role_of}
-use Rattle.offences.specs.SetTiles.{AreTilesOfParts, tile_part, tile_parts, set_layout}
-use Rattle.offences.specs.TypedStacks.{on_plane}
+use Rattle.layout_model.specs.LayerTypes.{AreTypesOf, or_space}
+use Rattle.layout_model.specs.Places.{AreNeighbours}
+use Rattle.offences.specs.steps.LayerParts.{IsPartTile}
+use Rattle.offences.specs.Offences.{is_exactly, parts_with, Offends}
 use Rattle.offences.proofs.TileLaws.{part_bit, part_kept, part_at, length-parts}
 use Rattle.offences.proofs.UnionLaws.{same_sets, no_part}
 

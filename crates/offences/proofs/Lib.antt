@@ -1,6 +1,7 @@
 -- what crates above name of those below
 pub use Rattle.geo_core.proofs as GeoCore
 pub use Rattle.layout_model.proofs as LayoutModel
+mod Common
 pub mod UnionLaws
 mod SumLaws
 pub mod KindLaws

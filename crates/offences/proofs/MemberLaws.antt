@@ -1,24 +1,11 @@
 -- The members of pieces, and parts whose tiles are put in another order.
-use Rattle.std.proofs.Common.{◌≡◌, ◌≢◌, ◌<◌, ℕ, List, [], length, map, sym, ap, subst}
-use Rattle.std.specs.Prelude.{All, AllPairs, IsPermutation}
-use Rattle.std.specs.List.{range_with_len}
+use Rattle.offences.proofs.Common.{◌≡◌, ◌≢◌, ◌<◌, ℕ, List, [], length, map, sym, ap, subst, All, AllPairs, range_with_len, In, All-from_In, All-In}
+use Rattle.offences.proofs.Common.{Rect, IsNear, Covers, Place, Stack, IsStack, AreStacks, RawTech, SetTile, TypedStack, SetLayout, HaveTypes}
+use Rattle.offences.proofs.Common.{tile_part, tile_parts, StandsFor, StandForAll, StandForTiles, AreTypedStacks, HasMembers}
+use Rattle.std.specs.Prelude.{IsPermutation}
 use Rattle.std.proofs.Math.Path.{fun_ext}
 use Rattle.std.proofs.lemmas.List.Sorted.{IsPermutation-sym, All-permutation}
-use Rattle.geo_core.specs.FiniteSets.Lists.{In}
 use Rattle.geo_core.proofs.FiniteSets.Members.{In-permutation}
-use Rattle.geo_core.proofs.FiniteSets.Searches.{All-from_In, All-In}
-use Rattle.geo_core.specs.declared.squares.Rect.{Rect}
-use Rattle.geo_core.specs.Areas.{IsNear}
-use Rattle.geo_core.specs.Covering.{Covers}
-use Rattle.layout_model.specs.Places.{Place}
-use Rattle.rect_overlays.specs.declared.stacks.Stack.{Stack}
-use Rattle.rect_overlays.specs.Stacks.{IsStack, AreStacks}
-use Rattle.tech_model.specs.declared.raw.RawTech.{RawTech}
-use Rattle.offences.specs.declared.set_tiles.SetTile.{SetTile}
-use Rattle.offences.specs.declared.stacks.TypedStack.{TypedStack}
-use Rattle.offences.specs.Offences.{SetLayout, HaveTypes}
-use Rattle.offences.specs.SetTiles.{tile_part, tile_parts}
-use Rattle.offences.specs.TypedStacks.{StandsFor, StandForAll, StandForTiles, AreTypedStacks, HasMembers}
 use Rattle.offences.proofs.StackLaws.{tile_areas, covers_tile, covers_at, members_within}
 use Rattle.offences.proofs.TileLaws.{HasTile, part_bit, part_kept}
 use Rattle.offences.proofs.UnionLaws.{same_sets}

@@ -1,11 +1,9 @@
 -- Tiles in the order of their parts.
-use Rattle.std.proofs.Common.{List, get_or}
+use Rattle.offences.proofs.Common.{List, get_or, SetTile, AreInPartOrder}
 use Rattle.std.specs.List.Sorted.{IsSortedByKey}
 use Rattle.std.specs.Ordering.{nat_cmp}
 use Rattle.std.proofs.lemmas.Cmp.{nat_cmp_total}
 use Rattle.geo_core.proofs.FiniteSets.Orders.{IsSortedByKey-pairs, nat_cmp-not_less}
-use Rattle.offences.specs.declared.set_tiles.SetTile.{SetTile}
-use Rattle.offences.specs.PartSets.{AreInPartOrder}
 
 -- tiles that a sort by parts has put in order
 pub sorted_by_part : (tiles : List SetTile) → IsSortedByKey (λ tile. tile.part) nat_cmp tiles → AreInPartOrder tiles

@@ -1,35 +1,20 @@
 -- The pieces that are found cover exactly what offends.
-use Rattle.std.proofs.Common.{◌≡◌, ◌⊎◌, inl, inr, ◌+◌, ◌<◌, ℕ, Bool, true, false, List, [], ◌∷◌, ◌++◌, length, filter, take, get_or, sym, ap, subst}
-use Rattle.std.proofs.Common.{◌∙◌, arith}
-use Rattle.std.specs.Prelude.{All, Some, slice_get}
-use Rattle.std.specs.List.{list_any}
+use Rattle.offences.proofs.Common.{◌≡◌, ◌⊎◌, inl, inr, ◌+◌, ◌<◌, ℕ, Bool, true, false, List, [], ◌∷◌, ◌++◌, length, filter, take, get_or, sym, ap}
+use Rattle.offences.proofs.Common.{subst, ◌∙◌, arith, All, Some, slice_get, list_any, cases_Bool, cases_eq, both_ways, take_more, append-nil}
+use Rattle.offences.proofs.Common.{length-map, In, Lists, In-append_left, In-append_right, In-append_cases, In-get_or, In-index, In-map}
+use Rattle.offences.proofs.Common.{In-map_source, In-filter, list_any-In, All-from_In, All-In, list_any-source, Square, Rect, Covers, is_covered}
+use Rattle.offences.proofs.Common.{IsInUnion, Covers-is_covered, is_covered-Covers, Contact, IsSharedEdge, RawTech, joined, IsWellFormed, TypedStack}
+use Rattle.offences.proofs.Common.{SetLayout, joined_at, flat_type, OffendsOn, ChangesRole, is_spoiled, changed, changed_pieces, spoiled_areas}
+use Rattle.offences.proofs.Common.{CoverExactly, AreFoundChanges, of_contacts, role_of, typed_stack_areas, on_plane, typed_stack_at, no_typed_stack}
+use Rattle.offences.proofs.Common.{AreTypedStacks}
 use Rattle.std.specs.Option.{is_some}
-use Rattle.std.proofs.lemmas.Bool.{cases_Bool, cases_eq, both_ways}
 use Rattle.std.proofs.lemmas.Grind.{flat_map-append}
-use Rattle.std.proofs.lemmas.List.{take_more, append-nil, length-map}
 use Rattle.std.proofs.Math.ListN.{get_or-map}
-use Rattle.geo_core.specs.FiniteSets.Lists.{In, Lists}
-use Rattle.geo_core.proofs.FiniteSets.Members.{In-append_left, In-append_right, In-append_cases, In-get_or, In-index, In-map, In-map_source, In-filter}
 use Rattle.geo_core.proofs.FiniteSets.Members.{In-filter_source, In-filter_passes}
-use Rattle.geo_core.proofs.FiniteSets.Searches.{list_any-In, All-from_In, All-In, list_any-source}
 use Rattle.geo_core.proofs.FiniteSets.Images.{In-flat_map, In-flat_map_source}
-use Rattle.geo_core.specs.declared.squares.Square.{Square}
-use Rattle.geo_core.specs.declared.squares.Rect.{Rect}
-use Rattle.geo_core.specs.Covering.{Covers, is_covered}
-use Rattle.geo_core.specs.Strips.{IsInUnion}
-use Rattle.geo_core.proofs.CoveringLaws.{Covers-is_covered, is_covered-Covers}
-use Rattle.rect_overlays.specs.RectContacts.declared.contacts.Contact.{Contact}
-use Rattle.rect_overlays.specs.RectContacts.Contacts.{IsSharedEdge}
 use Rattle.rect_overlays.specs.RectContacts.Rects.{rect_at}
-use Rattle.tech_model.specs.declared.raw.RawTech.{RawTech}
-use Rattle.tech_model.specs.Types.{joined}
-use Rattle.tech_model.specs.WellFormed.{IsWellFormed}
-use Rattle.offences.specs.declared.stacks.TypedStack.{TypedStack}
-use Rattle.offences.specs.Offences.{SetLayout, joined_at, flat_type, OffendsOn, ChangesRole}
-use Rattle.offences.specs.steps.Pieces.{is_spoiled, has_owner, changed, changed_across, changed_pieces, spoiled_areas, CoverExactly, AreFoundChanges}
-use Rattle.offences.specs.steps.Pieces.{no_channel, of_contacts}
-use Rattle.offences.specs.Roles.{role_of}
-use Rattle.offences.specs.TypedStacks.{typed_stack_areas, on_plane, typed_stack_at, no_typed_stack, AreTypedStacks}
+use Rattle.offences.specs.steps.Pieces.{has_owner, changed_across}
+use Rattle.offences.specs.steps.Pieces.{no_channel}
 use Rattle.offences.proofs.ChangeLaws.{changed_sound, changed_whole, changes_elsewhere, owns_here, union_none}
 use Rattle.offences.proofs.SideLaws.{neighbours_touch}
 use Rattle.offences.proofs.SpoiledLaws.{channel_is_material, same_some, some_is_not_none, OffendsAlone, spoiled_offends, offends_spoiled}

@@ -1,21 +1,13 @@
 -- The squares of a rectangle beside another, and contacts of rectangles with neighbouring squares.
-use Rattle.std.proofs.Common.{◌≡◌, ◌≢◌, ◌⊎◌, inl, inr, ℤ, pos, negsuc, ◌+ℤ◌, ◌-ℤ◌, ◌≤ℤ◌, ◌<ℤ◌, ℕ, ◌<◌, List, length, refl, sym, subst, arith}
-use Rattle.std.specs.Prelude.{AllPairs}
-use Rattle.std.proofs.lemmas.Bool.{cases_lt}
-use Rattle.std.proofs.lemmas.Int.{ints}
-use Rattle.geo_core.specs.FiniteSets.Lists.{In, Lists}
-use Rattle.geo_core.specs.declared.squares.Square.{Square}
-use Rattle.geo_core.specs.declared.squares.Rect.{Rect}
-use Rattle.geo_core.specs.Areas.{AreDisjoint, common_rect}
-use Rattle.geo_core.specs.Covering.{Covers}
+use Rattle.offences.proofs.Common.{◌≡◌, ◌≢◌, ◌⊎◌, inl, inr, ℤ, pos, ◌+ℤ◌, ◌≤ℤ◌, ◌<ℤ◌, ℕ, ◌<◌, List, length, refl, sym, subst, arith, AllPairs}
+use Rattle.offences.proofs.Common.{cases_lt, ints, In, Lists, Square, Rect, AreDisjoint, common_rect, Covers, covers_first, covers_second}
+use Rattle.offences.proofs.Common.{covers_both, Contact, IsSharedEdge, moved_rect, sides_of}
+use Rattle.std.proofs.Common.{negsuc, ◌-ℤ◌}
 use Rattle.geo_core.specs.Neighbours.{AreEdgeNeighbours}
-use Rattle.geo_core.proofs.CoveringLaws.{covers_first, covers_second, covers_both}
 use Rattle.geo_core.proofs.NeighbourLaws.{AreEdgeNeighbours-sym}
-use Rattle.rect_overlays.specs.RectContacts.declared.contacts.Contact.{Contact}
-use Rattle.rect_overlays.specs.RectContacts.Contacts.{shared_length, IsSharedEdge}
+use Rattle.rect_overlays.specs.RectContacts.Contacts.{shared_length}
 use Rattle.rect_overlays.specs.RectContacts.Rects.{rect_at, no_rect}
 use Rattle.rect_overlays.proofs.RectContacts.Abutting.{neighbours_share}
-use Rattle.offences.specs.steps.Pieces.{moved_rect, sides_of}
 
 -- the square, moved
 abbrev pub moved_square : Square → ℤ → ℤ → Square

@@ -1,29 +1,18 @@
 -- Pieces offend whole exactly where they are spoiled, but for what stands beside them.
-use Rattle.std.proofs.Common.{◌≡◌, ◌≢◌, ◌⊎◌, inl, inr, ◌<◌, ◌==◌, ℕ, Bool, true, false, List, length, get_or, refl, sym, ap, subst, ◌∙◌}
-use Rattle.std.proofs.Common.{arith}
-use Rattle.std.specs.Prelude.{IsTrue, ◌||◌, not, Option, Some, None, slice_get, count_by}
-use Rattle.std.specs.List.{list_any}
-use Rattle.std.specs.Option.{option_map}
-use Rattle.std.proofs.lemmas.Bool.{ne_eqb, eqb-true, eqb-false, or_cases, or_left, or_right, and_parts, and_from, not-true}
-use Rattle.std.proofs.lemmas.Bool.{not_from_false, both_ways, false_from_ne_true}
-use Rattle.std.proofs.lemmas.Option.{slice_get-get_or}
-use Rattle.geo_core.specs.FiniteSets.Lists.{In}
-use Rattle.geo_core.proofs.FiniteSets.Searches.{All-In, list_any-source, list_any-passes}
-use Rattle.geo_core.specs.declared.squares.Square.{Square}
-use Rattle.geo_core.specs.Covering.{Covers}
-use Rattle.tech_model.specs.declared.raw.TypeId.{TypeId}
+use Rattle.offences.proofs.Common.{◌≡◌, ◌≢◌, ◌⊎◌, inl, inr, ◌<◌, ◌==◌, ℕ, Bool, true, false, List, length, get_or, refl, sym, ap, subst, ◌∙◌, arith}
+use Rattle.offences.proofs.Common.{Option, Some, None, slice_get, list_any, option_map, ne_eqb, eqb-true, and_parts, and_from, both_ways}
+use Rattle.offences.proofs.Common.{false_from_ne_true, slice_get-get_or, In, All-In, list_any-source, Square, Covers, TypeId, RawTech, IsWellFormed}
+use Rattle.offences.proofs.Common.{is_channel, PartKind, TypedStack, number_of, SetLayout, flat_type, HasKind, is_hidden, is_shared, is_lost, spoils}
+use Rattle.offences.proofs.Common.{is_spoiled, kind_in, has_kind, on_plane, IsTypedStack}
+use Rattle.std.specs.Prelude.{IsTrue, ◌||◌, not, count_by}
+use Rattle.std.proofs.lemmas.Bool.{eqb-false, or_cases, or_left, or_right, not-true}
+use Rattle.std.proofs.lemmas.Bool.{not_from_false}
+use Rattle.geo_core.proofs.FiniteSets.Searches.{list_any-passes}
 use Rattle.tech_model.specs.declared.raw.FetRule.{FetRule}
-use Rattle.tech_model.specs.declared.raw.RawTech.{RawTech}
 use Rattle.tech_model.specs.Types.{is_within}
-use Rattle.tech_model.specs.WellFormed.{IsWellFormed, IsFet}
+use Rattle.tech_model.specs.WellFormed.{IsFet}
 use Rattle.tech_model.proofs.WellFormedLaws.{type_bounds}
-use Rattle.tech_model.specs.ChannelRoles.{is_channel}
-use Rattle.offences.specs.declared.stacks.PartKind.{PartKind}
-use Rattle.offences.specs.declared.stacks.TypedStack.{TypedStack}
-use Rattle.offences.specs.Changes.{number_of}
-use Rattle.offences.specs.Offences.{SetLayout, flat_type, parts_with, HasKind, HasNoType, HidesPart, SharesChannel, LosesChannel}
-use Rattle.offences.specs.steps.Pieces.{is_hidden, is_shared, is_lost, spoils, is_spoiled}
-use Rattle.offences.specs.TypedStacks.{kind_in, has_kind, on_plane, IsTypedStack}
+use Rattle.offences.specs.Offences.{parts_with, HasNoType, HidesPart, SharesChannel, LosesChannel}
 use Rattle.offences.proofs.KindLaws.{kind_in-listed, kind_is_listed, parts_with-kinds}
 
 -- space is no channel

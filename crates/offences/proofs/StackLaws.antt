@@ -1,27 +1,12 @@
 -- Stacks of tiles, and what their members make.
-use Rattle.std.proofs.Common.{◌≡◌, ◌≢◌, inl, inr, ◌<◌, ℕ, List, [], ◌∷◌, ◌++◌, length, map}
-use Rattle.std.proofs.Common.{refl, sym, ap, subst, ◌∙◌, arith}
-use Rattle.std.specs.Prelude.{All, AllPairs, Some}
-use Rattle.std.specs.Option.{option_map}
-use Rattle.std.proofs.lemmas.List.{length-map, map-append}
-use Rattle.std.proofs.lemmas.Option.{slice_get-map, slice_get_within, slice_get-get_or}
-use Rattle.geo_core.specs.FiniteSets.Lists.{In}
-use Rattle.geo_core.proofs.FiniteSets.Members.{In-get_or, In-index, In-push_cases, In-append_left, In-push}
-use Rattle.geo_core.proofs.FiniteSets.Searches.{All-from_In}
-use Rattle.geo_core.proofs.FiniteSets.Pairs.{Pairwise-from_AllPairs, AllPairs-from_Pairwise, Pairwise-map}
-use Rattle.geo_core.specs.declared.squares.Square.{Square}
-use Rattle.geo_core.specs.declared.squares.Rect.{Rect}
-use Rattle.geo_core.specs.Areas.{AreDisjoint, corner_of}
-use Rattle.geo_core.specs.Covering.{Covers}
-use Rattle.geo_core.proofs.CornerLaws.{corner_covers}
-use Rattle.rect_overlays.specs.declared.stacks.Stack.{Stack}
+use Rattle.offences.proofs.Common.{◌≡◌, ◌≢◌, inl, inr, ◌<◌, ℕ, List, [], ◌∷◌, ◌++◌, length, map, refl, sym, ap, subst, ◌∙◌, arith, All, AllPairs}
+use Rattle.offences.proofs.Common.{Some, option_map, length-map, map-append, slice_get-map, slice_get_within, slice_get-get_or, In, In-get_or}
+use Rattle.offences.proofs.Common.{In-index, In-push_cases, In-append_left, All-from_In, Pairwise-from_AllPairs, AllPairs-from_Pairwise}
+use Rattle.offences.proofs.Common.{Pairwise-map, Square, Rect, AreDisjoint, corner_of, Covers, corner_covers, Stack, IsStack, RawTech, SetTile}
+use Rattle.offences.proofs.Common.{TypedStack, tile_at, no_tile, StandsFor, StandForAll}
+use Rattle.geo_core.proofs.FiniteSets.Members.{In-push}
 use Rattle.geo_core.specs.Covering.{CoversAt}
-use Rattle.rect_overlays.specs.Stacks.{IsStack}
-use Rattle.tech_model.specs.declared.raw.RawTech.{RawTech}
-use Rattle.offences.specs.declared.set_tiles.SetTile.{SetTile}
-use Rattle.offences.specs.declared.stacks.TypedStack.{TypedStack}
-use Rattle.offences.specs.PartSets.{tile_at, no_tile}
-use Rattle.offences.specs.TypedStacks.{StandsFor, IsOfStack, StandForAll}
+use Rattle.offences.specs.TypedStacks.{IsOfStack}
 
 -- the areas of tiles
 abbrev pub tile_areas : List SetTile → List Rect

@@ -1,16 +1,10 @@
 -- The sets of parts, summed up over members that stand in the order of parts.
-use Rattle.std.proofs.Common.{◌≡◌, ◌≢◌, ◌⊎◌, inl, inr, ◌+◌, ◌<◌, ◌≤◌, ◌==◌, ℕ, Bool, bit_or, cond, List, [], ◌∷◌, ◌++◌, length, take, get_or, refl}
-use Rattle.std.proofs.Common.{sym, ap, subst, ◌∙◌, arith}
-use Rattle.std.specs.Prelude.{All, AllPairs}
-use Rattle.std.specs.Int.Bits.{or_zero_l, or_zero_r}
-use Rattle.std.proofs.lemmas.Bool.{eq-eqb, ne_eqb, cases_eq}
-use Rattle.std.proofs.lemmas.List.{take_more, take_all}
-use Rattle.geo_core.specs.FiniteSets.Lists.{In}
-use Rattle.geo_core.proofs.FiniteSets.Members.{In-get_or, In-push_cases}
-use Rattle.geo_core.proofs.FiniteSets.Pairs.{Pairwise, AllPairs-from_Pairwise, Pairwise-push}
-use Rattle.offences.specs.declared.set_tiles.SetTile.{SetTile}
-use Rattle.offences.specs.declared.part_sets.PartSum.{PartSum}
-use Rattle.offences.specs.PartSets.{no_tile, tile_at, AreInPartOrder, set_if, member_set, listed_set, all_sets, HasMember, HaveSetsOf}
+use Rattle.offences.proofs.Common.{◌≡◌, ◌≢◌, ◌⊎◌, inl, inr, ◌+◌, ◌<◌, ◌≤◌, ◌==◌, ℕ, Bool, bit_or, cond, List, [], ◌∷◌, ◌++◌, length, take, get_or}
+use Rattle.offences.proofs.Common.{refl, sym, ap, subst, ◌∙◌, arith, All, AllPairs, or_zero_l, or_zero_r, eq-eqb, ne_eqb, cases_eq, take_more}
+use Rattle.offences.proofs.Common.{take_all, In, In-get_or, In-push_cases, AllPairs-from_Pairwise, SetTile, PartSum, no_tile, tile_at}
+use Rattle.offences.proofs.Common.{AreInPartOrder, set_if, member_set, listed_set, all_sets, HaveSetsOf}
+use Rattle.geo_core.proofs.FiniteSets.Pairs.{Pairwise, Pairwise-push}
+use Rattle.offences.specs.PartSets.{HasMember}
 use Rattle.layout_model.proofs.SetUnions.{union_assoc}
 use Rattle.offences.proofs.UnionLaws.{set_if-empty, set_if-or}
 

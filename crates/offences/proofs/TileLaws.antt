@@ -1,23 +1,13 @@
 -- The sets that tiles make, part by part and together, by their members.
-use Rattle.std.proofs.Common.{◌≡◌, inl, inr, ◌<◌, ◌==◌, ℕ, Bool, bit_or, cond, List, [], ◌∷◌, length, refl, sym, ap, subst, ◌∙◌, arith}
-use Rattle.std.specs.Prelude.{Some, ◌&&◌, slice_get}
-use Rattle.std.specs.Int.{bit_at}
-use Rattle.std.specs.List.{range_with_len}
-use Rattle.std.proofs.lemmas.Bool.{eq-eqb, eqb-true, and_parts, and_from, cases_Bool}
+use Rattle.offences.proofs.Common.{◌≡◌, inl, inr, ◌<◌, ◌==◌, ℕ, Bool, bit_or, cond, List, [], ◌∷◌, length, refl, sym, ap, subst, ◌∙◌, arith, Some}
+use Rattle.offences.proofs.Common.{◌&&◌, slice_get, bit_at, range_with_len, eq-eqb, eqb-true, and_parts, and_from, cases_Bool, slice_get_within}
+use Rattle.offences.proofs.Common.{slice_get-get_or, In, In-map, In-map_source, Covers, is_covered, Covers-is_covered, is_covered-Covers, Place}
+use Rattle.offences.proofs.Common.{SetTile, PartSum, SetLayout, union_of, tile_at, set_if, member_set, listed_set, all_sets, tile_part, tile_parts}
 use Rattle.std.proofs.lemmas.List.FromFn.{get_or-map-range_with_len, length-map-range_with_len}
-use Rattle.std.proofs.lemmas.Option.{slice_get_within, get_or_from_slice_get, slice_get-get_or}
-use Rattle.geo_core.specs.FiniteSets.Lists.{In}
-use Rattle.geo_core.proofs.FiniteSets.Members.{In-map, In-map_source}
-use Rattle.geo_core.specs.Covering.{Covers, is_covered}
-use Rattle.geo_core.proofs.CoveringLaws.{Covers-is_covered, is_covered-Covers}
+use Rattle.std.proofs.lemmas.Option.{get_or_from_slice_get}
 use Rattle.tech_model.proofs.SetLaws.{or_bit_cases, or_bit_left, or_bit_right}
 use Rattle.tech_model.proofs.WellFormedLaws.{In-range_with_len, range_bounds}
-use Rattle.layout_model.specs.Places.{Place}
-use Rattle.offences.specs.declared.set_tiles.SetTile.{SetTile}
-use Rattle.offences.specs.declared.part_sets.PartSum.{PartSum}
-use Rattle.offences.specs.Offences.{SetLayout, union_of}
-use Rattle.offences.specs.PartSets.{tile_at, set_if, member_set, listed_set, all_sets}
-use Rattle.offences.specs.SetTiles.{set_of_set_tile, tile_part, tile_parts}
+use Rattle.offences.specs.SetTiles.{set_of_set_tile}
 use Rattle.offences.proofs.UnionLaws.{no_part, set_if-bit, set_if-kept}
 
 -- A thing of the list has this part in its set.

@@ -1,33 +1,12 @@
 -- What the members of stacks make is what the parts have there.
-use Rattle.std.proofs.Common.{◌≡◌, ◌≢◌, ◌<◌, ◌<ℤ◌, ◌≤ℤ◌, ◌-ℤ◌, pos, ℕ, List, map, refl, sym, ap, subst, ◌∙◌, arith}
-use Rattle.std.specs.Prelude.{AllPairs, Some, None, Option}
-use Rattle.std.specs.Int.{bit_at}
-use Rattle.std.specs.Option.{option_map}
-use Rattle.std.proofs.lemmas.Int.{ints}
-use Rattle.geo_core.specs.FiniteSets.Lists.{In}
-use Rattle.geo_core.proofs.FiniteSets.Members.{In-map, In-map_source}
-use Rattle.geo_core.proofs.FiniteSets.Pairs.{Pairwise-from_AllPairs, AllPairs-from_Pairwise, Pairwise-map}
-use Rattle.geo_core.proofs.FiniteSets.Searches.{All-In}
-use Rattle.geo_core.specs.declared.squares.Square.{Square}
-use Rattle.geo_core.specs.declared.squares.Rect.{Rect}
-use Rattle.geo_core.specs.Areas.{IsNear, AreDisjoint, corner_of}
-use Rattle.geo_core.proofs.CornerLaws.{corner_covers}
-use Rattle.geo_core.specs.Covering.{Covers, IsProper}
-use Rattle.rect_overlays.specs.declared.stacks.Stack.{Stack}
-use Rattle.rect_overlays.specs.Stacks.{IsStack, AreStacks}
-use Rattle.tech_model.specs.declared.raw.RawTech.{RawTech}
-use Rattle.tech_model.specs.Types.{type_number, joined}
+use Rattle.offences.proofs.Common.{◌≡◌, ◌≢◌, ◌<◌, ◌<ℤ◌, ◌≤ℤ◌, pos, ℕ, List, map, refl, sym, ap, subst, ◌∙◌, arith, AllPairs, Some, None, Option}
+use Rattle.offences.proofs.Common.{bit_at, option_map, ints, In, In-map, In-map_source, Pairwise-from_AllPairs, AllPairs-from_Pairwise, Pairwise-map}
+use Rattle.offences.proofs.Common.{All-In, Square, Rect, IsNear, AreDisjoint, corner_of, corner_covers, Covers, IsProper, Stack, IsStack, AreStacks}
+use Rattle.offences.proofs.Common.{RawTech, type_number, joined, SetTile, PartSum, PartKind, TypedStack, number_of, SetLayout, union_of, HaveTypes}
+use Rattle.offences.proofs.Common.{tile_at, member_set, listed_set, all_sets, HaveSetsOf, AreTilesOfParts, tile_part, tile_parts, typed_stack_areas}
+use Rattle.offences.proofs.Common.{kind_of, kind_in, AreByPart, on_plane, StandsFor, StandForAll, IsTypedStack, AreTypedStacks}
+use Rattle.std.proofs.Common.{◌-ℤ◌}
 use Rattle.tech_model.proofs.JoinedLaws.{joined-found}
-use Rattle.offences.specs.declared.set_tiles.SetTile.{SetTile}
-use Rattle.offences.specs.declared.part_sets.PartSum.{PartSum}
-use Rattle.offences.specs.declared.stacks.PartKind.{PartKind}
-use Rattle.offences.specs.declared.stacks.TypedStack.{TypedStack}
-use Rattle.offences.specs.Changes.{number_of}
-use Rattle.offences.specs.Offences.{SetLayout, union_of, HaveTypes}
-use Rattle.offences.specs.PartSets.{tile_at, member_set, listed_set, all_sets, HaveSetsOf}
-use Rattle.offences.specs.SetTiles.{AreTilesOfParts, tile_part, tile_parts}
-use Rattle.offences.specs.TypedStacks.{typed_stack_areas, kind_of, kind_in, AreByPart, on_plane, StandsFor, StandForAll, IsTypedStack}
-use Rattle.offences.specs.TypedStacks.{AreTypedStacks}
 use Rattle.offences.proofs.KindLaws.{kinds_of_sums, kind_in-listed}
 use Rattle.offences.proofs.StackLaws.{tile_areas, In-tile_at, covers_tile, tile_covers, some_member, stack_areas_apart}
 use Rattle.offences.proofs.TileLaws.{part_bit, part_kept, member_bit, member_kept, listed_bit, listed_kept, all_bit, all_kept, length-parts}

@@ -1,10 +1,7 @@
 -- Unions of sets as numbers.
-use Rattle.std.proofs.Common.{◌≡◌, ◌≢◌, inl, inr, ◌<◌, ◌==◌, ℕ, Bool, true, false, bit_or, cond, refl, sym, ap, subst, ◌∙◌, arith}
-use Rattle.std.specs.Int.{bit_at}
-use Rattle.std.specs.Int.Bits.{or_zero_l}
-use Rattle.std.proofs.lemmas.Bool.{eq-eqb, ne_eqb, cases_eq}
+use Rattle.offences.proofs.Common.{◌≡◌, ◌≢◌, inl, inr, ◌<◌, ◌==◌, ℕ, Bool, true, false, bit_or, cond, refl, sym, ap, subst, ◌∙◌, arith, bit_at}
+use Rattle.offences.proofs.Common.{or_zero_l, eq-eqb, ne_eqb, cases_eq, set_if}
 use Rattle.std.proofs.lemmas.Nat.Bits.{bit_at-zero, bit_at-lt, same_from_bits}
-use Rattle.offences.specs.PartSets.{set_if}
 
 same_bit : (x y : ℕ) → x < 2 → y < 2 → (x ≡ 1 → y ≡ 1) → (y ≡ 1 → x ≡ 1) → x ≡ y
 same_bit x y p q to from = elim (cases_eq x 1) [

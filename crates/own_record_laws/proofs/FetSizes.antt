@@ -1,22 +1,15 @@
 -- The sizes of transistors: the lengths of terminals add up to the edges that lead to terminals, and near places have few edges.
-use Rattle.std.proofs.Common.{◌≡◌, ◌⊎◌, ◌^◌, ℤ, pos, ◌+ℤ◌, ◌*ℤ◌, ◌≤ℤ◌, true, List, [], ◌∷◌, map, IsTrue, inl, inr, refl, sym, ◌∙◌, ap}
-use Rattle.std.proofs.Common.{subst, arith}
-use Rattle.std.proofs.lemmas.Int.{ints}
-use Rattle.full_names.specs.FiniteSets.Lists.{In, Distinct}
-use Rattle.full_names.specs.FiniteSets.Total.{sum_on, Total}
+use Rattle.own_record_laws.proofs.Common.{◌≡◌, ◌⊎◌, ◌^◌, ℤ, pos, ◌≤ℤ◌, true, List, [], ◌∷◌, map, IsTrue, inl, inr, refl, sym, ◌∙◌, ap, subst, arith}
+use Rattle.own_record_laws.proofs.Common.{ints, In, Distinct, sum_on, RawTech, is_terminal, LeadsAcross, IsEdgeCount, Layout, Place, AreOneChannel}
+use Rattle.own_record_laws.proofs.Common.{IsTerminalOf, Transistor, IsTransistor, IsNearPlace}
+use Rattle.std.proofs.Common.{◌+ℤ◌, ◌*ℤ◌}
+use Rattle.full_names.specs.FiniteSets.Total.{Total}
 use Rattle.full_names.proofs.FiniteSets.Listings.{length-lists}
 use Rattle.full_names.proofs.FiniteSets.Sums.{sum_on-count, sum_on-scale}
 use Rattle.full_names.proofs.FiniteSets.Totals.{Total-none, Total-iff, Total-union, Total-from_list}
-use Rattle.tree_records.specs.TechModel.declared.raw.RawTech.{RawTech}
-use Rattle.tree_records.specs.TechModel.ChannelRoles.{is_terminal}
-use Rattle.tree_records.specs.LayoutModel.EdgeCounts.{LeadsAcross, IsEdgeCount}
-use Rattle.tree_records.specs.LayoutModel.Layouts.{Layout}
 use Rattle.tree_records.specs.LayoutModel.Measures.{perimeter_at}
-use Rattle.tree_records.specs.LayoutModel.Places.{Place}
 use Rattle.tree_records.specs.LayoutModel.Technologies.{Class}
-use Rattle.tree_records.specs.LayoutModel.Transistors.{AreOneChannel, IsTerminalOf, Transistor, IsTransistor}
 use Rattle.tree_records.proofs.FloodNodes.OpenEdges.{edges_by_places}
-use Rattle.tree_records.specs.Measures.Bounds.{IsNearPlace}
 use Rattle.tree_records.proofs.Measures.BoundLaws.{measures_are_small}
 
 -- ---- few edges

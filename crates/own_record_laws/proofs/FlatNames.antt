@@ -1,19 +1,12 @@
 -- Full names in the only element of its tree, and which of them are of one node.
-use Rattle.std.proofs.Common.{◌≡◌, ◌⊎◌, ℕ, Bool, true, false, cond, List, [], ◌∷◌, map, inl, inr, refl, sym, ◌∙◌, ap, subst}
-use Rattle.full_names.specs.FiniteSets.Lists.{In}
+use Rattle.own_record_laws.proofs.Common.{◌≡◌, ◌⊎◌, ℕ, Bool, true, false, cond, List, [], ◌∷◌, map, inl, inr, refl, sym, ◌∙◌, ap, subst, In}
+use Rattle.own_record_laws.proofs.Common.{Chain-carries, In-flat_map, NodeRec, MergeRec, CellExt, is_global, IsLawful, names_of, node_names, Element}
+use Rattle.own_record_laws.proofs.Common.{name_in, full_names}
 use Rattle.full_names.specs.FiniteSets.Chain.Chain.{go, stay}
-use Rattle.full_names.proofs.FiniteSets.Chains.{Chain-carries}
-use Rattle.full_names.proofs.FiniteSets.Images.{In-flat_map, In-flat_map_source, map-fixed}
-use Rattle.full_names.specs.ExtModel.declared.records.NodeRec.{NodeRec}
-use Rattle.full_names.specs.ExtModel.declared.records.MergeRec.{MergeRec}
-use Rattle.full_names.specs.ExtModel.declared.records.CellExt.{CellExt}
-use Rattle.full_names.specs.ExtModel.NodeNames.{is_global}
-use Rattle.full_names.specs.ExtModel.Lawful.{IsLawful}
-use Rattle.full_names.specs.ExtModel.RecordNames.{names_of, node_names}
+use Rattle.full_names.proofs.FiniteSets.Images.{In-flat_map_source, map-fixed}
 use Rattle.full_names.proofs.ExtModel.PathNames.{last_name-whole}
 use Rattle.full_names.proofs.ExtModel.RecordNameLaws.{is_node_name-lawful, slashes_in-node_name}
-use Rattle.full_names.specs.CircuitModel.Elements.{Element}
-use Rattle.full_names.specs.CircuitModel.FullNames.{name_in, full_names, IsFullName, AreLinked, AreOneNode}
+use Rattle.full_names.specs.CircuitModel.FullNames.{IsFullName, AreLinked, AreOneNode}
 use Rattle.own_record_laws.proofs.OneElement.{root_of}
 use Rattle.own_record_laws.proofs.Parts.{one_owner}
 

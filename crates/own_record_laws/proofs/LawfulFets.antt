@@ -1,36 +1,17 @@
 -- The record of a transistor of sound paint is lawful.
-use Rattle.std.proofs.Common.{◌≡◌, ◌<◌, ◌+◌, ◌^◌, ℕ, ℤ, pos, negsuc, neg_ℤ, ◌+ℤ◌, ◌≤ℤ◌, IsTrue, List, [], ◌∷◌, map, inl, inr, refl, sym, ◌∙◌}
-use Rattle.std.proofs.Common.{ap, subst, arith}
+use Rattle.own_record_laws.proofs.Common.{◌≡◌, ◌<◌, ◌^◌, ℕ, ℤ, pos, negsuc, ◌≤ℤ◌, IsTrue, List, [], ◌∷◌, map, inl, inr, refl, sym, ◌∙◌, ap, subst}
+use Rattle.own_record_laws.proofs.Common.{arith, w32, FitsSigned, ints, sum_by-cons, In, sum_on, Chain-carries, In-map_source, All-from_In, All-In}
+use Rattle.own_record_laws.proofs.Common.{Covers, Label, RawTech, IsWellFormed, TermRec, FetRec, CellExt, is_word, node_names, is_terminal}
+use Rattle.own_record_laws.proofs.Common.{HasTypesOf, Layout, IsMaterial, Place, AreOneChannel, IsTerminalOf, IsTransistor, paint_range, IsNearPlace}
+use Rattle.own_record_laws.proofs.Common.{IsOfNode, IsFetRecord}
+use Rattle.std.proofs.Common.{◌+◌, neg_ℤ, ◌+ℤ◌}
 use Rattle.std.specs.Prelude.{sum_by}
-use Rattle.std.specs.Int.{w32}
-use Rattle.std.specs.Int.RustNames.{FitsSigned, unsigned_abs}
-use Rattle.std.proofs.lemmas.Int.{ints}
-use Rattle.std.proofs.lemmas.List.Sums.{sum_by-cons}
-use Rattle.full_names.specs.FiniteSets.Lists.{In}
-use Rattle.full_names.specs.FiniteSets.Total.{sum_on}
-use Rattle.full_names.proofs.FiniteSets.Chains.{Chain-carries}
-use Rattle.full_names.proofs.FiniteSets.Members.{In-map_source}
-use Rattle.full_names.proofs.FiniteSets.Searches.{All-from_In, All-In}
-use Rattle.full_names.specs.GeoCore.Covering.{Covers}
-use Rattle.tree_records.specs.TechModel.declared.raw.Label.{Label}
-use Rattle.tree_records.specs.TechModel.declared.raw.RawTech.{RawTech}
-use Rattle.tree_records.specs.TechModel.WellFormed.{IsWellFormed, IsFet}
+use Rattle.std.specs.Int.RustNames.{unsigned_abs}
+use Rattle.tree_records.specs.TechModel.WellFormed.{IsFet}
 use Rattle.tree_records.proofs.TechModel.WellFormedLaws.{type_bounds}
 use Rattle.full_names.specs.ExtModel.declared.limits.TheConstants.{MEASURE_EDGE, LENGTHS_EDGE}
-use Rattle.full_names.specs.ExtModel.declared.records.TermRec.{TermRec}
-use Rattle.full_names.specs.ExtModel.declared.records.FetRec.{FetRec}
-use Rattle.full_names.specs.ExtModel.declared.records.CellExt.{CellExt}
-use Rattle.full_names.specs.ExtModel.NodeNames.{is_word}
 use Rattle.full_names.specs.ExtModel.Lawful.{IsMeasure, IsLawfulTerm, IsLawfulFet}
-use Rattle.full_names.specs.ExtModel.RecordNames.{node_names}
-use Rattle.tree_records.specs.TechModel.ChannelRoles.{is_terminal}
-use Rattle.tree_records.specs.LayoutModel.LayerTypes.{HasTypesOf}
-use Rattle.tree_records.specs.LayoutModel.Layouts.{Layout, IsMaterial}
-use Rattle.tree_records.specs.LayoutModel.Places.{Place}
-use Rattle.tree_records.specs.LayoutModel.Transistors.{AreOneChannel, IsTerminalOf, IsTransistor, gate_length}
-use Rattle.tree_records.specs.CellPaint.Painting.{paint_range}
-use Rattle.tree_records.specs.Measures.Bounds.{IsNearPlace}
-use Rattle.tree_records.specs.FetRecords.{IsOfNode, IsFetRecord}
+use Rattle.tree_records.specs.LayoutModel.Transistors.{gate_length}
 use Rattle.own_record_laws.proofs.FetSizes.{few_places, few_edges, terminals_total}
 use Rattle.own_record_laws.proofs.NameForms.{plain_word, label_word}
 use Rattle.own_record_laws.proofs.NodeSizes.{measure_from, near_place, paint_x, paint_y}

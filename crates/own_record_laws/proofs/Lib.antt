@@ -6,6 +6,7 @@ pub use Rattle.tree_records.proofs.CellNodes as CellNodes
 pub use Rattle.tree_records.proofs.FloodNodes as FloodNodes
 pub use Rattle.tree_records.proofs.Measures as Measures
 pub use Rattle.tree_records.proofs.Names as Names
+mod Common
 mod OneElement
 mod NoOtherFaults
 mod Parts

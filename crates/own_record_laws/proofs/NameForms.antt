@@ -1,36 +1,25 @@
 -- Texts of a layout with labels have the forms that a record wants: words, and names of nodes.
-use Rattle.std.proofs.Common.{◌≡◌, ℕ, suc, ◌+◌, ◌<◌, ◌≤◌, ℤ, pos, negsuc, Bool, true, false, cond, ◌&&◌, ◌==◌, IsTrue, List, [], ◌∷◌, ◌++◌, length}
-use Rattle.std.proofs.Common.{inl, inr, refl, sym, ◌∙◌, ap, subst, arith, length-append}
+use Rattle.own_record_laws.proofs.Common.{◌≡◌, ℕ, suc, ◌<◌, ℤ, pos, negsuc, Bool, true, false, cond, IsTrue, List, [], ◌∷◌, length, inl, inr, refl}
+use Rattle.own_record_laws.proofs.Common.{sym, ◌∙◌, ap, subst, arith, is_ascii_digit, all_ascii_digits, sum_by-cons, In, In-append_cases, In-get_or}
+use Rattle.own_record_laws.proofs.Common.{All-In, digit_is, Square, Label, RawTech, IsWellFormed, is_word, is_node_name, Layout, Place, HasText}
+use Rattle.own_record_laws.proofs.Common.{label_at, coordinate_text, generated_name, IsNameOf}
+use Rattle.std.proofs.Common.{◌+◌, ◌≤◌, ◌&&◌, ◌==◌, ◌++◌}
+use Rattle.std.proofs.Common.{length-append}
 use Rattle.std.specs.Prelude.{nat_le, codes}
-use Rattle.std.specs.Char.{is_ascii_digit}
 use Rattle.std.specs.List.{list_all}
-use Rattle.std.specs.Str.{all_ascii_digits}
 use Rattle.std.proofs.lemmas.Bool.{and_parts, and_from, le-leb, leb-true, eq-eqb}
 use Rattle.std.proofs.lemmas.Bool.Decides.{nat_tests}
-use Rattle.std.proofs.lemmas.List.Sums.{sum_by-cons}
-use Rattle.full_names.specs.FiniteSets.Lists.{In}
-use Rattle.full_names.proofs.FiniteSets.Members.{In-append_cases, In-get_or}
-use Rattle.full_names.proofs.FiniteSets.Searches.{list_all-In, All-In}
+use Rattle.full_names.proofs.FiniteSets.Searches.{list_all-In}
 use Rattle.full_names.specs.TextScan.Decimal.{natural_text, decimal}
 use Rattle.full_names.specs.TextScan.PlainNames.{is_plain_byte, is_plain_name}
 use Rattle.full_names.specs.TextScan.declared.plain_name.TheConstants.{LONGEST_NAME}
 use Rattle.full_names.proofs.TextScan.DecimalLemmas.{all_ascii_digits-natural_text}
-use Rattle.full_names.proofs.TextScan.NumberLemmas.{digit_is}
-use Rattle.full_names.specs.GeoCore.declared.squares.Square.{Square}
 use Rattle.tree_records.specs.TechModel.declared.limits.TheConstants.{LONGEST_LABEL}
-use Rattle.tree_records.specs.TechModel.declared.raw.Label.{Label}
-use Rattle.tree_records.specs.TechModel.declared.raw.RawTech.{RawTech}
 use Rattle.tree_records.specs.TechModel.Forms.{is_label_byte, is_layer_name, is_naming_label}
 use Rattle.tree_records.specs.TechModel.Types.{is_type, layer_at, layer_of, first_name}
-use Rattle.tree_records.specs.TechModel.WellFormed.{IsWellFormed}
 use Rattle.tree_records.proofs.TechModel.WellFormedLaws.{layer_well_formed}
 use Rattle.full_names.specs.ExtModel.declared.names.TheConstants.{SLASH}
-use Rattle.full_names.specs.ExtModel.NodeNames.{is_word_byte, is_word, slashes_in, is_node_name}
-use Rattle.tree_records.specs.LayoutModel.Layouts.{Layout}
-use Rattle.tree_records.specs.LayoutModel.Places.{Place}
-use Rattle.tree_records.specs.Names.Attachments.{HasText, label_at}
-use Rattle.tree_records.specs.Names.GeneratedNames.{coordinate_text, generated_name}
-use Rattle.tree_records.specs.Names.NamedNodes.{IsNameOf}
+use Rattle.full_names.specs.ExtModel.NodeNames.{is_word_byte, slashes_in}
 
 -- A byte that a name of a node may have.
 record IsNameByte (byte : ℕ) : Type 0 where

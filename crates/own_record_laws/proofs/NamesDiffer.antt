@@ -1,19 +1,10 @@
 -- No name is in two records of nodes.
-use Rattle.std.proofs.Common.{◌≡◌, ℕ, List, get_or, subst, arith, pos}
-use Rattle.std.specs.List.{flat_map}
-use Rattle.full_names.specs.FiniteSets.Lists.{In, Distinct}
+use Rattle.own_record_laws.proofs.Common.{◌≡◌, ℕ, List, get_or, subst, arith, pos, flat_map, In, Distinct, Label, RawTech, IsWellFormed, NodeRec}
+use Rattle.own_record_laws.proofs.Common.{names_of, HasTypesOf, Layout, Place, IsNodeRecord, AreNodeRecords}
 use Rattle.full_names.proofs.FiniteSets.Pairs.{Pairwise, Pairwise-from_AllPairs}
 use Rattle.full_names.proofs.FiniteSets.Images.{Distinct-flat_map}
-use Rattle.tree_records.specs.TechModel.declared.raw.Label.{Label}
-use Rattle.tree_records.specs.TechModel.declared.raw.RawTech.{RawTech}
-use Rattle.tree_records.specs.TechModel.WellFormed.{IsWellFormed}
-use Rattle.full_names.specs.ExtModel.declared.records.NodeRec.{NodeRec}
-use Rattle.full_names.specs.ExtModel.RecordNames.{names_of}
-use Rattle.tree_records.specs.LayoutModel.LayerTypes.{HasTypesOf}
-use Rattle.tree_records.specs.LayoutModel.Layouts.{Layout}
-use Rattle.tree_records.specs.LayoutModel.Places.{Place, IsBefore}
+use Rattle.tree_records.specs.LayoutModel.Places.{IsBefore}
 use Rattle.tree_records.proofs.LayoutModel.PlaceLaws.{IsBefore-irreflexive}
-use Rattle.tree_records.specs.CellNodes.NodeRecords.{IsNodeRecord, AreNodeRecords}
 use Rattle.own_record_laws.proofs.NodesByName.{one_name_one_node}
 use Rattle.own_record_laws.proofs.PreferredNames.{one_least, recorded}
 

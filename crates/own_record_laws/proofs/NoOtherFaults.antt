@@ -1,10 +1,7 @@
 -- A record without uses and merges can have too many nodes or too long names, and no other fault.
-use Rattle.std.proofs.Common.{◌≡◌, ◌⊎◌, ℕ, Bool, true, false, cond, List, [], ◌∷◌, length, inl, inr, refl, sym, ap, subst, eq-eqb}
-use Rattle.std.specs.Prelude.{Option, Some, None}
+use Rattle.own_record_laws.proofs.Common.{◌≡◌, ◌⊎◌, ℕ, Bool, true, false, cond, List, [], ◌∷◌, length, inl, inr, refl, sym, ap, subst, eq-eqb}
+use Rattle.own_record_laws.proofs.Common.{Option, Some, None, NodeRec, FetRec, CellExt}
 use Rattle.std.specs.Option.{option_or}
-use Rattle.full_names.specs.ExtModel.declared.records.NodeRec.{NodeRec}
-use Rattle.full_names.specs.ExtModel.declared.records.FetRec.{FetRec}
-use Rattle.full_names.specs.ExtModel.declared.records.CellExt.{CellExt}
 use Rattle.full_names.specs.CircuitModel.declared.faults.FlatFault.{FlatFault}
 use Rattle.full_names.specs.CircuitModel.declared.faults.FlatFault.TheVariants.{TooMany, Classes}
 use Rattle.full_names.specs.CircuitModel.declared.limits.CircuitLimit.TheVariants.{Nodes, Names}

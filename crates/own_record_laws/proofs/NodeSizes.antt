@@ -1,25 +1,11 @@
 -- Measures and capacitances of nodes are of the size that a record may have.
-use Rattle.std.proofs.Common.{◌≡◌, ◌<◌, ◌*◌, ◌^◌, ℕ, ℤ, pos, negsuc, ◌≤ℤ◌, List, [], ◌∷◌, length, map, inl, inr, refl, sym, ◌∙◌}
-use Rattle.std.proofs.Common.{arith}
-use Rattle.std.specs.Int.{w32}
-use Rattle.std.specs.Int.RustNames.{FitsSigned}
-use Rattle.std.proofs.lemmas.Int.{ints}
-use Rattle.std.proofs.lemmas.List.{length-map}
-use Rattle.full_names.specs.FiniteSets.Lists.{In}
-use Rattle.full_names.proofs.FiniteSets.Searches.{All-from_In}
-use Rattle.full_names.specs.GeoCore.Covering.{Covers}
-use Rattle.tree_records.specs.TechModel.declared.raw.ClassRec.{ClassRec}
-use Rattle.tree_records.specs.TechModel.declared.raw.RawTech.{RawTech}
-use Rattle.tree_records.specs.TechModel.WellFormed.{IsWellFormed, IsClass}
+use Rattle.own_record_laws.proofs.Common.{◌≡◌, ◌<◌, ◌*◌, ◌^◌, ℕ, ℤ, pos, negsuc, ◌≤ℤ◌, List, [], ◌∷◌, length, map, inl, inr, refl, sym, ◌∙◌, arith}
+use Rattle.own_record_laws.proofs.Common.{w32, FitsSigned, ints, length-map, In, All-from_In, Covers, ClassRec, RawTech, IsWellFormed, IsClass}
+use Rattle.own_record_laws.proofs.Common.{HasTypesOf, Layout, IsMaterial, Place, paint_range, IsNearPlace, IsSmallMeasure}
 use Rattle.full_names.specs.ExtModel.declared.limits.TheConstants.{MEASURE_EDGE}
 use Rattle.full_names.specs.ExtModel.Lawful.{IsMeasure, AreMeasures}
-use Rattle.tree_records.specs.LayoutModel.LayerTypes.{HasTypesOf}
-use Rattle.tree_records.specs.LayoutModel.Layouts.{Layout, IsMaterial}
 use Rattle.tree_records.specs.LayoutModel.Nodes as layout_nodes
-use Rattle.tree_records.specs.LayoutModel.Places.{Place}
 use Rattle.tree_records.specs.LayoutModel.Technologies.{Class, capacitance, class_of}
-use Rattle.tree_records.specs.CellPaint.Painting.{paint_range}
-use Rattle.tree_records.specs.Measures.Bounds.{IsNearPlace, IsSmallMeasure}
 use Rattle.tree_records.proofs.CellNodes.CapacitanceLaws.{product_small}
 
 -- a number from 0 to a bound below the edge

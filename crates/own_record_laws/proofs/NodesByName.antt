@@ -1,33 +1,24 @@
 -- Nodes that share a name are one: a text attaches to one node alone, and generated names differ by layer and square.
-use Rattle.std.proofs.Common.{◌≡◌, ◌⊎◌, ℕ, suc, ◌<◌, ◌≤◌, ℤ, pos, negsuc, true, not, List, [], ◌∷◌, ◌++◌, length, IsTrue}
-use Rattle.std.proofs.Common.{inl, inr, refl, sym, ◌∙◌, ap, subst, arith, append_assoc, eq-eqb}
-use Rattle.std.specs.Char.{is_ascii_digit}
-use Rattle.std.specs.Str.{all_ascii_digits}
-use Rattle.std.proofs.lemmas.Bool.{and_parts, cases_eq, cases_lt, false≢true}
+use Rattle.own_record_laws.proofs.Common.{◌≡◌, ◌⊎◌, ℕ, suc, ◌<◌, ℤ, pos, negsuc, true, List, [], ◌∷◌, length, IsTrue, inl, inr, refl, sym, ◌∙◌, ap}
+use Rattle.own_record_laws.proofs.Common.{subst, arith, eq-eqb, is_ascii_digit, all_ascii_digits, false≢true, In, Chain-append, In-append_cases}
+use Rattle.own_record_laws.proofs.Common.{In-get_or, digit_is, Square, Label, RawTech, IsWellFormed, is_node_name, is_global, Place, IsNoLater}
+use Rattle.own_record_laws.proofs.Common.{HasTypesOf, Layout, IsMaterial, IsNoLater-antisym, HasText, label_at, coordinate_text, generated_name}
+use Rattle.own_record_laws.proofs.Common.{AreOneNamedNode, IsNameOf}
+use Rattle.std.proofs.Common.{◌≤◌, not, ◌++◌}
+use Rattle.std.proofs.Common.{append_assoc}
+use Rattle.std.proofs.lemmas.Bool.{and_parts, cases_eq, cases_lt}
 use Rattle.std.proofs.lemmas.List.{append_cancel_right}
-use Rattle.full_names.specs.FiniteSets.Lists.{In}
-use Rattle.full_names.proofs.FiniteSets.Chains.{Chain-one, Chain-same, Chain-append}
+use Rattle.full_names.proofs.FiniteSets.Chains.{Chain-one, Chain-same}
 use Rattle.full_names.proofs.FiniteSets.Leasts.{IsLeast-unique}
-use Rattle.full_names.proofs.FiniteSets.Members.{In-append_right, In-append_cases, In-get_or}
+use Rattle.full_names.proofs.FiniteSets.Members.{In-append_right}
 use Rattle.full_names.specs.TextScan.Decimal.{natural_text, decimal}
 use Rattle.full_names.proofs.TextScan.DecimalLemmas.{all_ascii_digits-natural_text, decimal-injective}
-use Rattle.full_names.proofs.TextScan.NumberLemmas.{digit_is}
-use Rattle.full_names.specs.GeoCore.declared.squares.Square.{Square}
 use Rattle.full_names.proofs.GeoCore.SquareLaws.{square_is}
-use Rattle.tree_records.specs.TechModel.declared.raw.Label.{Label}
-use Rattle.tree_records.specs.TechModel.declared.raw.RawTech.{RawTech}
 use Rattle.tree_records.specs.TechModel.Types.{layer_at, layer_of, first_name, no_layer}
-use Rattle.tree_records.specs.TechModel.WellFormed.{IsWellFormed}
 use Rattle.tree_records.proofs.TechModel.TypeLaws.{connects_layer}
 use Rattle.tree_records.proofs.TechModel.WellFormedLaws.{layer_well_formed}
-use Rattle.full_names.specs.ExtModel.NodeNames.{ends_in, is_naming_text, is_node_name, is_global}
-use Rattle.tree_records.specs.LayoutModel.Places.{Place, IsNoLater}
-use Rattle.tree_records.specs.LayoutModel.LayerTypes.{HasTypesOf}
-use Rattle.tree_records.specs.LayoutModel.Layouts.{Layout, IsMaterial}
-use Rattle.tree_records.proofs.LayoutModel.PlaceLaws.{IsNoLater-antisym}
-use Rattle.tree_records.specs.Names.Attachments.{Suits, AttachesTo, HasText, label_at}
-use Rattle.tree_records.specs.Names.GeneratedNames.{coordinate_text, generated_name}
-use Rattle.tree_records.specs.Names.NamedNodes.{AreOneNamedNode, IsNameOf}
+use Rattle.full_names.specs.ExtModel.NodeNames.{ends_in, is_naming_text}
+use Rattle.tree_records.specs.Names.Attachments.{Suits, AttachesTo}
 use Rattle.tree_records.proofs.CellNodes.NodePlaces.{AreOneNamedNode-sym}
 
 -- ---- generated names

@@ -1,12 +1,6 @@
 -- A record without uses is the only element of its tree.
-use Rattle.std.proofs.Common.{◌≡◌, ℕ, List, [], ◌∷◌, inl, inr, ap}
-use Rattle.std.specs.Prelude.{Some}
-use Rattle.std.specs.List.{flat_map}
-use Rattle.std.specs.Str.{bytes_eq}
-use Rattle.full_names.proofs.FiniteSets.Searches.{find-In}
-use Rattle.full_names.specs.ExtModel.declared.records.UseRec.{UseRec}
-use Rattle.full_names.specs.ExtModel.declared.records.CellExt.{CellExt}
-use Rattle.full_names.specs.CircuitModel.Elements.{Element, ext_of, of_option, elements_below, elements_of}
+use Rattle.own_record_laws.proofs.Common.{◌≡◌, ℕ, List, [], ◌∷◌, inl, inr, ap, Some, flat_map, bytes_eq, find-In, UseRec, CellExt, Element}
+use Rattle.full_names.specs.CircuitModel.Elements.{ext_of, of_option, elements_below, elements_of}
 
 -- the root of a tree with this record
 abbrev pub root_of : CellExt → Element

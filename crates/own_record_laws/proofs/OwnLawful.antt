@@ -1,39 +1,14 @@
 -- The record of sound paint is lawful.
-use Rattle.std.proofs.Common.{◌≡◌, ◌<◌, ◌*◌, ◌^◌, ℕ, ℤ, pos, IsTrue, List, [], map, length, get_or, inl, sym, ◌∙◌, ap, subst, arith}
+use Rattle.own_record_laws.proofs.Common.{◌≡◌, ◌<◌, ◌*◌, ◌^◌, ℕ, ℤ, pos, IsTrue, List, [], map, length, get_or, inl, sym, ◌∙◌, ap, subst, arith, w32}
+use Rattle.own_record_laws.proofs.Common.{FitsSigned, ints, length-map, In, Distinct, In-get_or, In-index, All-from_In, All-In, In-flat_map, Covers}
+use Rattle.own_record_laws.proofs.Common.{ClassRec, Label, RawTech, IsWellFormed, IsClass, UseRec, NodeRec, FetRec, CellExt, is_word, is_node_name}
+use Rattle.own_record_laws.proofs.Common.{IsLawfulNode, IsLawful, names_of, node_names, HasTypesOf, Layout, IsMaterial, Place, Transistor}
+use Rattle.own_record_laws.proofs.Common.{paint_range, IsSmallMeasure, AreOneNamedNode, IsNodeRecord, IsOfNode, IsOwnRecord}
 use Rattle.std.specs.Prelude.{All}
-use Rattle.std.specs.Int.{w32}
-use Rattle.std.specs.Int.RustNames.{FitsSigned}
-use Rattle.std.proofs.lemmas.Int.{ints}
-use Rattle.std.proofs.lemmas.List.{length-map}
-use Rattle.full_names.specs.FiniteSets.Lists.{In, Distinct}
-use Rattle.full_names.proofs.FiniteSets.Members.{In-get_or, In-index}
-use Rattle.full_names.proofs.FiniteSets.Searches.{All-from_In, All-In}
-use Rattle.full_names.proofs.FiniteSets.Images.{In-flat_map}
-use Rattle.full_names.specs.GeoCore.Covering.{Covers}
-use Rattle.tree_records.specs.TechModel.declared.raw.ClassRec.{ClassRec}
-use Rattle.tree_records.specs.TechModel.declared.raw.Label.{Label}
-use Rattle.tree_records.specs.TechModel.declared.raw.RawTech.{RawTech}
-use Rattle.tree_records.specs.TechModel.WellFormed.{IsWellFormed, IsClass}
-use Rattle.full_names.specs.ExtModel.declared.records.UseRec.{UseRec}
-use Rattle.full_names.specs.ExtModel.declared.records.NodeRec.{NodeRec}
-use Rattle.full_names.specs.ExtModel.declared.records.FetRec.{FetRec}
-use Rattle.full_names.specs.ExtModel.declared.records.CellExt.{CellExt}
-use Rattle.full_names.specs.ExtModel.NodeNames.{is_word, is_node_name}
-use Rattle.full_names.specs.ExtModel.Lawful.{IsLawfulUse, IsLawfulNode, IsLawfulFet, IsLawfulMerge, IsLawful}
-use Rattle.full_names.specs.ExtModel.RecordNames.{names_of, node_names}
-use Rattle.tree_records.specs.LayoutModel.LayerTypes.{HasTypesOf}
-use Rattle.tree_records.specs.LayoutModel.Layouts.{Layout, IsMaterial}
-use Rattle.tree_records.specs.LayoutModel.Places.{Place}
+use Rattle.full_names.specs.ExtModel.Lawful.{IsLawfulUse, IsLawfulFet, IsLawfulMerge}
 use Rattle.tree_records.specs.LayoutModel.Technologies.{class_of}
-use Rattle.tree_records.specs.LayoutModel.Transistors.{Transistor}
-use Rattle.tree_records.specs.CellPaint.Painting.{paint_range}
-use Rattle.tree_records.specs.Measures.Bounds.{IsSmallMeasure}
 use Rattle.tree_records.proofs.Measures.BoundLaws.{measures_are_small}
-use Rattle.tree_records.specs.Names.NamedNodes.{AreOneNamedNode}
-use Rattle.tree_records.specs.CellNodes.NodeRecords.{IsNodeRecord}
 use Rattle.tree_records.proofs.CellNodes.NodePlaces.{material_along}
-use Rattle.tree_records.specs.FetRecords.{IsOfNode}
-use Rattle.tree_records.specs.OwnRecords.{IsOwnRecord}
 use Rattle.own_record_laws.specs.Laws.{OwnRecordsAreLawful}
 use Rattle.own_record_laws.proofs.LawfulFets.{fet_is_lawful}
 use Rattle.own_record_laws.proofs.NameForms.{plain_word, type_word, name_form}

@@ -1,32 +1,17 @@
 -- What the record of a cell without uses means is the circuit that the layout is.
-use Rattle.std.proofs.Common.{◌≡◌, ◌<◌, ℕ, suc, ℤ, List, [], ◌∷◌, map, length, get_or, inl, inr, refl, sym, ◌∙◌, ap, subst, arith}
+use Rattle.own_record_laws.proofs.Common.{◌≡◌, ◌<◌, ℕ, suc, ℤ, List, [], ◌∷◌, map, length, get_or, inl, inr, refl, sym, ◌∙◌, ap, subst, arith}
+use Rattle.own_record_laws.proofs.Common.{map-map, In, Distinct, In-map_source, Square, Label, RawTech, NodeRec, TermRec, FetRec, CellExt, IsLawful}
+use Rattle.own_record_laws.proofs.Common.{names_of, Place, Layout, IsTransistor, IsTerminalOf, AreOneChannel, Element, AreInNameOrder, AreFlatNodes}
+use Rattle.own_record_laws.proofs.Common.{IsOfNode, IsFetRecord, IsOwnRecord}
 use Rattle.std.proofs.lemmas.List.{append-nil}
-use Rattle.std.proofs.lemmas.Simd.{map-map}
-use Rattle.full_names.specs.FiniteSets.Lists.{In, Distinct}
-use Rattle.full_names.proofs.FiniteSets.Members.{In-map_source}
 use Rattle.full_names.proofs.FiniteSets.Pairs.{AllPairs-from_Pairwise, Pairwise-from_AllPairs, Pairwise-unmap}
-use Rattle.full_names.specs.GeoCore.declared.squares.Square.{Square}
-use Rattle.tree_records.specs.TechModel.declared.raw.Label.{Label}
-use Rattle.tree_records.specs.TechModel.declared.raw.RawTech.{RawTech}
 use Rattle.full_names.specs.ExtModel.declared.circuits.Circuit.{Circuit}
-use Rattle.full_names.specs.ExtModel.declared.records.NodeRec.{NodeRec}
-use Rattle.full_names.specs.ExtModel.declared.records.TermRec.{TermRec}
-use Rattle.full_names.specs.ExtModel.declared.records.FetRec.{FetRec}
-use Rattle.full_names.specs.ExtModel.declared.records.CellExt.{CellExt}
-use Rattle.full_names.specs.ExtModel.Lawful.{IsLawful}
-use Rattle.full_names.specs.ExtModel.RecordNames.{names_of}
-use Rattle.tree_records.specs.LayoutModel.Places.{Place}
-use Rattle.tree_records.specs.LayoutModel.Layouts.{Layout}
-use Rattle.tree_records.specs.LayoutModel.Transistors.{IsTransistor, IsTerminalOf, AreOneChannel}
-use Rattle.full_names.specs.CircuitModel.Elements.{Element, elements_of}
-use Rattle.full_names.specs.CircuitModel.FullNames.{AreInNameOrder}
-use Rattle.full_names.specs.CircuitModel.FlatNodes.{AreFlatNodes}
+use Rattle.full_names.specs.CircuitModel.Elements.{elements_of}
 use Rattle.full_names.specs.CircuitModel.FlatFets.{fets_in, IsFlatFet, AreFlatFets}
 use Rattle.full_names.specs.CircuitModel.Circuits.{IsCircuitOf}
 use Rattle.full_names.proofs.ListOrders.{pairwise_names, names_in_order}
-use Rattle.tree_records.specs.FetRecords.{IsOfNode, IsFetRecord, IsNameBefore}
+use Rattle.tree_records.specs.FetRecords.{IsNameBefore}
 use Rattle.tree_records.specs.OwnCircuits.{IsOwnCircuit}
-use Rattle.tree_records.specs.OwnRecords.{IsOwnRecord}
 use Rattle.own_record_laws.specs.Laws.{OwnRecordsMeanTheLayout}
 use Rattle.own_record_laws.proofs.OneElement.{root_of, only_record, only_element}
 use Rattle.own_record_laws.proofs.PreferredNames.{recorded, in_some, goes_by}

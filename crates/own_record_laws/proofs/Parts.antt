@@ -1,13 +1,9 @@
 -- Lists each of whose things has parts, and sums over the one thing that passes a test.
-use Rattle.std.proofs.Common.{◌≡◌, ℤ, pos, Bool, true, cond, List, [], ◌∷◌, inl, inr, refl, sym, ◌∙◌, ap, subst, arith}
-use Rattle.std.specs.List.{flat_map}
+use Rattle.own_record_laws.proofs.Common.{◌≡◌, ℤ, pos, Bool, true, cond, List, [], ◌∷◌, inl, inr, refl, sym, ◌∙◌, ap, subst, arith, flat_map, ints}
+use Rattle.own_record_laws.proofs.Common.{In, Distinct, sum_on, In-flat_map}
 use Rattle.std.proofs.lemmas.Bool.{cases_Bool}
-use Rattle.std.proofs.lemmas.Int.{ints}
-use Rattle.full_names.specs.FiniteSets.Lists.{In, Distinct}
-use Rattle.full_names.specs.FiniteSets.Total.{sum_on}
 use Rattle.full_names.proofs.FiniteSets.Distincts.{Distinct-append_apart, Distinct-append_right}
 use Rattle.full_names.proofs.FiniteSets.Sums.{sum_on-nothing}
-use Rattle.full_names.proofs.FiniteSets.Images.{In-flat_map}
 
 -- where no part stands twice, things that share a part are one
 pub one_owner : {X Y : Type 0} (parts : X → List Y) (xs : List X) (y : Y) (a b : X) → Distinct (flat_map parts xs) → In a xs → In b xs → In y (parts a)

@@ -1,27 +1,17 @@
 -- A place's node goes by the preferred name of the record that has the place.
-use Rattle.std.proofs.Common.{◌≡◌, ◌<◌, ℕ, List, [], get_or, inl, inr, refl, sym, subst, pos}
+use Rattle.own_record_laws.proofs.Common.{◌≡◌, ◌<◌, ℕ, List, [], get_or, inl, inr, refl, sym, subst, pos, In, Chain-append, In-get_or, In-index}
+use Rattle.own_record_laws.proofs.Common.{Label, RawTech, NodeRec, names_of, Place, IsNoLater, Layout, IsMaterial, IsNoLater-antisym}
+use Rattle.own_record_laws.proofs.Common.{AreOneNamedNode, IsNameOf, IsNodeRecord, AreNodeRecords, IsOfNode}
 use Rattle.std.specs.declared.cmp.Ordering.TheVariants.{Less}
 use Rattle.full_names.specs.FiniteSets.Chain.Chain.{stay}
 use Rattle.full_names.specs.FiniteSets.Least.{IsLeast}
-use Rattle.full_names.specs.FiniteSets.Lists.{In}
-use Rattle.full_names.proofs.FiniteSets.Chains.{Chain-append}
 use Rattle.full_names.proofs.FiniteSets.Leasts.{IsLeast-unique, IsLeast-iff}
-use Rattle.full_names.proofs.FiniteSets.Members.{In-get_or, In-index}
 use Rattle.full_names.proofs.FiniteSets.Pairs.{Pairwise-from_AllPairs}
-use Rattle.tree_records.specs.TechModel.declared.raw.Label.{Label}
-use Rattle.tree_records.specs.TechModel.declared.raw.RawTech.{RawTech}
-use Rattle.full_names.specs.ExtModel.declared.records.NodeRec.{NodeRec}
 use Rattle.full_names.specs.ExtModel.NameOrder.{name_cmp}
-use Rattle.full_names.specs.ExtModel.RecordNames.{names_of}
 use Rattle.full_names.proofs.ExtModel.NameOrders.{name_cmp_total}
-use Rattle.tree_records.specs.LayoutModel.Places.{Place, IsNoLater}
-use Rattle.tree_records.specs.LayoutModel.Layouts.{Layout, IsMaterial}
-use Rattle.tree_records.proofs.LayoutModel.PlaceLaws.{IsNoLater-antisym}
-use Rattle.tree_records.specs.Names.NamedNodes.{AreOneNamedNode, IsNameOf}
-use Rattle.tree_records.specs.CellNodes.NodeRecords.{IsNodeRecord, AreNodeRecords}
 use Rattle.tree_records.proofs.CellNodes.NodePlaces.{AreOneNamedNode-sym}
 use Rattle.full_names.proofs.ListOrders.{not_before_itself}
-use Rattle.tree_records.specs.FetRecords.{IsNoLaterName, IsOfNode}
+use Rattle.tree_records.specs.FetRecords.{IsNoLaterName}
 use Rattle.tree_records.specs.OwnCircuits.{IsInSome}
 
 -- two names of which neither is later than the other are one

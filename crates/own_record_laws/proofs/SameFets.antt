@@ -1,24 +1,14 @@
 -- The flat transistors are the layout's, with terminals in another order.
-use Rattle.std.proofs.Common.{◌≡◌, ◌<◌, ℕ, zero, suc, ℤ, ◌-ℤ◌, List, [], ◌∷◌, map, length, get_or, inl, inr, refl, sym, ◌∙◌, ap, subst, arith}
+use Rattle.own_record_laws.proofs.Common.{◌≡◌, ◌<◌, ℕ, suc, ℤ, List, [], ◌∷◌, map, length, get_or, inl, inr, refl, sym, ◌∙◌, ap, subst, arith}
+use Rattle.own_record_laws.proofs.Common.{map-map, In, Distinct, sum_on, In-map, In-map_source, All-from_In, Distinct-unmap, Label, RawTech, TermRec}
+use Rattle.own_record_laws.proofs.Common.{FetRec, Place, Layout, Transistor, IsTransistor, AreOneChannel, AreInNameOrder, IsOfNode, IsFetRecord}
+use Rattle.std.proofs.Common.{zero, ◌-ℤ◌}
 use Rattle.std.specs.Prelude.{AllPairs}
-use Rattle.std.proofs.lemmas.Simd.{map-map}
-use Rattle.full_names.specs.FiniteSets.Lists.{In, Distinct}
-use Rattle.full_names.specs.FiniteSets.Total.{sum_on}
-use Rattle.full_names.proofs.FiniteSets.Members.{In-map, In-map_source}
 use Rattle.full_names.proofs.FiniteSets.Pairs.{AllPairs-from_Pairwise}
-use Rattle.full_names.proofs.FiniteSets.Searches.{All-from_In}
 use Rattle.full_names.proofs.FiniteSets.Sums.{sum_on-same_things}
-use Rattle.full_names.proofs.FiniteSets.Images.{Distinct-unmap}
-use Rattle.tree_records.specs.TechModel.declared.raw.Label.{Label}
-use Rattle.tree_records.specs.TechModel.declared.raw.RawTech.{RawTech}
-use Rattle.full_names.specs.ExtModel.declared.records.TermRec.{TermRec}
-use Rattle.full_names.specs.ExtModel.declared.records.FetRec.{FetRec}
-use Rattle.tree_records.specs.LayoutModel.Places.{Place}
-use Rattle.tree_records.specs.LayoutModel.Layouts.{Layout}
-use Rattle.tree_records.specs.LayoutModel.Transistors.{Transistor, IsTransistor, AreFetsInOrder, AreTransistors, AreOneChannel}
+use Rattle.tree_records.specs.LayoutModel.Transistors.{AreFetsInOrder, AreTransistors}
 use Rattle.full_names.proofs.ListOrders.{pairwise_names, Distinct-names}
-use Rattle.full_names.specs.CircuitModel.FullNames.{AreInNameOrder}
-use Rattle.tree_records.specs.FetRecords.{IsOfNode, IsFetRecord, IsNameBefore, AreFetRecords, terminal_names}
+use Rattle.tree_records.specs.FetRecords.{IsNameBefore, AreFetRecords, terminal_names}
 use Rattle.own_record_laws.proofs.SameTerminals.{sides_of}
 
 -- transistors whose nodes go by their names

@@ -1,25 +1,14 @@
 -- The flat nodes of a record without uses and merges are its nodes.
-use Rattle.std.proofs.Common.{◌≡◌, ℕ, ◌<◌, ℤ, pos, Bool, true, cond, List, [], ◌∷◌, map, length, get_or, drop, inl, inr, refl, sym, ◌∙◌, ap}
-use Rattle.std.proofs.Common.{subst, arith}
-use Rattle.std.specs.Prelude.{find, Some}
-use Rattle.std.specs.Str.{bytes_eq}
-use Rattle.std.proofs.lemmas.Int.{ints}
+use Rattle.own_record_laws.proofs.Common.{◌≡◌, ℕ, ◌<◌, ℤ, pos, Bool, true, cond, List, [], ◌∷◌, map, length, get_or, inl, inr, refl, sym, ◌∙◌, ap}
+use Rattle.own_record_laws.proofs.Common.{subst, arith, find, Some, bytes_eq, ints, bytes_eq-Decides, In, sum_on, find-In, find-passes}
+use Rattle.own_record_laws.proofs.Common.{In-from_list_any, list_any-of_In, Square, NodeRec, MergeRec, CellExt, IsLawful, IsLawfulNode, names_of}
+use Rattle.own_record_laws.proofs.Common.{Element, name_in, full_names, AreInNameOrder, has_name, AreFlatNodes}
+use Rattle.std.proofs.Common.{drop}
 use Rattle.std.proofs.lemmas.List.{ext_get_or}
 use Rattle.std.proofs.lemmas.List.Elements.{All-contains}
-use Rattle.std.proofs.lemmas.Slice.Eq.{bytes_eq-Decides}
-use Rattle.full_names.specs.FiniteSets.Lists.{In}
-use Rattle.full_names.specs.FiniteSets.Total.{sum_on}
 use Rattle.full_names.proofs.FiniteSets.Members.{Contains-from_In}
-use Rattle.full_names.proofs.FiniteSets.Searches.{find-In, find-passes, In-from_list_any, list_any-of_In}
-use Rattle.full_names.specs.GeoCore.declared.squares.Square.{Square}
-use Rattle.full_names.specs.ExtModel.declared.records.NodeRec.{NodeRec}
-use Rattle.full_names.specs.ExtModel.declared.records.MergeRec.{MergeRec}
-use Rattle.full_names.specs.ExtModel.declared.records.CellExt.{CellExt}
-use Rattle.full_names.specs.ExtModel.Lawful.{IsLawful, IsLawfulNode}
-use Rattle.full_names.specs.ExtModel.RecordNames.{names_of}
-use Rattle.full_names.specs.CircuitModel.Elements.{Element, placed}
-use Rattle.full_names.specs.CircuitModel.FullNames.{name_in, full_names, AreInNameOrder}
-use Rattle.full_names.specs.CircuitModel.FlatNodes.{is_among, has_name, gives_name, sum_of, measure_of, IsPlaced, IsFlatNode, AreFlatNodes}
+use Rattle.full_names.specs.CircuitModel.Elements.{placed}
+use Rattle.full_names.specs.CircuitModel.FlatNodes.{is_among, gives_name, sum_of, measure_of, IsPlaced, IsFlatNode}
 use Rattle.full_names.proofs.ListOrders.{same_in_order}
 use Rattle.own_record_laws.proofs.OneElement.{root_of}
 use Rattle.own_record_laws.proofs.Parts.{one_owner, distinct_owners, sum_on-only}

@@ -1,21 +1,10 @@
 -- A flat transistor has the gate and the terminals of the record's transistor.
-use Rattle.std.proofs.Common.{◌≡◌, ℕ, Bool, true, List, [], ◌∷◌, map, length, inl, refl, sym, ◌∙◌, ap, subst}
-use Rattle.std.specs.Prelude.{Option, Some, None, find}
-use Rattle.std.specs.Str.{bytes_eq}
-use Rattle.std.proofs.lemmas.Bool.{false≢true}
-use Rattle.std.proofs.lemmas.Slice.Eq.{bytes_eq-Decides}
-use Rattle.full_names.specs.FiniteSets.Lists.{In, Distinct}
-use Rattle.full_names.proofs.FiniteSets.Members.{In-map, In-map_source}
-use Rattle.full_names.proofs.FiniteSets.Searches.{find-In, find-passes, find-none, In-from_list_any, list_any-of_In}
-use Rattle.full_names.proofs.FiniteSets.Images.{Distinct-unmap, one_from_Distinct}
-use Rattle.full_names.specs.ExtModel.declared.records.NodeRec.{NodeRec}
-use Rattle.full_names.specs.ExtModel.declared.records.TermRec.{TermRec}
-use Rattle.full_names.specs.ExtModel.declared.records.FetRec.{FetRec}
-use Rattle.full_names.specs.ExtModel.declared.records.CellExt.{CellExt}
-use Rattle.full_names.specs.ExtModel.Lawful.{IsLawful}
-use Rattle.full_names.specs.ExtModel.RecordNames.{names_of}
-use Rattle.full_names.specs.CircuitModel.FullNames.{AreInNameOrder}
-use Rattle.full_names.specs.CircuitModel.FlatNodes.{has_name, AreFlatNodes}
+use Rattle.own_record_laws.proofs.Common.{◌≡◌, ℕ, Bool, true, List, [], ◌∷◌, map, length, inl, refl, sym, ◌∙◌, ap, subst, Option, Some, None, find}
+use Rattle.own_record_laws.proofs.Common.{bytes_eq, false≢true, bytes_eq-Decides, In, Distinct, In-map, In-map_source, find-In, find-passes}
+use Rattle.own_record_laws.proofs.Common.{In-from_list_any, list_any-of_In, Distinct-unmap, NodeRec, TermRec, FetRec, CellExt, IsLawful, names_of}
+use Rattle.own_record_laws.proofs.Common.{AreInNameOrder, has_name, AreFlatNodes}
+use Rattle.full_names.proofs.FiniteSets.Searches.{find-none}
+use Rattle.full_names.proofs.FiniteSets.Images.{one_from_Distinct}
 use Rattle.full_names.specs.CircuitModel.FlatFets.{node_name, side_name, IsFlatFet}
 use Rattle.own_record_laws.proofs.OneElement.{root_of}
 use Rattle.own_record_laws.proofs.Parts.{one_owner, sum_on-only}

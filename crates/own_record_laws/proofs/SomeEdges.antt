@@ -1,8 +1,6 @@
 -- Where edges are counted there is one.
-use Rattle.std.proofs.Common.{ℤ, pos, ◌<ℤ◌, [], ◌∷◌, inl, refl, arith}
-use Rattle.std.proofs.lemmas.Int.{ints}
-use Rattle.tree_records.specs.LayoutModel.EdgeCounts.{LeadsAcross, IsEdgeCount}
-use Rattle.tree_records.specs.LayoutModel.Places.{Place}
+use Rattle.own_record_laws.proofs.Common.{ℤ, pos, [], ◌∷◌, inl, refl, arith, ints, LeadsAcross, IsEdgeCount, Place}
+use Rattle.std.proofs.Common.{◌<ℤ◌}
 
 -- An edge that a count of some edges has.
 pub record IsCounted (From To : Place → Type 0) : Type 0 where

@@ -1,29 +1,17 @@
 -- What a group adds to its members, from what its places count where parts meet.
-use Rattle.std.proofs.Common.{◌≡◌, ℕ, ℤ, Bool, false, List, [], ◌∷◌, inl, inr, refl, subst}
-use Rattle.finite_sets.specs.Lists.{In}
+use Rattle.piece_groups.proofs.Common.{◌≡◌, ℕ, ℤ, Bool, false, List, [], ◌∷◌, inl, inr, refl, subst, In, In-map_source, All-from_In, Square, RawTech}
+use Rattle.piece_groups.proofs.Common.{KeepsRules, IsWellFormed, Place, Class, class_of, rules_of, SetLayout, NamedTree, IsGroupName, AreAdjustments}
+use Rattle.piece_groups.proofs.Common.{PlaceWeight, area_weight, perimeter_weight, capacitance_weight, IsAdjustment, Passes, excess, AreMembersOf}
+use Rattle.piece_groups.proofs.Common.{AreMeetingMeasures, HasRecordsBelow}
 use Rattle.finite_sets.specs.Total.{Total}
-use Rattle.finite_sets.proofs.Members.{In-map_source}
-use Rattle.finite_sets.proofs.Searches.{All-from_In, All-In}
-use Rattle.geo_core.specs.declared.squares.Square.{Square}
-use Rattle.tech_model.specs.declared.raw.RawTech.{RawTech}
-use Rattle.tech_model.specs.Rules.{KeepsRules}
-use Rattle.tech_model.specs.WellFormed.{IsClass, IsWellFormed}
-use Rattle.group_meetings.specs.LayoutModel.Places.{Place}
-use Rattle.group_meetings.specs.LayoutModel.Technologies.{Class, class_of, rules_of}
+use Rattle.finite_sets.proofs.Searches.{All-In}
+use Rattle.tech_model.specs.WellFormed.{IsClass}
 use Rattle.group_meetings.proofs.Measures.MeasureLaws.{space_out}
-use Rattle.meeting_sums.specs.Offences.Offences.{SetLayout}
-use Rattle.piece_groups.specs.TreeRecords.NamedTrees.{NamedTree}
-use Rattle.piece_groups.specs.TreeRecords.MemberGroups.{IsGroupName}
-use Rattle.piece_groups.specs.TreeRecords.Merges.{AreAdjustments}
-use Rattle.piece_groups.specs.TreeRecords.PlaceWeights.{PlaceWeight, area_weight, perimeter_weight, capacitance_weight, IsAdjustment}
 use Rattle.group_meetings.specs.TreeNames.CleanTrees.{IsCleanTree}
-use Rattle.piece_groups.specs.MeetingLaws.PartLayouts.{Passes, excess}
 use Rattle.group_meetings.specs.Laws.{IsRestrictedTo}
 use Rattle.group_meetings.specs.Members.{PartsHaveMembers}
-use Rattle.group_meetings.specs.AdjustmentLaws.{AreMembersOf, IsOfClasses}
+use Rattle.group_meetings.specs.AdjustmentLaws.{IsOfClasses}
 use Rattle.group_meetings.proofs.AdjustmentLaws.{counts_are_adjustments}
-use Rattle.piece_groups.specs.MeetingSums.Sums.{AreMeetingMeasures}
-use Rattle.piece_groups.specs.Laws.{HasRecordsBelow}
 use Rattle.piece_groups.proofs.RecordedTotals.{member_totals}
 
 -- space is in no class

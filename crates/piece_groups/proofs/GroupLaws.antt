@@ -1,23 +1,15 @@
 -- The merges of a group, and of one group behind the other.
-use Rattle.std.proofs.Common.{◌≡◌, ◌<◌, ◌+◌, ℕ, Bool, true, false, cond, List, [], ◌∷◌, ◌++◌, map, filter, length, get_or}
-use Rattle.std.proofs.Common.{refl, sym, ◌∙◌, ap}
-use Rattle.std.specs.Prelude.{pos}
-use Rattle.std.specs.List.{flat_map, range_with_len}
-use Rattle.std.proofs.lemmas.Bool.{cond-true, cond-false}
-use Rattle.std.proofs.lemmas.List.{append-nil, get_or_default, map-append}
+use Rattle.piece_groups.proofs.Common.{◌≡◌, ◌<◌, ◌+◌, ℕ, Bool, true, false, cond, List, [], ◌∷◌, ◌++◌, map, filter, length, get_or, refl, sym, ◌∙◌}
+use Rattle.piece_groups.proofs.Common.{ap, pos, flat_map, range_with_len, cond-true, cond-false, get_or_default, Class, MergeRec, MergeRow}
+use Rattle.piece_groups.proofs.Common.{AddsToRows, add_none, add_same, add_then, Adjustment, merge_of, zero_adjustment, Member, name_at, mark_at}
+use Rattle.piece_groups.proofs.Common.{names_behind, sum_at, groups_before, AddsMerges, adjustment_of}
+use Rattle.std.proofs.lemmas.List.{append-nil, map-append}
 use Rattle.std.proofs.lemmas.List.Concat.{flat_map-append}
 use Rattle.std.proofs.lemmas.List.Elements.{filter-append}
 use Rattle.finite_sets.proofs.Searches.{range_one_more}
-use Rattle.group_meetings.specs.LayoutModel.Technologies.{Class}
-use Rattle.ext_model.specs.declared.records.MergeRec.{MergeRec}
-use Rattle.ext_model.specs.declared.arrays.MergeRow.{MergeRow}
-use Rattle.merge_rows.specs.AddedMerges.{AddsToRows}
-use Rattle.merge_rows.proofs.AddedRows.{add_none, add_same, add_then}
-use Rattle.meeting_sums.specs.TreeRecords.Merges.{Adjustment, MemberGroup, group_merges, is_zero_adjustment, merge_of, zero_adjustment}
+use Rattle.meeting_sums.specs.TreeRecords.Merges.{MemberGroup, group_merges, is_zero_adjustment}
 use Rattle.meeting_sums.specs.declared.sums.MeetingSum.{MeetingSum}
-use Rattle.piece_groups.specs.declared.members.Member.{Member}
-use Rattle.piece_groups.specs.steps.Groups.{name_at, mark_at, names_behind, merges_behind, is_first, sum_at, group_at, groups_before, AddsMerges}
-use Rattle.piece_groups.specs.MarkedGroups.{adjustment_of}
+use Rattle.piece_groups.specs.steps.Groups.{merges_behind, is_first, group_at}
 use Rattle.piece_groups.proofs.WalkLaws.{IsNext, mark_read}
 
 -- the sum that is read at a member's mark

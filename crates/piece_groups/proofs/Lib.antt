@@ -2,6 +2,7 @@
 pub use Rattle.meeting_sums.proofs as MeetingSums
 pub use Rattle.group_meetings.proofs.FullNames as FullNames
 pub use Rattle.meeting_sums.proofs.LowerMeetingLaws as MeetingLaws
+mod Common
 mod PlacesOfPieces
 mod MarkedGroups
 mod MemberLaws

@@ -1,15 +1,11 @@
 -- The first place of a mark, and the links that are set from the last member to the first.
-use Rattle.std.proofs.Common.{◌≡◌, ◌≢◌, ◌<◌, ◌≤◌, ◌+◌, ◌-◌, ℕ, cond, List, Option, Some, None, length, get_or, set}
-use Rattle.std.proofs.Common.{inl, inr, sym, ◌∙◌, ap, subst, arith}
-use Rattle.std.specs.Prelude.{◌==◌, All}
+use Rattle.piece_groups.proofs.Common.{◌≡◌, ◌≢◌, ◌<◌, ◌≤◌, ◌+◌, ◌-◌, ℕ, cond, List, Option, Some, None, length, get_or, inl, inr, sym, ◌∙◌, ap}
+use Rattle.piece_groups.proofs.Common.{subst, arith, ◌==◌, All, cases_eq, cond-true, cond-false, eq-eqb, eqb-true, length-map, get_or_default}
+use Rattle.piece_groups.proofs.Common.{All-get_or, drop_split, Member, marks_of, place_with, AreLinkedFrom}
+use Rattle.std.proofs.Common.{set}
 use Rattle.std.specs.List.{position_from}
-use Rattle.std.proofs.lemmas.Bool.{cases_eq, cond-true, cond-false, eq-eqb, false_from_ne_true, eqb-true}
-use Rattle.std.proofs.lemmas.List.{length-set, length-map, get_or-set_same, get_or-set_other, get_or-map, get_or_default, drop_all}
-use Rattle.std.proofs.lemmas.List.Elements.{All-get_or}
-use Rattle.finite_sets.proofs.Searches.{drop_split}
-use Rattle.piece_groups.specs.declared.members.Member.{Member}
-use Rattle.piece_groups.specs.steps.Members.{marks_of}
-use Rattle.piece_groups.specs.steps.Links.{place_with, AreLinkedFrom}
+use Rattle.std.proofs.lemmas.Bool.{false_from_ne_true}
+use Rattle.std.proofs.lemmas.List.{length-set, get_or-set_same, get_or-set_other, get_or-map, drop_all}
 
 -- a place has its mark, or the first place with that mark stands behind it
 pub place_with_here : (marks : List ℕ) (from mark : ℕ) → from < length marks

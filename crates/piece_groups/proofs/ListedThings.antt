@@ -1,7 +1,6 @@
 -- Things that are told apart, and lists of those that have a fact.
-use Rattle.std.proofs.Common.{◌⊎◌, ℕ, List, [], ◌∷◌, inl, inr, refl, sym, subst}
-use Rattle.std.proofs.lemmas.Bool.{cases_eq}
-use Rattle.finite_sets.specs.Lists.{In, Lists}
+use Rattle.piece_groups.proofs.Common.{◌⊎◌, ℕ, List, [], ◌∷◌, inl, inr, refl, sym, subst, cases_eq, In}
+use Rattle.finite_sets.specs.Lists.{Lists}
 use Rattle.group_meetings.proofs.PlacesOnce.{AreTold, once_each}
 
 -- two lists of things that are told apart are one, or they differ

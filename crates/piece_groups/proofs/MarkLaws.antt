@@ -1,33 +1,21 @@
 -- The groups that begin with the first member of each mark are those of the marks.
-use Rattle.std.proofs.Common.{◌≡◌, ◌<◌, ◌+◌, ℕ, zero, suc, Bool, true, false, List, [], ◌∷◌, Option, Some, None, filter, length, get_or}
-use Rattle.std.proofs.Common.{inl, inr, refl, sym, ◌∙◌, ap, subst, arith}
-use Rattle.std.specs.Prelude.{◌==◌, All, slice_get, slice_index, pos}
-use Rattle.std.specs.List.{flat_map, range_with_len}
-use Rattle.std.proofs.lemmas.Bool.{eq-eqb, eqb-true}
-use Rattle.std.proofs.lemmas.List.{get_or_default}
-use Rattle.std.proofs.lemmas.Option.{same_Some, slice_get_within, slice_get-get_or}
-use Rattle.finite_sets.specs.Lists.{In}
-use Rattle.finite_sets.proofs.Members.{In-map, In-map_source, In-filter, In-filter_source, In-filter_passes}
-use Rattle.finite_sets.proofs.Pairs.{Pairwise, Pairwise-map, Pairwise-filter, Pairwise-from_AllPairs, AllPairs-from_Pairwise, Pairwise-within}
-use Rattle.finite_sets.proofs.Searches.{All-from_In}
+use Rattle.piece_groups.proofs.Common.{◌≡◌, ◌<◌, ◌+◌, ℕ, zero, suc, Bool, true, false, List, [], ◌∷◌, Option, Some, None, filter, length, get_or}
+use Rattle.piece_groups.proofs.Common.{inl, inr, refl, sym, ◌∙◌, ap, subst, arith, ◌==◌, All, pos, flat_map, range_with_len, eq-eqb, eqb-true}
+use Rattle.piece_groups.proofs.Common.{get_or_default, same_Some, slice_get_within, slice_get-get_or, In, In-map, In-map_source, Pairwise}
+use Rattle.piece_groups.proofs.Common.{Pairwise-from_AllPairs, AllPairs-from_Pairwise, All-from_In, RawTech, rules_of, MergeRec, MergeRow, AreRowsOf}
+use Rattle.piece_groups.proofs.Common.{add_same, AreInNameOrder, IsNameBefore, zero_adjustment, Member, name_at, mark_at, names_with, names_behind}
+use Rattle.piece_groups.proofs.Common.{sum_at, all_groups, AddsMerges, place_with, adjustment_of, HasMark, IsGroupOfMark, AreMarkedGroups, marks_of}
+use Rattle.std.specs.Prelude.{slice_get, slice_index}
+use Rattle.finite_sets.proofs.Members.{In-filter, In-filter_source, In-filter_passes}
+use Rattle.finite_sets.proofs.Pairs.{Pairwise-map, Pairwise-filter, Pairwise-within}
 use Rattle.tech_model.proofs.WellFormedLaws.{In-range_with_len, range_bounds}
-use Rattle.tech_model.specs.declared.raw.RawTech.{RawTech}
-use Rattle.group_meetings.specs.LayoutModel.Technologies.{rules_of}
-use Rattle.ext_model.specs.declared.records.MergeRec.{MergeRec}
-use Rattle.ext_model.specs.declared.arrays.MergeRow.{MergeRow}
-use Rattle.ext_model.specs.Rows.{AreRowsOf}
-use Rattle.merge_rows.proofs.AddedRows.{add_same, rows_made}
-use Rattle.group_meetings.specs.CircuitModel.FullNames.{AreInNameOrder}
+use Rattle.merge_rows.proofs.AddedRows.{rows_made}
 use Rattle.group_meetings.proofs.FullNames.ListOrders.{names_in_order}
-use Rattle.meeting_sums.specs.TreeRecords.FetRecords.{IsNameBefore}
-use Rattle.meeting_sums.specs.TreeRecords.Merges.{MemberGroup, group_name, group_merges, zero_adjustment}
+use Rattle.meeting_sums.specs.TreeRecords.Merges.{MemberGroup, group_name, group_merges}
 use Rattle.meeting_sums.specs.declared.sums.MeetingSum.{MeetingSum}
-use Rattle.piece_groups.specs.declared.members.Member.{Member}
-use Rattle.piece_groups.specs.steps.Groups.{name_at, mark_at, names_with, names_behind, is_first, sum_at, group_at, all_groups, AddsMerges}
-use Rattle.piece_groups.specs.steps.Links.{place_with}
-use Rattle.piece_groups.specs.MarkedGroups.{adjustment_of, HasMark, IsGroupOfMark, AreMarkedGroups}
+use Rattle.piece_groups.specs.steps.Groups.{is_first, group_at}
 use Rattle.piece_groups.specs.MarkMerges.{AreMergesOfMarks}
-use Rattle.piece_groups.specs.steps.Members.{marks_of, AreMembers}
+use Rattle.piece_groups.specs.steps.Members.{AreMembers}
 use Rattle.piece_groups.proofs.WalkLaws.{StandsFirst, first_or_none, stands_at, name_read, mark_within}
 
 -- numbers in a row rise

@@ -1,33 +1,16 @@
 -- What the pieces of a mark count is what its group adds.
-use Rattle.std.proofs.Common.{◌≡◌, ℕ, ℤ, Bool, List, [], ◌∷◌, length, slice_get, slice_index, sym, ap, ◌∙◌, arith}
+use Rattle.piece_groups.proofs.Common.{◌≡◌, ℕ, ℤ, Bool, List, [], ◌∷◌, length, slice_get, slice_index, sym, ap, ◌∙◌, arith, range_with_len}
+use Rattle.piece_groups.proofs.Common.{length-map, same_Some, slice_get_within, Square, RawTech, KeepsRules, IsWellFormed, RegionTile, Place, Class}
+use Rattle.piece_groups.proofs.Common.{rules_of, PlaneStack, SetLayout, NamedTree, MemberGroup, area_weight, capacitance_weight, perimeter_weight}
+use Rattle.piece_groups.proofs.Common.{group_name_along, one_group, excess, named_is_material, MeetingSum, AreMeetingMeasures, AreMarkedPieces}
+use Rattle.piece_groups.proofs.Common.{MarksTellGroups, LiesInPiece, piece_marks}
 use Rattle.std.specs.Prelude.{Some}
-use Rattle.std.specs.List.{range_with_len}
-use Rattle.std.proofs.lemmas.List.{length-map}
 use Rattle.std.proofs.lemmas.List.FromFn.{get_or-map-range_with_len, length-range_with_len}
-use Rattle.std.proofs.lemmas.Option.{same_Some, slice_get_read, slice_get_within}
+use Rattle.std.proofs.lemmas.Option.{slice_get_read}
 use Rattle.finite_sets.proofs.Totals.{Total-iff}
-use Rattle.geo_core.specs.declared.squares.Square.{Square}
-use Rattle.tech_model.specs.declared.raw.RawTech.{RawTech}
-use Rattle.tech_model.specs.Rules.{KeepsRules}
-use Rattle.tech_model.specs.WellFormed.{IsWellFormed}
-use Rattle.group_meetings.specs.LayoutModel.declared.region_tiles.RegionTile.{RegionTile}
-use Rattle.group_meetings.specs.LayoutModel.Places.{Place}
-use Rattle.group_meetings.specs.LayoutModel.Technologies.{Class, rules_of}
-use Rattle.meeting_sums.specs.Offences.declared.plane_stacks.PlaneStack.{PlaneStack}
-use Rattle.meeting_sums.specs.Offences.Offences.{SetLayout}
-use Rattle.piece_groups.specs.TreeRecords.NamedTrees.{NamedTree}
-use Rattle.piece_groups.specs.TreeRecords.Merges.{MemberGroup}
-use Rattle.piece_groups.specs.TreeRecords.PlaceWeights.{area_weight, capacitance_weight, perimeter_weight}
-use Rattle.group_meetings.proofs.TreeNames.GroupNames.{group_name_along, one_group}
-use Rattle.piece_groups.specs.MeetingLaws.PartLayouts.{excess}
-use Rattle.group_meetings.proofs.MemberMaterial.{named_is_material}
-use Rattle.piece_groups.specs.MeetingSums.declared.sums.MeetingSum.{MeetingSum}
 use Rattle.piece_groups.specs.MeetingSums.StackTiles.{IsInGroup}
-use Rattle.piece_groups.specs.MeetingSums.Sums.{AreMeetingMeasures, IsMeetingSum}
-use Rattle.piece_groups.specs.MemberLaws.{AreMarkedPieces, MarksTellGroups}
+use Rattle.piece_groups.specs.MeetingSums.Sums.{IsMeetingSum}
 use Rattle.piece_groups.specs.MemberMarks.{mark_at}
-use Rattle.piece_groups.specs.PieceMembers.{LiesInPiece}
-use Rattle.piece_groups.specs.Laws.{piece_marks}
 use Rattle.piece_groups.proofs.PiecePlaces.{piece_at, piece_is_within}
 use Rattle.piece_groups.proofs.MarkedMembers.{IsGroupAt}
 use Rattle.piece_groups.proofs.GroupAdjustments.{IsWithin}

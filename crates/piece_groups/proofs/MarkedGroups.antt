@@ -1,38 +1,24 @@
 -- Members and regions of one mark are of one group, and members and pieces of one group have one mark.
-use Rattle.std.proofs.Common.{◌≡◌, ◌⊎◌, ℕ, ◌+◌, ◌<◌, Bool, List, Some, map, length, slice_get, slice_index, inl, inr, refl, sym, ap, subst, ◌∙◌, arith}
-use Rattle.std.proofs.lemmas.List.{length-map}
-use Rattle.std.proofs.lemmas.Option.{slice_get_within, same_Some}
+use Rattle.piece_groups.proofs.Common.{◌≡◌, ◌⊎◌, ℕ, ◌+◌, ◌<◌, Bool, List, Some, map, length, slice_get, slice_index, inl, inr, refl, sym, ap, subst}
+use Rattle.piece_groups.proofs.Common.{◌∙◌, arith, length-map, slice_get_within, same_Some, In, In-map, In-map_source, Square, RawTech, KeepsRules}
+use Rattle.piece_groups.proofs.Common.{IsWellFormed, RegionTile, IsMaterial, Place, PlaneStack, SetLayout, tree_parts, member_is_material}
+use Rattle.piece_groups.proofs.Common.{one_of_part, part_of_member, member_at_part, AreMarkedPieces, LiesInPiece}
 use Rattle.finite_sets.specs.Chain.{EitherWay}
-use Rattle.finite_sets.specs.Lists.{In}
 use Rattle.finite_sets.proofs.Chains.{Chain-one, Chain-carries}
-use Rattle.finite_sets.proofs.Members.{In-map, In-map_source}
 use Rattle.finite_sets.proofs.Places.{one_place}
-use Rattle.geo_core.specs.declared.squares.Square.{Square}
 use Rattle.partition.specs.Divides.{IsPair}
-use Rattle.tech_model.specs.declared.raw.RawTech.{RawTech}
-use Rattle.tech_model.specs.Rules.{KeepsRules}
 use Rattle.tech_model.specs.Types.{connects}
-use Rattle.tech_model.specs.WellFormed.{IsWellFormed}
-use Rattle.group_meetings.specs.LayoutModel.declared.region_tiles.RegionTile.{RegionTile}
-use Rattle.group_meetings.specs.LayoutModel.Layouts.{IsMaterial}
 use Rattle.group_meetings.specs.LayoutModel.Links.{AreOneNode}
-use Rattle.group_meetings.specs.LayoutModel.Places.{Place}
 use Rattle.group_meetings.specs.LayoutModel.RegionTiles.{regions_of}
-use Rattle.meeting_sums.specs.Offences.declared.plane_stacks.PlaneStack.{PlaneStack}
-use Rattle.meeting_sums.specs.Offences.Offences.{SetLayout}
 use Rattle.group_meetings.specs.TreeRecords.NamedTrees.{NamedTree}
 use Rattle.group_meetings.specs.TreeRecords.MemberGroups.{AreOneGroup, IsMemberAt, IsMemberOf}
 use Rattle.group_meetings.proofs.TreeNames.GroupNames.{group_then, members_together}
 use Rattle.group_meetings.specs.MeetingLaws.PartLayouts.{parts_layout, Passes}
-use Rattle.group_meetings.specs.Members.{tree_parts, MeetInRegion}
+use Rattle.group_meetings.specs.Members.{MeetInRegion}
 use Rattle.group_meetings.proofs.GroupRegions.{members_joined}
-use Rattle.group_meetings.proofs.MemberMaterial.{member_is_material}
-use Rattle.group_meetings.proofs.MemberSteps.{one_of_part}
-use Rattle.group_meetings.proofs.PartMembers.{part_of_member, member_at_part}
 use Rattle.group_meetings.proofs.RegionLaws.{region_in_group}
-use Rattle.piece_groups.specs.MemberLaws.{AreMarkedPieces, ClassesAreGroups}
+use Rattle.piece_groups.specs.MemberLaws.{ClassesAreGroups}
 use Rattle.piece_groups.specs.MemberMarks.{region_position, mark_at}
-use Rattle.piece_groups.specs.PieceMembers.{LiesInPiece}
 use Rattle.piece_groups.proofs.PlacesOfPieces.{tile_is_material, place_of_piece, stands_in_piece, material_is_within, restricted_is_material}
 use Rattle.piece_groups.proofs.PlacesOfPieces.{part_stands_there}
 

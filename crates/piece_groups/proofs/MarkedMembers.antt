@@ -1,28 +1,14 @@
 -- The members of a mark are the members of a group.
-use Rattle.std.proofs.Common.{◌≡◌, ◌≢◌, ℕ, Bool, List, [], ◌∷◌, slice_get, slice_index, inl, inr, refl, sym, subst, ◌∙◌}
+use Rattle.piece_groups.proofs.Common.{◌≡◌, ◌≢◌, ℕ, Bool, List, [], ◌∷◌, slice_get, slice_index, inl, inr, refl, sym, subst, ◌∙◌, In, Square}
+use Rattle.piece_groups.proofs.Common.{RawTech, KeepsRules, IsWellFormed, RegionTile, Place, PlaneStack, SetLayout, AreInNameOrder, NamedTree}
+use Rattle.piece_groups.proofs.Common.{named_tree, IsGroupName, IsMemberAt, IsMemberOf, MemberGroup, AreMembersOf, MeetingSum, HasMark}
+use Rattle.piece_groups.proofs.Common.{IsGroupOfMark, AreMarkedPieces, MarksTellGroups}
 use Rattle.std.specs.Prelude.{Some}
 use Rattle.finite_sets.specs.Chain.Chain.{stay}
 use Rattle.finite_sets.specs.Least.{IsLeast}
-use Rattle.finite_sets.specs.Lists.{In}
-use Rattle.geo_core.specs.declared.squares.Square.{Square}
-use Rattle.tech_model.specs.declared.raw.RawTech.{RawTech}
-use Rattle.tech_model.specs.Rules.{KeepsRules}
-use Rattle.tech_model.specs.WellFormed.{IsWellFormed}
-use Rattle.group_meetings.specs.LayoutModel.declared.region_tiles.RegionTile.{RegionTile}
-use Rattle.group_meetings.specs.LayoutModel.Places.{Place}
-use Rattle.meeting_sums.specs.Offences.declared.plane_stacks.PlaneStack.{PlaneStack}
-use Rattle.meeting_sums.specs.Offences.Offences.{SetLayout}
-use Rattle.group_meetings.specs.CircuitModel.FullNames.{AreInNameOrder}
 use Rattle.piece_groups.proofs.FullNames.ListOrders.{pairwise_names}
 use Rattle.group_meetings.specs.TreeRecords.FetRecords.{IsNoLaterName}
-use Rattle.piece_groups.specs.TreeRecords.NamedTrees.{NamedTree}
-use Rattle.piece_groups.specs.TreeRecords.NamedTrees.NamedTree.{named_tree}
-use Rattle.piece_groups.specs.TreeRecords.MemberGroups.{AreOneGroup, IsGroupName, IsMemberAt, IsMemberOf}
-use Rattle.piece_groups.specs.TreeRecords.Merges.{MemberGroup}
-use Rattle.group_meetings.specs.AdjustmentLaws.{AreMembersOf}
-use Rattle.piece_groups.specs.MeetingSums.declared.sums.MeetingSum.{MeetingSum}
-use Rattle.piece_groups.specs.MarkedGroups.{HasMark, IsGroupOfMark}
-use Rattle.piece_groups.specs.MemberLaws.{AreMarkedPieces, MarksTellGroups}
+use Rattle.piece_groups.specs.TreeRecords.MemberGroups.{AreOneGroup}
 use Rattle.piece_groups.proofs.PiecePlaces.{listed_has_place}
 
 -- a place is of its own group

@@ -1,29 +1,25 @@
 -- Members one after the other, and then in the order of their names.
-use Rattle.std.proofs.Common.{◌≡◌, ◌≢◌, ◌<◌, ◌≤◌, ◌+◌, ℕ, false, List, [], ◌∷◌, ◌++◌, Some, take, length, get_or}
-use Rattle.std.proofs.Common.{inl, inr, refl, sym, ◌∙◌, ap, subst, arith}
+use Rattle.piece_groups.proofs.Common.{◌≡◌, ◌≢◌, ◌<◌, ◌≤◌, ◌+◌, ℕ, false, List, [], ◌∷◌, ◌++◌, Some, length, get_or, inl, inr, refl, sym, ◌∙◌, ap}
+use Rattle.piece_groups.proofs.Common.{subst, arith, option_map, slice_cmp, is_lt, ordering_then, length-map, get_or_from_slice_get, slice_get-map}
+use Rattle.piece_groups.proofs.Common.{slice_get_within, In, In-map, Pairwise, Pairwise-from_AllPairs, AllPairs-from_Pairwise, In-slice_get}
+use Rattle.piece_groups.proofs.Common.{slice_get-In, slice_get-below, IsNameBefore, Member, names_of, marks_of}
+use Rattle.std.proofs.Common.{take}
 use Rattle.std.specs.Prelude.{slice_get, IsPermutation, IsSorted}
 use Rattle.std.specs.Cmp.{IsTotalOrder}
-use Rattle.std.specs.Option.{option_map}
 use Rattle.std.specs.declared.cmp.Ordering.{Ordering}
 use Rattle.std.specs.declared.cmp.Ordering.TheVariants.{Less, Equal, Greater}
-use Rattle.std.specs.Cmp.Lexicographic.{slice_cmp}
-use Rattle.std.specs.Ordering.{is_lt, nat_cmp, ordering_reverse, ordering_then}
+use Rattle.std.specs.Ordering.{nat_cmp, ordering_reverse}
 use Rattle.std.proofs.lemmas.Cmp.{nat_list_cmp_total, on_total}
-use Rattle.std.proofs.lemmas.List.{take_more, take_all, get_or-take, length-map, map-append}
+use Rattle.std.proofs.lemmas.List.{take_more, take_all, get_or-take, map-append}
 use Rattle.std.proofs.lemmas.List.Sorted.{IsPermutation-map, IsPermutation-sym}
-use Rattle.std.proofs.lemmas.Option.{get_or_from_slice_get, slice_get-map, slice_get_within}
-use Rattle.finite_sets.specs.Lists.{In, Distinct}
-use Rattle.finite_sets.proofs.Members.{In-map, In-permutation, In-push_cases}
+use Rattle.finite_sets.specs.Lists.{Distinct}
+use Rattle.finite_sets.proofs.Members.{In-permutation, In-push_cases}
 use Rattle.finite_sets.proofs.Orders.{IsSorted-pairs}
-use Rattle.finite_sets.proofs.Pairs.{Pairwise, Pairwise-from_AllPairs, AllPairs-from_Pairwise}
-use Rattle.finite_sets.proofs.Places.{In-slice_get, slice_get-In, slice_get-below}
 use Rattle.finite_sets.proofs.Images.{Distinct-permutation}
 use Rattle.ext_model.specs.NameOrder.{kind_rank, name_cmp, name_rank}
 use Rattle.ext_model.specs.NodeNames.{name_kind, slashes_in}
 use Rattle.ext_model.proofs.NameOrders.{name_cmp_total, name_cmp_exact}
-use Rattle.meeting_sums.specs.TreeRecords.FetRecords.{IsNameBefore}
-use Rattle.piece_groups.specs.declared.members.Member.{Member}
-use Rattle.piece_groups.specs.steps.Members.{names_of, marks_of, member_cmp, member_rank, IsMemberAt, AreMembers}
+use Rattle.piece_groups.specs.steps.Members.{member_cmp, member_rank, IsMemberAt, AreMembers}
 
 pub member_cmp_total : IsTotalOrder member_cmp
 unfolding member_cmp

@@ -1,19 +1,13 @@
 -- The places with material of a layout that an area holds.
-use Rattle.std.proofs.Common.{◌<◌, ℕ, List, length, map, subst}
-use Rattle.std.specs.List.{flat_map, range_with_len}
-use Rattle.finite_sets.specs.Lists.{In}
-use Rattle.finite_sets.proofs.Members.{In-map}
+use Rattle.piece_groups.proofs.Common.{◌<◌, ℕ, List, length, map, subst, flat_map, range_with_len, In, In-map, RawTech, IsWellFormed, Layout}
+use Rattle.piece_groups.proofs.Common.{IsMaterial, Place}
 use Rattle.finite_sets.proofs.Images.{In-flat_map}
 use Rattle.geo_core.specs.declared.squares.Rect.{Rect}
 use Rattle.geo_core.specs.Covering.{Covers}
 use Rattle.meeting_sums.specs.RectContacts.Squares.{squares_of}
 use Rattle.meeting_sums.proofs.RectContacts.BothWays.{Lists-below}
 use Rattle.meeting_sums.proofs.RectContacts.Leading.{Lists-squares_of}
-use Rattle.tech_model.specs.declared.raw.RawTech.{RawTech}
-use Rattle.tech_model.specs.WellFormed.{IsWellFormed}
 use Rattle.group_meetings.specs.LayoutModel.LayerTypes.{HasTypesOf}
-use Rattle.group_meetings.specs.LayoutModel.Layouts.{Layout, IsMaterial}
-use Rattle.group_meetings.specs.LayoutModel.Places.{Place}
 use Rattle.meeting_sums.specs.Offences.TypedStacks.{on_plane}
 
 -- the places of an area on a plane

@@ -1,27 +1,13 @@
 -- The pieces at which the parts of a cell meet, and the members that are listed in them.
-use Rattle.std.proofs.Common.{◌≡◌, ℕ, Bool, List, slice_get, sym, ap, subst, ◌∙◌}
+use Rattle.piece_groups.proofs.Common.{◌≡◌, ℕ, Bool, List, slice_get, sym, ap, subst, ◌∙◌, same_Some, slice_get_within, Square, RawTech, KeepsRules}
+use Rattle.piece_groups.proofs.Common.{IsWellFormed, RegionTile, IsMaterial, Place, PlaneStack, SetLayout, NamedTree, flat_layout, IsMemberAt}
+use Rattle.piece_groups.proofs.Common.{Passes, tree_parts, flat_is_of_parts, member_at_part, part_of_member, member_is_material, one_of_part}
+use Rattle.piece_groups.proofs.Common.{AreMarkedPieces, LiesInPiece}
 use Rattle.std.specs.Prelude.{Some}
-use Rattle.std.proofs.lemmas.Option.{same_Some, slice_get_within}
-use Rattle.geo_core.specs.declared.squares.Square.{Square}
-use Rattle.tech_model.specs.declared.raw.RawTech.{RawTech}
-use Rattle.tech_model.specs.Rules.{KeepsRules}
-use Rattle.tech_model.specs.WellFormed.{IsWellFormed}
-use Rattle.group_meetings.specs.LayoutModel.declared.region_tiles.RegionTile.{RegionTile}
-use Rattle.group_meetings.specs.LayoutModel.Layouts.{IsMaterial}
-use Rattle.group_meetings.specs.LayoutModel.Places.{Place}
-use Rattle.meeting_sums.specs.Offences.declared.plane_stacks.PlaneStack.{PlaneStack}
-use Rattle.meeting_sums.specs.Offences.Offences.{SetLayout}
-use Rattle.piece_groups.specs.TreeRecords.NamedTrees.{NamedTree}
-use Rattle.piece_groups.specs.TreeRecords.FlatLayouts.{flat_layout}
-use Rattle.piece_groups.specs.TreeRecords.MemberGroups.{IsMemberAt}
-use Rattle.piece_groups.specs.MeetingLaws.PartLayouts.{parts_layout, Passes}
+use Rattle.piece_groups.specs.MeetingLaws.PartLayouts.{parts_layout}
 use Rattle.piece_groups.proofs.MeetingLaws.RestrictionLaws.{layout_inside}
-use Rattle.group_meetings.specs.Members.{tree_parts, IsMemberOfPart}
-use Rattle.group_meetings.proofs.PartMembers.{flat_is_of_parts, member_at_part, part_of_member}
-use Rattle.group_meetings.proofs.MemberMaterial.{flat_of_part, member_is_material}
-use Rattle.group_meetings.proofs.MemberSteps.{one_of_part}
-use Rattle.piece_groups.specs.MemberLaws.{AreMarkedPieces}
-use Rattle.piece_groups.specs.PieceMembers.{LiesInPiece}
+use Rattle.group_meetings.specs.Members.{IsMemberOfPart}
+use Rattle.group_meetings.proofs.MemberMaterial.{flat_of_part}
 use Rattle.piece_groups.proofs.PlacesOfPieces.{tile_is_material, place_of_piece, stands_in_piece, material_is_within, restricted_is_material}
 
 module _ (raw : RawTech) (formed : IsWellFormed raw) (rules : KeepsRules raw) (within : Square → Bool) (tree : NamedTree) (others : List SetLayout)

@@ -1,19 +1,13 @@
 -- The places of pieces: each piece has one, and the parts that have material there stand in the piece.
-use Rattle.std.proofs.Common.{◌≡◌, ℕ, List, Some, slice_get, get_or, inl, inr, refl, sym, ap, subst, ◌∙◌, arith}
-use Rattle.std.proofs.lemmas.Option.{slice_get_within, slice_get-get_or, get_or_from_slice_get}
-use Rattle.finite_sets.specs.Lists.{In}
+use Rattle.piece_groups.proofs.Common.{◌≡◌, ℕ, List, Some, slice_get, get_or, inl, inr, refl, sym, ap, subst, ◌∙◌, arith, slice_get_within}
+use Rattle.piece_groups.proofs.Common.{slice_get-get_or, get_or_from_slice_get, In, Square, RawTech, Layout, IsMaterial, Place, RegionTile}
+use Rattle.piece_groups.proofs.Common.{PlaneStack, SetLayout, LiesInPiece}
 use Rattle.finite_sets.proofs.Members.{In-get_or}
-use Rattle.geo_core.specs.declared.squares.Square.{Square}
 use Rattle.geo_core.proofs.CornerLaws.{corner_covers}
-use Rattle.tech_model.specs.declared.raw.RawTech.{RawTech}
 use Rattle.tech_model.specs.Types.{joined}
 use Rattle.group_meetings.specs.LayoutModel.LayerTypes.{or_space}
-use Rattle.group_meetings.specs.LayoutModel.Layouts.{Layout, IsMaterial}
-use Rattle.group_meetings.specs.LayoutModel.Places.{Place}
-use Rattle.group_meetings.specs.LayoutModel.declared.region_tiles.RegionTile.{RegionTile}
 use Rattle.group_meetings.specs.LayoutModel.RegionTiles.{LiesIn, AreLayoutTiles}
-use Rattle.meeting_sums.specs.Offences.declared.plane_stacks.PlaneStack.{PlaneStack}
-use Rattle.meeting_sums.specs.Offences.Offences.{SetLayout, joined_at}
+use Rattle.meeting_sums.specs.Offences.Offences.{joined_at}
 use Rattle.meeting_sums.specs.Offences.PlaneStacks.{ArePlaneStacks}
 use Rattle.meeting_sums.specs.Offences.TypedStacks.{IsTypedStack, kind_in, on_plane}
 use Rattle.meeting_sums.proofs.Offences.KindLaws.{kind_is_listed}
@@ -22,7 +16,7 @@ use Rattle.group_meetings.specs.MeetingLaws.PartLayouts.{parts_layout}
 use Rattle.group_meetings.proofs.MeetingLaws.LinkLaws.{someone_stands}
 use Rattle.group_meetings.proofs.MeetingLaws.RestrictionLaws.{layout_elsewhere}
 use Rattle.group_meetings.proofs.MemberMaterial.{PartIsMaterial}
-use Rattle.piece_groups.specs.PieceMembers.{LiesInPiece, StandsInPiece}
+use Rattle.piece_groups.specs.PieceMembers.{StandsInPiece}
 
 -- a place of a tile has material
 pub tile_is_material : (layout : Layout) (tiles : List RegionTile) → AreLayoutTiles layout tiles → (index : ℕ) (place : Place) → LiesIn tiles index place

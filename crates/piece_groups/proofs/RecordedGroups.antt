@@ -1,32 +1,15 @@
 -- The groups of marked pieces are those of the cell's record.
-use Rattle.std.proofs.Common.{◌≡◌, ℕ, Bool, List, length, inl, inr, refl, sym, subst, ◌∙◌}
-use Rattle.finite_sets.specs.Lists.{In}
-use Rattle.finite_sets.proofs.Places.{slice_get-In}
-use Rattle.geo_core.specs.declared.squares.Square.{Square}
-use Rattle.tech_model.specs.declared.raw.RawTech.{RawTech}
-use Rattle.tech_model.specs.Rules.{KeepsRules}
-use Rattle.tech_model.specs.WellFormed.{IsWellFormed}
-use Rattle.group_meetings.specs.LayoutModel.declared.region_tiles.RegionTile.{RegionTile}
-use Rattle.group_meetings.specs.LayoutModel.Layouts.{IsMaterial}
-use Rattle.group_meetings.specs.LayoutModel.Places.{Place}
-use Rattle.group_meetings.specs.LayoutModel.Technologies.{rules_of}
-use Rattle.meeting_sums.specs.Offences.declared.plane_stacks.PlaneStack.{PlaneStack}
-use Rattle.meeting_sums.specs.Offences.Offences.{SetLayout}
-use Rattle.piece_groups.specs.TreeRecords.NamedTrees.{NamedTree}
-use Rattle.piece_groups.specs.TreeRecords.FlatLayouts.{flat_layout}
-use Rattle.piece_groups.specs.TreeRecords.MemberGroups.{IsGroupName, IsMemberAt}
-use Rattle.piece_groups.specs.TreeRecords.Merges.{Adjustment, AreAdjustments, HasGroupIn, IsMemberGroup, MemberGroup}
-use Rattle.piece_groups.specs.TreeRecords.PlaceWeights.{capacitance_weight, IsAdjustment}
-use Rattle.group_meetings.proofs.TreeNames.GroupNames.{group_name_is, group_name_along, members_together}
+use Rattle.piece_groups.proofs.Common.{◌≡◌, ℕ, Bool, List, length, inl, inr, refl, sym, subst, ◌∙◌, In, slice_get-In, Square, RawTech, KeepsRules}
+use Rattle.piece_groups.proofs.Common.{IsWellFormed, RegionTile, IsMaterial, Place, rules_of, PlaneStack, SetLayout, NamedTree, flat_layout}
+use Rattle.piece_groups.proofs.Common.{IsGroupName, IsMemberAt, AreAdjustments, MemberGroup, capacitance_weight, IsAdjustment, group_name_along}
+use Rattle.piece_groups.proofs.Common.{tree_parts, flat_is_of_parts, member_at_part, MeetingSum, AreMarkedGroups, AreMarkedPieces, MarksTellGroups}
+use Rattle.piece_groups.proofs.Common.{HasRecordsBelow, piece_marks}
+use Rattle.piece_groups.specs.TreeRecords.Merges.{Adjustment, HasGroupIn, IsMemberGroup}
+use Rattle.group_meetings.proofs.TreeNames.GroupNames.{group_name_is, members_together}
 use Rattle.piece_groups.proofs.MeetingLaws.LinkLaws.{someone_stands}
-use Rattle.group_meetings.specs.Members.{tree_parts}
-use Rattle.group_meetings.proofs.PartMembers.{flat_is_of_parts, member_at_part}
-use Rattle.piece_groups.specs.MeetingSums.declared.sums.MeetingSum.{MeetingSum}
 use Rattle.piece_groups.specs.MeetingSums.Sums.{AreMeetingSums}
-use Rattle.piece_groups.specs.MarkedGroups.{AreMarkedGroups}
-use Rattle.piece_groups.specs.MemberLaws.{AreMarkedPieces, MarksTellGroups}
 use Rattle.piece_groups.proofs.MarkedGroups.{marks_tell_groups}
-use Rattle.piece_groups.specs.Laws.{HasRecordsBelow, MarkedGroupsAreRecorded, piece_marks}
+use Rattle.piece_groups.specs.Laws.{MarkedGroupsAreRecorded}
 use Rattle.piece_groups.proofs.ListedThings.{name_told, some_or_none}
 use Rattle.piece_groups.proofs.MarkedMembers.{group_at}
 use Rattle.piece_groups.proofs.GroupAdjustments.{space_in_none, cap_adjusts, measures_adjust}

@@ -1,14 +1,9 @@
 -- The members of a cell whose own nodes and elements have records have totals.
-use Rattle.std.proofs.Common.{◌≡◌, ℕ, ℤ, List, [], ◌∷◌, inl, inr, refl, sym, ap, subst, ◌∙◌}
-use Rattle.std.proofs.lemmas.Bool.{cases_eq}
-use Rattle.finite_sets.specs.Lists.{In}
+use Rattle.piece_groups.proofs.Common.{◌≡◌, ℕ, ℤ, List, [], ◌∷◌, inl, inr, refl, sym, ap, subst, ◌∙◌, cases_eq, In, RawTech, KeepsRules}
+use Rattle.piece_groups.proofs.Common.{IsWellFormed, IsMaterial, Place, NamedTree, named_tree, flat_layout, IsGroupName, IsMemberAt, PlaceWeight}
+use Rattle.piece_groups.proofs.Common.{named_is_material, HasRecordsBelow}
 use Rattle.finite_sets.specs.Total.{sum_on, Total}
 use Rattle.finite_sets.proofs.Totals.{Total-from_list}
-use Rattle.tech_model.specs.declared.raw.RawTech.{RawTech}
-use Rattle.tech_model.specs.Rules.{KeepsRules}
-use Rattle.tech_model.specs.WellFormed.{IsWellFormed}
-use Rattle.group_meetings.specs.LayoutModel.Layouts.{IsMaterial}
-use Rattle.group_meetings.specs.LayoutModel.Places.{Place}
 use Rattle.group_meetings.specs.LayoutModel.CellTrees.{place_back}
 use Rattle.group_meetings.specs.LayoutModel.FlatSets.{IsTyped, AreTyped}
 use Rattle.piece_groups.specs.HierarchyModel.CleanCells.{IsClean, AreClean}
@@ -17,20 +12,16 @@ use Rattle.ext_model.specs.declared.records.NodeRec.{NodeRec}
 use Rattle.group_meetings.specs.CellNodes.NodeRecords.{AreNodeRecords}
 use Rattle.group_meetings.specs.TreeRecords.FetRecords.{IsOfNode}
 use Rattle.group_meetings.proofs.OwnRecordLaws.PreferredNames.{one_name}
-use Rattle.piece_groups.specs.TreeRecords.NamedTrees.{NamedTree, NamedElements, OwnBody, layouts_of, layouts_below}
-use Rattle.piece_groups.specs.TreeRecords.NamedTrees.NamedTree.{named_tree}
+use Rattle.piece_groups.specs.TreeRecords.NamedTrees.{NamedElements, OwnBody, layouts_of, layouts_below}
 use Rattle.piece_groups.specs.TreeRecords.NamedTrees.NamedElements.{no_more, element_then}
-use Rattle.piece_groups.specs.TreeRecords.FlatLayouts.{flat_layout}
-use Rattle.piece_groups.specs.TreeRecords.MemberGroups.{IsGroupName, IsMemberAt, IsMemberBelow}
+use Rattle.piece_groups.specs.TreeRecords.MemberGroups.{IsMemberBelow}
 use Rattle.piece_groups.specs.TreeRecords.Merges.{group_name}
-use Rattle.piece_groups.specs.TreeRecords.PlaceWeights.{PlaceWeight, IsGroupTotal, IsTotalBelow, IsMemberTotal, AreMemberTotals}
+use Rattle.piece_groups.specs.TreeRecords.PlaceWeights.{IsGroupTotal, IsTotalBelow, IsMemberTotal, AreMemberTotals}
 use Rattle.piece_groups.specs.TreeRecords.TreeRecords.{HasTreeRecord, HaveTreeRecords}
 use Rattle.group_meetings.proofs.TreeNames.GroupNames.{one_group_name}
 use Rattle.group_meetings.proofs.TreeNames.RecordedNodes.{record_at}
 use Rattle.group_meetings.proofs.TreeNames.TreeElements.{top_record}
-use Rattle.group_meetings.proofs.MemberMaterial.{named_is_material}
 use Rattle.group_meetings.proofs.PlacesOnce.{place_told}
-use Rattle.piece_groups.specs.Laws.{HasRecordsBelow}
 use Rattle.piece_groups.proofs.ListedThings.{name_told, IsDecided, listed_with}
 use Rattle.piece_groups.proofs.OwnPlaces.{places_in, material_in_area}
 

@@ -1,10 +1,8 @@
 -- The sum that adds nothing.
-use Rattle.std.proofs.Common.{◌≡◌, List, [], ◌∷◌, map, length, refl, ◌∙◌, ap}
-use Rattle.std.specs.Prelude.{ℤ, pos}
+use Rattle.piece_groups.proofs.Common.{◌≡◌, List, [], ◌∷◌, map, length, refl, ◌∙◌, ap, pos, class_of, Adjustment, zero_adjustment}
+use Rattle.std.specs.Prelude.{ℤ}
 use Rattle.std.proofs.Math.ListN.{replicate}
 use Rattle.tech_model.specs.declared.raw.ClassRec.{ClassRec}
-use Rattle.group_meetings.specs.LayoutModel.Technologies.{class_of}
-use Rattle.meeting_sums.specs.TreeRecords.Merges.{Adjustment, zero_adjustment}
 
 -- zeros, as many as there are classes
 zeros : (classes : List ClassRec) → replicate {A = ℤ × ℤ} (length classes) (pos 0, pos 0) ≡ (zero_adjustment (map class_of classes)).measures

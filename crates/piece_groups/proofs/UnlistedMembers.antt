@@ -1,32 +1,14 @@
 -- A member that is not listed is a group alone, which adds nothing.
-use Rattle.std.proofs.Common.{◌≡◌, ℕ, pos, Bool, true, List, [], ◌∷◌, map, inl, inr, refl, sym, subst, ◌∙◌}
-use Rattle.finite_sets.specs.Lists.{In}
+use Rattle.piece_groups.proofs.Common.{◌≡◌, ℕ, Bool, true, List, [], ◌∷◌, map, inl, inr, refl, sym, subst, ◌∙◌, In, In-slice_get, Square, RawTech}
+use Rattle.piece_groups.proofs.Common.{KeepsRules, IsWellFormed, RegionTile, Place, Class, rules_of, PlaneStack, SetLayout, NamedTree, IsGroupName}
+use Rattle.piece_groups.proofs.Common.{IsMemberAt, IsMemberOf, MemberGroup, area_weight, capacitance_weight, perimeter_weight, one_group, excess}
+use Rattle.piece_groups.proofs.Common.{tree_parts, named_is_material, flat_is_of_parts, member_at_part, AreMembersOf, AreMeetingMeasures}
+use Rattle.piece_groups.proofs.Common.{AreMarkedPieces, HasRecordsBelow}
+use Rattle.std.proofs.Common.{pos}
 use Rattle.finite_sets.proofs.Totals.{Total-none}
-use Rattle.finite_sets.proofs.Places.{In-slice_get}
-use Rattle.geo_core.specs.declared.squares.Square.{Square}
-use Rattle.tech_model.specs.declared.raw.RawTech.{RawTech}
-use Rattle.tech_model.specs.Rules.{KeepsRules}
-use Rattle.tech_model.specs.WellFormed.{IsWellFormed}
-use Rattle.group_meetings.specs.LayoutModel.declared.region_tiles.RegionTile.{RegionTile}
-use Rattle.group_meetings.specs.LayoutModel.Places.{Place}
-use Rattle.group_meetings.specs.LayoutModel.Technologies.{Class, rules_of}
-use Rattle.meeting_sums.specs.Offences.declared.plane_stacks.PlaneStack.{PlaneStack}
-use Rattle.meeting_sums.specs.Offences.Offences.{SetLayout}
-use Rattle.piece_groups.specs.TreeRecords.NamedTrees.{NamedTree}
-use Rattle.piece_groups.specs.TreeRecords.MemberGroups.{IsGroupName, IsMemberAt, IsMemberOf}
-use Rattle.piece_groups.specs.TreeRecords.Merges.{MemberGroup, IsMemberGroup, is_zero_adjustment, zero_adjustment}
-use Rattle.piece_groups.specs.TreeRecords.PlaceWeights.{area_weight, capacitance_weight, perimeter_weight}
-use Rattle.group_meetings.proofs.TreeNames.GroupNames.{one_group}
-use Rattle.piece_groups.specs.MeetingLaws.PartLayouts.{excess}
+use Rattle.piece_groups.specs.TreeRecords.Merges.{IsMemberGroup, is_zero_adjustment, zero_adjustment}
 use Rattle.piece_groups.proofs.MeetingLaws.LinkLaws.{someone_stands}
-use Rattle.group_meetings.specs.Members.{tree_parts}
 use Rattle.group_meetings.proofs.GroupRegions.{larger_groups_within}
-use Rattle.group_meetings.proofs.MemberMaterial.{named_is_material}
-use Rattle.group_meetings.proofs.PartMembers.{flat_is_of_parts, member_at_part}
-use Rattle.group_meetings.specs.AdjustmentLaws.{AreMembersOf}
-use Rattle.piece_groups.specs.MeetingSums.Sums.{AreMeetingMeasures}
-use Rattle.piece_groups.specs.MemberLaws.{AreMarkedPieces}
-use Rattle.piece_groups.specs.Laws.{HasRecordsBelow}
 use Rattle.piece_groups.proofs.ListedThings.{name_told}
 use Rattle.piece_groups.proofs.PiecePlaces.{member_is_listed}
 use Rattle.piece_groups.proofs.MarkedMembers.{group_stays, name_of_members}

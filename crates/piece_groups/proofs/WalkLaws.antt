@@ -1,23 +1,16 @@
 -- The members of one mark, from one to the next.
-use Rattle.std.proofs.Common.{◌≡◌, ◌≢◌, ◌⊎◌, ◌<◌, ◌≤◌, ◌+◌, ℕ, zero, suc, Bool, true, false, cond, List, [], ◌∷◌, ◌++◌}
-use Rattle.std.proofs.Common.{Option, Some, None, map, drop, filter, length, get_or, inl, inr, refl, sym, ◌∙◌, ap, subst, arith}
-use Rattle.std.specs.Prelude.{◌==◌, All, slice_get}
-use Rattle.std.specs.Option.{option_map}
-use Rattle.std.proofs.lemmas.Bool.{cases_eq, cases_lt, cond-true, cond-false, eq-eqb, eqb-true, false_from_ne_true}
-use Rattle.std.proofs.lemmas.List.{length-map, drop_all, append_assoc, append-nil, get_or_default}
-use Rattle.std.proofs.lemmas.Option.{get_or_from_slice_get, slice_get-map, same_Some, none-some}
-use Rattle.std.proofs.lemmas.List.Elements.{All-get_or}
-use Rattle.finite_sets.proofs.Searches.{drop_split}
-use Rattle.finite_sets.proofs.Places.{slice_get-below}
-use Rattle.ext_model.specs.declared.records.MergeRec.{MergeRec}
-use Rattle.ext_model.specs.declared.arrays.MergeRow.{MergeRow}
-use Rattle.merge_rows.specs.AddedMerges.{AddsToRows}
-use Rattle.merge_rows.proofs.AddedRows.{add_none, add_same, add_then}
+use Rattle.piece_groups.proofs.Common.{◌≡◌, ◌≢◌, ◌⊎◌, ◌<◌, ◌≤◌, ◌+◌, ℕ, zero, suc, Bool, true, false, cond, List, [], ◌∷◌, ◌++◌, Option, Some, None}
+use Rattle.piece_groups.proofs.Common.{map, filter, length, get_or, inl, inr, refl, sym, ◌∙◌, ap, subst, arith, ◌==◌, All, option_map, cases_eq}
+use Rattle.piece_groups.proofs.Common.{cond-true, cond-false, eq-eqb, eqb-true, length-map, get_or_default, get_or_from_slice_get, slice_get-map}
+use Rattle.piece_groups.proofs.Common.{same_Some, All-get_or, drop_split, slice_get-below, MergeRec, MergeRow, AddsToRows, add_none, add_same}
+use Rattle.piece_groups.proofs.Common.{add_then, Member, name_at, mark_at, names_with, names_behind, place_with, names_of, marks_of}
+use Rattle.std.proofs.Common.{drop}
+use Rattle.std.specs.Prelude.{slice_get}
+use Rattle.std.proofs.lemmas.Bool.{cases_lt, false_from_ne_true}
+use Rattle.std.proofs.lemmas.List.{drop_all, append_assoc, append-nil}
+use Rattle.std.proofs.lemmas.Option.{none-some}
 use Rattle.piece_groups.specs.declared.links.LinkedMembers.{LinkedMembers}
-use Rattle.piece_groups.specs.declared.members.Member.{Member}
-use Rattle.piece_groups.specs.steps.Groups.{name_at, mark_at, names_with, names_behind}
-use Rattle.piece_groups.specs.steps.Links.{place_with, AreLinked}
-use Rattle.piece_groups.specs.steps.Members.{names_of, marks_of}
+use Rattle.piece_groups.specs.steps.Links.{AreLinked}
 use Rattle.piece_groups.proofs.LinkLaws.{place_with_same, place_with_other, place_with_past}
 
 -- The member stands at the place, with those behind it.

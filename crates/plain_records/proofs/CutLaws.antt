@@ -1,10 +1,11 @@
 -- What stands behind the first of such bytes.
-use Rattle.std.proofs.Common.{◌≡◌, ℕ, ◌+◌, ◌-◌, ◌==◌, Bool, true, false, cond, List, [], length, take, drop, refl, sym, ◌∙◌, ap, arith}
-use Rattle.std.specs.Prelude.{Some, None, nat_lt}
+use Rattle.plain_records.proofs.Common.{◌≡◌, ℕ, ◌+◌, Bool, true, false, cond, List, [], length, take, drop, refl, sym, ◌∙◌, ap, arith, Some, None}
+use Rattle.plain_records.proofs.Common.{take_all, same_Some}
+use Rattle.std.proofs.Common.{◌-◌, ◌==◌}
+use Rattle.std.specs.Prelude.{nat_lt}
 use Rattle.std.specs.List.{position, position_or_len}
 use Rattle.std.proofs.lemmas.Bool.{ltb-false}
-use Rattle.std.proofs.lemmas.List.{take_all, drop_all, length-drop}
-use Rattle.std.proofs.lemmas.Option.{same_Some}
+use Rattle.std.proofs.lemmas.List.{drop_all, length-drop}
 use Rattle.ext_model.specs.Plain.{behind}
 use Rattle.ext_model.proofs.CutLaws.{behind-after}
 

@@ -1,24 +1,18 @@
 -- Records in whose places plain forms are put.
-use Rattle.std.proofs.Common.{◌≡◌, ◌⊎◌, ℕ, ◌<◌, ◌+◌, Bool, true, false, List, [], All, length, take, set, get_or, inl, inr, refl, sym, ◌∙◌, ap, subst, arith}
-use Rattle.std.specs.Prelude.{Some, slice_get}
+use Rattle.plain_records.proofs.Common.{◌≡◌, ℕ, ◌<◌, ◌+◌, Bool, true, false, List, [], length, take, get_or, inl, inr, refl, sym, ◌∙◌, ap, subst}
+use Rattle.plain_records.proofs.Common.{arith, Some, slice_get, length-map, take_more, slice_get_read, same_Some, In, Distinct, In-slice_get, All-In}
+use Rattle.plain_records.proofs.Common.{CellExt, ArrayExt, IsLawfulArrayExt, plain, AreArrayRecords, with_merges, AreCalled, AreExpanded}
+use Rattle.std.proofs.Common.{◌⊎◌, All, set}
 use Rattle.std.proofs.Math.Seq.{map-set_same}
 use Rattle.std.proofs.lemmas.Bool.{cases_eq}
-use Rattle.std.proofs.lemmas.List.{length-map, take_more, get_or-map}
+use Rattle.std.proofs.lemmas.List.{get_or-map}
 use Rattle.std.proofs.lemmas.List.Elements.{All-set}
-use Rattle.std.proofs.lemmas.Option.{slice_get_read, same_Some}
-use Rattle.finite_sets.specs.Lists.{In, Distinct}
 use Rattle.finite_sets.proofs.Members.{In-push_cases}
-use Rattle.finite_sets.proofs.Places.{In-slice_get, slice_get-set_same, slice_get-set_other}
-use Rattle.finite_sets.proofs.Searches.{All-In}
+use Rattle.finite_sets.proofs.Places.{slice_get-set_same, slice_get-set_other}
 use Rattle.ext_model.specs.declared.records.TermRec.{TermRec}
 use Rattle.ext_model.specs.declared.records.FetRec.{FetRec}
-use Rattle.ext_model.specs.declared.records.CellExt.{CellExt}
-use Rattle.ext_model.specs.declared.arrays.ArrayExt.{ArrayExt}
 use Rattle.ext_model.specs.Lawful.{IsLawful, IsLawfulTerm, IsLawfulFet}
-use Rattle.ext_model.specs.LawfulArrays.{IsLawfulArrayExt}
-use Rattle.ext_model.specs.Plain.{plain}
-use Rattle.plain_records.specs.Plains.{AreArrayRecords}
-use Rattle.plain_records.specs.Reached.{with_merges, form, AreCalled, AreExpanded}
+use Rattle.plain_records.specs.Reached.{form}
 
 -- a transistor is lawful in a record without its merges
 bare_term : (ext : CellExt) (side : TermRec) → IsLawfulTerm ext side → IsLawfulTerm (with_merges false ext) side

@@ -1,25 +1,12 @@
 -- What the walk, the chains and the sizes tell of the plain records.
-use Rattle.std.proofs.Common.{◌≡◌, ℕ, ◌<◌, ◌≤◌, List, length, get_or, sym, ◌∙◌, ap, subst, arith}
-use Rattle.std.specs.Prelude.{Option, Some, None, slice_get}
-use Rattle.std.specs.Option.{option_or}
-use Rattle.std.proofs.lemmas.List.{length-map}
-use Rattle.finite_sets.proofs.Places.{slice_get-map_source, slice_get-map_there}
-use Rattle.ext_model.specs.declared.records.CellExt.{CellExt}
-use Rattle.ext_model.specs.declared.arrays.ArrayExt.{ArrayExt}
-use Rattle.ext_model.specs.Plain.{plain}
-use Rattle.circuit_model.specs.declared.faults.FlatFault.{FlatFault}
-use Rattle.circuit_model.specs.declared.faults.FlatFault.TheVariants.{TooMany}
-use Rattle.circuit_model.specs.declared.limits.CircuitLimit.TheVariants.{Depth, Elements}
-use Rattle.circuit_model.specs.declared.limits.TheConstants.{LONGEST_CHAIN, MOST_FLAT_ELEMENTS}
-use Rattle.circuit_model.specs.Refusals.{walk_fault}
-use Rattle.flat_limits.specs.ElementTree.declared.graph.RecordGraph.{RecordGraph}
+use Rattle.plain_records.proofs.Common.{◌≡◌, ℕ, ◌<◌, ◌≤◌, List, length, get_or, sym, ◌∙◌, ap, subst, arith, Option, Some, None, slice_get, option_or}
+use Rattle.plain_records.proofs.Common.{length-map, slice_get-map_source, slice_get-map_there, CellExt, ArrayExt, plain, FlatFault, TooMany, Depth}
+use Rattle.plain_records.proofs.Common.{Elements, LONGEST_CHAIN, MOST_FLAT_ELEMENTS, walk_fault, RecordGraph, value_at, chain_from, size_from}
+use Rattle.plain_records.proofs.Common.{AreMeasuredIn, plains, AreArrayRecords, thin, thins, spreads, spread_graph}
 use Rattle.flat_limits.specs.ElementTree.Graphs.{IsGraphOf, HasNoWalkFault, IsWalkFaultOf}
-use Rattle.flat_limits.specs.ElementTree.Sizes.{value_at, chain_from, size_from, AreMeasuredIn}
 use Rattle.flat_limits.specs.ElementTree.Trees.{tree_fault, IsTreeFaultOf}
 use Rattle.flat_limits.proofs.ElementTree.Counting.{number_read, depth_fault, elements_fault, no_tree_fault}
-use Rattle.plain_records.specs.Plains.{plains, AreArrayRecords}
-use Rattle.plain_records.specs.Thin.{thin, thins}
-use Rattle.plain_records.specs.Reached.{spreads, spread_graph, AreReached, HasNoReachFault, IsReachFaultOf}
+use Rattle.plain_records.specs.Reached.{AreReached, HasNoReachFault, IsReachFaultOf}
 use Rattle.plain_records.proofs.WalkLaws.{walk-thin}
 use Rattle.plain_records.proofs.GraphLaws.{graph-spread, chains-spread}
 

@@ -1,27 +1,12 @@
 -- The graph of thin records tells that of the plain ones.
-use Rattle.std.proofs.Common.{◌≡◌, ℕ, zero, suc, ◌<◌, max, List, [], ◌∷◌, ◌++◌, length, map, reverse, inl, inr, refl, sym, ◌∙◌, ap, subst, arith}
-use Rattle.std.specs.Prelude.{Some, slice_get}
-use Rattle.std.specs.List.{flat_map}
-use Rattle.std.proofs.lemmas.List.{length-map}
-use Rattle.std.proofs.lemmas.Option.{same_Some}
-use Rattle.finite_sets.specs.Lists.{In, Distinct}
+use Rattle.plain_records.proofs.Common.{◌≡◌, ℕ, zero, suc, ◌<◌, List, [], ◌∷◌, ◌++◌, length, map, reverse, inl, inr, refl, sym, ◌∙◌, ap, subst}
+use Rattle.plain_records.proofs.Common.{arith, Some, slice_get, flat_map, length-map, same_Some, In, Distinct, slice_get-map_source}
+use Rattle.plain_records.proofs.Common.{slice_get-map_there, slice_get-below, All-In, UseRec, CellExt, ArrayUse, ArrayExt, plain, plain_uses, ext_of}
+use Rattle.plain_records.proofs.Common.{greatest, RecordGraph, LeadTo, children_of, value_at, chain_from, AreMeasured, AreMeasuredIn, LeadTo-long}
+use Rattle.plain_records.proofs.Common.{plains, first_use, thin, thins, spread, spreads, spread_graph}
+use Rattle.std.proofs.Common.{max}
 use Rattle.finite_sets.proofs.Images.{In-reverse_source}
-use Rattle.finite_sets.proofs.Places.{slice_get-map_source, slice_get-map_there, slice_get-below}
-use Rattle.finite_sets.proofs.Searches.{All-In}
-use Rattle.ext_model.specs.declared.records.UseRec.{UseRec}
-use Rattle.ext_model.specs.declared.records.CellExt.{CellExt}
-use Rattle.ext_model.specs.declared.arrays.ArrayUse.{ArrayUse}
-use Rattle.ext_model.specs.declared.arrays.ArrayExt.{ArrayExt}
-use Rattle.ext_model.specs.Plain.{plain, plain_uses}
-use Rattle.circuit_model.specs.Elements.{ext_of}
-use Rattle.circuit_model.specs.Refusals.{greatest}
-use Rattle.flat_limits.specs.ElementTree.declared.graph.RecordGraph.{RecordGraph}
-use Rattle.flat_limits.specs.ElementTree.Graphs.{LeadTo, AreDone, IsGraphOf, children_of}
-use Rattle.flat_limits.specs.ElementTree.Sizes.{value_at, chain_from, AreMeasured, AreMeasuredIn}
-use Rattle.flat_limits.proofs.ElementTree.Rows.{LeadTo-long}
-use Rattle.plain_records.specs.Plains.{plains}
-use Rattle.plain_records.specs.Thin.{first_use, thin, thins}
-use Rattle.plain_records.specs.Reached.{spread, spreads, spread_graph}
+use Rattle.flat_limits.specs.ElementTree.Graphs.{AreDone, IsGraphOf}
 use Rattle.plain_records.proofs.UseLaws.{some_uses, uses_cell, first_in}
 use Rattle.plain_records.proofs.PlaceLaws.{leads_plain}
 

@@ -1,6 +1,7 @@
 -- what crates above name of those below
 pub use Rattle.flat_limits.proofs as FlatLimits
 pub use Rattle.flat_limits.proofs.ElementTree as ElementTree
+mod Common
 mod CutLaws
 mod StepLaws
 pub mod UseLaws

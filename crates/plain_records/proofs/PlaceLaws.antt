@@ -1,22 +1,13 @@
 -- Records of cells and their places, among records with arrays and among their forms.
-use Rattle.std.proofs.Common.{◌≡◌, ℕ, zero, suc, Bool, false, cond, List, [], ◌∷◌, map, inl, inr, refl, sym, ◌∙◌, ap}
-use Rattle.std.specs.Prelude.{Option, Some, None, slice_get}
+use Rattle.plain_records.proofs.Common.{◌≡◌, ℕ, zero, suc, Bool, false, cond, List, [], ◌∷◌, map, inl, inr, refl, sym, ◌∙◌, ap, Option, Some, None}
+use Rattle.plain_records.proofs.Common.{slice_get, option_map, slice_get-map, same_Some, In, Distinct, In-slice_get, find-In, CellExt, ArrayExt}
+use Rattle.plain_records.proofs.Common.{plain, ext_of, plains, thin, thins}
 use Rattle.std.specs.List.{find}
-use Rattle.std.specs.Option.{option_map}
 use Rattle.std.specs.Str.{bytes_eq}
 use Rattle.std.proofs.lemmas.Bool.{cases_Bool}
-use Rattle.std.proofs.lemmas.Option.{slice_get-map, same_Some}
 use Rattle.std.proofs.lemmas.Slice.Eq.{bytes_eq-Decides}
-use Rattle.finite_sets.specs.Lists.{In, Distinct}
 use Rattle.finite_sets.proofs.Images.{one_from_Distinct}
-use Rattle.finite_sets.proofs.Places.{In-slice_get}
-use Rattle.finite_sets.proofs.Searches.{find-map, find-In}
-use Rattle.ext_model.specs.declared.records.CellExt.{CellExt}
-use Rattle.ext_model.specs.declared.arrays.ArrayExt.{ArrayExt}
-use Rattle.ext_model.specs.Plain.{plain}
-use Rattle.circuit_model.specs.Elements.{ext_of}
-use Rattle.plain_records.specs.Plains.{plains}
-use Rattle.plain_records.specs.Thin.{thin, thins}
+use Rattle.finite_sets.proofs.Searches.{find-map}
 
 -- what is at a place is found by a name that nothing else has
 pub found_at : {X : Type 0} (name_of : X → List ℕ) (xs : List X) (k : ℕ) (x : X) → Distinct (map name_of xs) → slice_get xs k ≡ Some x

@@ -1,15 +1,8 @@
 -- The plain forms of the records of a tree.
-use Rattle.std.proofs.Common.{List, refl, sym, subst}
+use Rattle.plain_records.proofs.Common.{List, refl, sym, subst, Distinct, In-map_source, All-In, All-from_In, ArrayExt, IsLawfulArrayExt, plain}
+use Rattle.plain_records.proofs.Common.{AreRecords, plains, AreArrayRecords}
 use Rattle.std.specs.Prelude.{ℕ}
-use Rattle.finite_sets.specs.Lists.{Distinct}
-use Rattle.finite_sets.proofs.Members.{In-map_source}
-use Rattle.finite_sets.proofs.Searches.{All-In, All-from_In}
-use Rattle.ext_model.specs.declared.arrays.ArrayExt.{ArrayExt}
 use Rattle.ext_model.specs.Lawful.{IsLawful}
-use Rattle.ext_model.specs.LawfulArrays.{IsLawfulArrayExt}
-use Rattle.ext_model.specs.Plain.{plain}
-use Rattle.circuit_model.specs.Elements.{AreRecords}
-use Rattle.plain_records.specs.Plains.{plains, AreArrayRecords}
 use Rattle.plain_records.proofs.ThinLaws.{cells-form}
 
 -- they are lawful, and no two are of one cell

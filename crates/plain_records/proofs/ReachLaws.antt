@@ -1,42 +1,30 @@
 -- What is at and below a root depends on the records reached alone.
-use Rattle.std.proofs.Common.{◌≡◌, ℕ, zero, suc, ◌<◌, Bool, true, false, cond, List, [], ◌∷◌, ◌++◌, length, map, reverse}
-use Rattle.std.proofs.Common.{sum_by, inl, inr, refl, sym, ◌∙◌, ap, subst}
-use Rattle.std.specs.Prelude.{Option, Some, None, slice_get, find}
-use Rattle.std.specs.List.{flat_map}
-use Rattle.std.specs.Option.{option_or, option_map}
+use Rattle.plain_records.proofs.Common.{◌≡◌, ℕ, zero, suc, ◌<◌, Bool, true, false, cond, List, [], ◌∷◌, ◌++◌, length, map, reverse, sum_by, inl, inr}
+use Rattle.plain_records.proofs.Common.{refl, sym, ◌∙◌, ap, subst, Option, Some, None, slice_get, flat_map, option_or, option_map, length-map}
+use Rattle.plain_records.proofs.Common.{map-append, same_Some, In, slice_get-map_source, slice_get-below, All-In, find-In, UseRec, CellExt, ArrayExt}
+use Rattle.plain_records.proofs.Common.{plain, FlatFault, Cycle, Depth, Elements, Merges, LONGEST_CHAIN, MOST_FLAT_ELEMENTS, MOST_MERGES, ext_of}
+use Rattle.plain_records.proofs.Common.{walk_fault, greatest, merge_count, past, LeadTo, children_of, plains, with_merges, IsExpandedAt, at_use}
+use Rattle.std.specs.Prelude.{find}
 use Rattle.std.specs.Str.{bytes_eq}
-use Rattle.std.proofs.lemmas.List.{length-map, map-append}
 use Rattle.std.proofs.lemmas.List.Folds.{flat_map-map}
-use Rattle.std.proofs.lemmas.Option.{same_Some}
-use Rattle.finite_sets.specs.Lists.{In}
 use Rattle.finite_sets.proofs.Images.{In-flat_map_source, In-reverse, In-reverse_source, map-same, map-fixed}
-use Rattle.finite_sets.proofs.Places.{slice_get-map_source, slice_get-below}
-use Rattle.finite_sets.proofs.Searches.{All-In, find-In}
 use Rattle.finite_sets.proofs.Sums.{sum_by-map}
-use Rattle.ext_model.specs.declared.records.UseRec.{UseRec}
-use Rattle.ext_model.specs.declared.records.CellExt.{CellExt}
-use Rattle.ext_model.specs.declared.arrays.ArrayExt.{ArrayExt}
 use Rattle.ext_model.specs.declared.circuits.Circuit.{Circuit}
 use Rattle.ext_model.specs.NodeNames.{slashes_in}
-use Rattle.ext_model.specs.Plain.{plain}
-use Rattle.circuit_model.specs.declared.faults.FlatFault.{FlatFault}
-use Rattle.circuit_model.specs.declared.faults.FlatFault.TheVariants.{Cycle, NoPath}
-use Rattle.circuit_model.specs.declared.limits.CircuitLimit.TheVariants.{Depth, Elements, Nodes, Names, Merges}
-use Rattle.circuit_model.specs.declared.limits.TheConstants.{LONGEST_CHAIN, MOST_FLAT_ELEMENTS, MOST_NODES, MOST_NAME_BYTES, MOST_MERGES}
-use Rattle.circuit_model.specs.Elements.{Element, ext_of, of_option, elements_below, elements_of}
+use Rattle.circuit_model.specs.declared.faults.FlatFault.TheVariants.{NoPath}
+use Rattle.circuit_model.specs.declared.limits.CircuitLimit.TheVariants.{Nodes, Names}
+use Rattle.circuit_model.specs.declared.limits.TheConstants.{MOST_NODES, MOST_NAME_BYTES}
+use Rattle.circuit_model.specs.Elements.{Element, of_option, elements_below, elements_of}
 use Rattle.circuit_model.specs.FlatNodes.{is_among}
 use Rattle.circuit_model.specs.FullNames.{full_names}
 use Rattle.circuit_model.specs.Circuits.{IsMeaning, IsCircuitOf}
-use Rattle.circuit_model.specs.Refusals.{first_fault, use_fault, walk_fault, greatest, chain_length, depth_of, once, name_bytes, node_count, merge_count, past}
+use Rattle.circuit_model.specs.Refusals.{first_fault, use_fault, chain_length, depth_of, once, name_bytes, node_count}
 use Rattle.circuit_model.specs.Refusals.{class_fault, before_slash, after_slash, leads, path_fault, merge_fault, element_fault, flat_fault}
-use Rattle.flat_limits.specs.ElementTree.Graphs.{LeadTo, children_of}
 use Rattle.flat_limits.proofs.ElementTree.Cells.{found_cell}
 use Rattle.flat_limits.specs.ElementTree.Trees.{tree_fault}
 use Rattle.flat_limits.proofs.ElementTree.Counting.{leads_at}
-use Rattle.plain_records.specs.Plains.{plains}
-use Rattle.plain_records.specs.Reached.{reach_fault, with_merges, IsExpandedAt}
+use Rattle.plain_records.specs.Reached.{reach_fault}
 use Rattle.plain_records.proofs.PlaceLaws.{found_at}
-use Rattle.flat_limits.proofs.ElementTree.RecordWalks.{at_use}
 
 -- The record is one of those in the order.
 pub record IsReached (records : List CellExt) (order : List ℕ) (ext : CellExt) : Type 0 where

@@ -1,29 +1,17 @@
 -- The merges of elements by the rows of their records.
-use Rattle.std.proofs.Common.{◌≡◌, ℕ, ◌<◌, inl, inr, Bool, false, cond, ◌+◌, List, [], ◌∷◌, ◌++◌, length, length-append, map}
-use Rattle.std.proofs.Common.{get_or, take, sum_by, refl, sym, ◌∙◌, ap, arith}
-use Rattle.std.specs.Prelude.{Option, Some, None, slice_get}
-use Rattle.std.specs.List.{flat_map, range_with_len}
-use Rattle.std.specs.Option.{option_map}
+use Rattle.plain_records.proofs.Common.{◌≡◌, ℕ, ◌<◌, inl, inr, Bool, false, cond, ◌+◌, List, [], ◌∷◌, ◌++◌, length, map, get_or, take, sum_by, refl}
+use Rattle.plain_records.proofs.Common.{sym, ◌∙◌, ap, arith, Option, Some, None, slice_get, flat_map, range_with_len, option_map, length-map}
+use Rattle.plain_records.proofs.Common.{take_more, sum_by-cons, slice_get-map, same_Some, slice_get-map_source, CellExt, ArrayExt, plain}
+use Rattle.plain_records.proofs.Common.{plain_merge, plain_merges, TooMany, Merges, MOST_MERGES, past, merge_count, plains, AreArrayRecords}
+use Rattle.plain_records.proofs.Common.{with_merges, AreCalled, IsExpandedAt, capped, merges_in}
+use Rattle.std.proofs.Common.{length-append}
 use Rattle.std.proofs.lemmas.Bool.{cases_lt, lt-ltb, le-ltb}
-use Rattle.std.proofs.lemmas.List.{length-map, take_more}
 use Rattle.std.proofs.lemmas.List.Concat.{flat_map-append}
 use Rattle.std.proofs.lemmas.List.FromFn.{length-range_with_len}
-use Rattle.std.proofs.lemmas.List.Sums.{sum_by-cons}
-use Rattle.std.proofs.lemmas.Option.{slice_get-map, same_Some}
-use Rattle.finite_sets.proofs.Places.{slice_get-map_source, map-pointwise}
+use Rattle.finite_sets.proofs.Places.{map-pointwise}
 use Rattle.finite_sets.proofs.Sums.{sum_by-map, sum_by-same}
-use Rattle.ext_model.specs.declared.records.CellExt.{CellExt}
-use Rattle.ext_model.specs.declared.arrays.ArrayExt.{ArrayExt}
 use Rattle.ext_model.specs.declared.arrays.MergeRow.{MergeRow}
-use Rattle.ext_model.specs.Plain.{plain, plain_merge, plain_merges}
-use Rattle.circuit_model.specs.declared.faults.FlatFault.TheVariants.{TooMany}
-use Rattle.circuit_model.specs.declared.limits.CircuitLimit.TheVariants.{Merges}
-use Rattle.circuit_model.specs.declared.limits.TheConstants.{MOST_MERGES}
 use Rattle.circuit_model.specs.Elements.{Element, elements_of}
-use Rattle.circuit_model.specs.Refusals.{past, merge_count}
-use Rattle.plain_records.specs.Plains.{plains, AreArrayRecords}
-use Rattle.plain_records.specs.Reached.{with_merges, AreCalled, IsExpandedAt}
-use Rattle.plain_records.specs.steps.Rows.{capped, merges_in}
 use Rattle.plain_records.proofs.PlaceLaws.{array_of, own_array}
 use Rattle.plain_records.proofs.ReachLaws.{element_form, elements-new, all_reached}
 

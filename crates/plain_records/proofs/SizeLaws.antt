@@ -1,24 +1,11 @@
 -- The sizes of records by those of their children, each taken as often as its use has elements.
-use Rattle.std.proofs.Common.{◌≡◌, ℕ, ◌<◌, ◌≤◌, ◌+◌, ◌*◌, List, [], ◌∷◌, ◌++◌, length, map, reverse, get_or, take, drop, refl, sym, ◌∙◌, ap, subst, arith}
-use Rattle.std.specs.Prelude.{Some, slice_get}
+use Rattle.plain_records.proofs.Common.{◌≡◌, ℕ, ◌<◌, ◌≤◌, ◌+◌, ◌*◌, List, [], ◌∷◌, ◌++◌, length, map, reverse, get_or, take, drop, refl, sym, ◌∙◌}
+use Rattle.plain_records.proofs.Common.{ap, subst, arith, Some, slice_get, get_or_default, length-map, take_all, sum_by-cons, slice_get_read}
+use Rattle.plain_records.proofs.Common.{slice_get-map_there, UseRec, ArrayUse, ArrayExt, plain_uses, RecordGraph, children_of, AreMeasured}
+use Rattle.plain_records.proofs.Common.{LeadTo-long, plains, AreArrayRecords, first_use, thin, thins, spread, spreads, spread_graph}
 use Rattle.std.specs.List.{sum}
-use Rattle.std.proofs.lemmas.List.{get_or_default, length-map, take_all}
-use Rattle.std.proofs.lemmas.List.Sums.{sum_by-cons}
-use Rattle.std.proofs.lemmas.Option.{slice_get_read}
-use Rattle.finite_sets.proofs.Places.{slice_get-map_there}
 use Rattle.finite_sets.proofs.Searches.{drop_split}
-use Rattle.ext_model.specs.declared.records.UseRec.{UseRec}
-use Rattle.ext_model.specs.declared.arrays.ArrayUse.{ArrayUse}
-use Rattle.ext_model.specs.declared.arrays.ArrayExt.{ArrayExt}
-use Rattle.ext_model.specs.Plain.{plain_uses}
-use Rattle.flat_limits.specs.ElementTree.declared.graph.RecordGraph.{RecordGraph}
-use Rattle.flat_limits.specs.ElementTree.Graphs.{children_of}
-use Rattle.flat_limits.specs.ElementTree.Sizes.{AreMeasured}
 use Rattle.flat_limits.proofs.ElementTree.Measures.{IsRead, next_in_order}
-use Rattle.flat_limits.proofs.ElementTree.Rows.{LeadTo-long}
-use Rattle.plain_records.specs.Plains.{plains, AreArrayRecords}
-use Rattle.plain_records.specs.Thin.{first_use, thin, thins}
-use Rattle.plain_records.specs.Reached.{spread, spreads, spread_graph}
 use Rattle.plain_records.proofs.GraphLaws.{spreads-at, graph-spread}
 
 sum_block : (values : ℕ → ℕ) (block : List UseRec) (child : ℕ) (children : List ℕ)

@@ -1,14 +1,11 @@
 -- How far the elements of lawful grids are displaced, and where elements are placed.
-use Rattle.std.proofs.Common.{◌≡◌, ℤ, pos, List, ◌∷◌, refl, ◌∙◌, ap, subst, arith}
-use Rattle.std.proofs.lemmas.Int.{ints}
-use Rattle.finite_sets.specs.Lists.{In}
-use Rattle.geo_core.specs.declared.grids.Grid.{Grid}
-use Rattle.geo_core.specs.Elements.{elements_of, IsLawful}
+use Rattle.plain_records.proofs.Common.{◌≡◌, ℤ, List, ◌∷◌, refl, ◌∙◌, ap, subst, arith, ints, In, Grid, elements_of, IsShortStep}
+use Rattle.std.proofs.Common.{pos}
+use Rattle.geo_core.specs.Elements.{IsLawful}
 use Rattle.geo_core.specs.Images.{identity, six_of}
 use Rattle.ext_model.specs.declared.limits.TheConstants.{SHIFT_EDGE}
 use Rattle.ext_model.specs.Lawful.{IsPlacement}
 use Rattle.ext_model.proofs.NearSteps.{element_placement}
-use Rattle.plain_records.specs.steps.Steps.{IsShortStep}
 
 -- the place at which a cell stands as it is
 still : IsPlacement SHIFT_EDGE (six_of identity)

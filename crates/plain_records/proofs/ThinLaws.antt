@@ -1,22 +1,11 @@
 -- Thin records are records of a tree.
-use Rattle.std.proofs.Common.{◌≡◌, ℕ, List, [], ◌∷◌, ◌++◌, map, refl, sym, ◌∙◌, ap, subst, arith}
-use Rattle.std.specs.List.{flat_map}
-use Rattle.std.proofs.lemmas.List.{map-append}
-use Rattle.finite_sets.specs.Lists.{In, Distinct}
-use Rattle.finite_sets.proofs.Members.{In-map, In-map_source}
+use Rattle.plain_records.proofs.Common.{◌≡◌, ℕ, List, [], ◌∷◌, ◌++◌, map, refl, sym, ◌∙◌, ap, subst, arith, flat_map, map-append, In, Distinct}
+use Rattle.plain_records.proofs.Common.{In-map_source, All-In, All-from_In, UseRec, CellExt, ArrayUse, ArrayExt, IsLawfulArrayExt, plain_uses}
+use Rattle.plain_records.proofs.Common.{AreRecords, AreArrayRecords, first_use, thin, thins}
+use Rattle.finite_sets.proofs.Members.{In-map}
 use Rattle.finite_sets.proofs.Distincts.{Distinct-append_right, Distinct-append_apart}
 use Rattle.finite_sets.proofs.Images.{In-flat_map}
-use Rattle.finite_sets.proofs.Searches.{All-In, All-from_In}
-use Rattle.ext_model.specs.declared.records.UseRec.{UseRec}
-use Rattle.ext_model.specs.declared.records.CellExt.{CellExt}
-use Rattle.ext_model.specs.declared.arrays.ArrayUse.{ArrayUse}
-use Rattle.ext_model.specs.declared.arrays.ArrayExt.{ArrayExt}
 use Rattle.ext_model.specs.Lawful.{IsLawful, IsLawfulUse}
-use Rattle.ext_model.specs.LawfulArrays.{IsLawfulArrayExt}
-use Rattle.ext_model.specs.Plain.{plain_uses}
-use Rattle.circuit_model.specs.Elements.{AreRecords}
-use Rattle.plain_records.specs.Plains.{AreArrayRecords}
-use Rattle.plain_records.specs.Thin.{first_use, thin, thins}
 use Rattle.plain_records.proofs.UseLaws.{first_in}
 
 abbrev ids : List UseRec → List (List ℕ)

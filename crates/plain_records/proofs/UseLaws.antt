@@ -1,19 +1,13 @@
 -- The elements of uses.
-use Rattle.std.proofs.Common.{◌≡◌, ℕ, ◌+◌, ◌<◌, ◌≤◌, List, [], ◌∷◌, ◌++◌, length, map, get_or, take, inl, inr, refl, sym, ◌∙◌, ap, subst, arith}
-use Rattle.std.specs.Prelude.{Option, Some, None, slice_get}
-use Rattle.std.proofs.lemmas.List.{length-map, map-append}
-use Rattle.finite_sets.specs.Lists.{In}
-use Rattle.finite_sets.proofs.Members.{In-map_source}
-use Rattle.finite_sets.proofs.Places.{slice_get-map_source, take-slice_get}
-use Rattle.geo_core.specs.declared.grids.Grid.{Grid}
+use Rattle.plain_records.proofs.Common.{◌≡◌, ℕ, ◌+◌, ◌<◌, ◌≤◌, List, [], ◌∷◌, ◌++◌, length, map, get_or, take, inl, inr, refl, sym, ◌∙◌, ap, subst}
+use Rattle.plain_records.proofs.Common.{arith, Option, Some, None, slice_get, length-map, map-append, In, In-map_source, slice_get-map_source, Grid}
+use Rattle.plain_records.proofs.Common.{elements_of, UseRec, ArrayUse, plain_uses, element_use, first_use}
+use Rattle.finite_sets.proofs.Places.{take-slice_get}
 use Rattle.geo_core.specs.declared.limits.TheConstants.{MOST_ELEMENTS}
-use Rattle.geo_core.specs.Elements.{elements_of, IsLawful}
+use Rattle.geo_core.specs.Elements.{IsLawful}
 use Rattle.geo_core.proofs.ElementLaws.{length-elements_of}
-use Rattle.ext_model.specs.declared.records.UseRec.{UseRec}
-use Rattle.ext_model.specs.declared.arrays.ArrayUse.{ArrayUse}
 use Rattle.ext_model.specs.LawfulArrays.{HasIdForm}
-use Rattle.ext_model.specs.Plain.{plain_uses, uses_of_grid, element_use}
-use Rattle.plain_records.specs.Thin.{first_use}
+use Rattle.ext_model.specs.Plain.{uses_of_grid}
 
 -- a grid has elements
 pub some_elements : (grid : Grid) → 0 < length (elements_of grid)

@@ -1,23 +1,9 @@
 -- The walk over thin records finds the fault of the plain ones.
-use Rattle.std.proofs.Common.{◌≡◌, ℕ, zero, suc, ◌<◌, cond, List, [], ◌∷◌, ◌++◌, length, map, inl, inr, refl, sym, ◌∙◌, ap, arith}
-use Rattle.std.specs.Prelude.{Option, Some, None}
-use Rattle.std.specs.List.{flat_map}
-use Rattle.std.specs.Option.{option_or, option_map}
-use Rattle.std.proofs.lemmas.List.{length-map}
-use Rattle.finite_sets.specs.Lists.{In}
-use Rattle.ext_model.specs.declared.records.UseRec.{UseRec}
-use Rattle.ext_model.specs.declared.records.CellExt.{CellExt}
-use Rattle.ext_model.specs.declared.arrays.ArrayUse.{ArrayUse}
-use Rattle.ext_model.specs.declared.arrays.ArrayExt.{ArrayExt}
-use Rattle.ext_model.specs.Plain.{plain, plain_uses}
-use Rattle.circuit_model.specs.declared.faults.FlatFault.{FlatFault}
-use Rattle.circuit_model.specs.declared.faults.FlatFault.TheVariants.{Cycle}
-use Rattle.circuit_model.specs.Elements.{ext_of}
+use Rattle.plain_records.proofs.Common.{◌≡◌, ℕ, zero, suc, ◌<◌, cond, List, [], ◌∷◌, ◌++◌, length, map, inl, inr, refl, sym, ◌∙◌, ap, arith, Option}
+use Rattle.plain_records.proofs.Common.{Some, None, flat_map, option_or, option_map, length-map, In, UseRec, CellExt, ArrayUse, ArrayExt, plain}
+use Rattle.plain_records.proofs.Common.{plain_uses, FlatFault, Cycle, ext_of, walk_fault, at_use, plains, first_use, thin, thins}
 use Rattle.circuit_model.specs.FlatNodes.{is_among}
-use Rattle.circuit_model.specs.Refusals.{first_fault, use_fault, walk_fault}
-use Rattle.flat_limits.proofs.ElementTree.RecordWalks.{at_use}
-use Rattle.plain_records.specs.Plains.{plains}
-use Rattle.plain_records.specs.Thin.{first_use, thin, thins}
+use Rattle.circuit_model.specs.Refusals.{first_fault, use_fault}
 use Rattle.plain_records.proofs.UseLaws.{some_uses, uses_cell, first_in}
 use Rattle.plain_records.proofs.PlaceLaws.{array_of, ext_of-plains, ext_of-thins}
 

@@ -1,14 +1,9 @@
 -- Rectangles that lie apart share part of an edge exactly where a square of the one shares an edge with a square of the other.
-use Rattle.std.proofs.Common.{◌≡◌, ℤ, pos, ◌+ℤ◌, ◌-ℤ◌, ◌≤ℤ◌, ◌<ℤ◌, inl, inr, refl, sym, subst, arith}
-use Rattle.std.specs.Int.{int_max}
-use Rattle.std.proofs.lemmas.Int.{ints, clamps, by_lt_z}
-use Rattle.geo_core.specs.declared.squares.Square.{Square}
-use Rattle.geo_core.specs.declared.squares.Rect.{Rect}
-use Rattle.geo_core.specs.Covering.{Covers, IsProper}
+use Rattle.rect_contacts.proofs.Common.{◌≡◌, ℤ, pos, ◌+ℤ◌, ◌-ℤ◌, ◌≤ℤ◌, ◌<ℤ◌, inl, inr, refl, sym, subst, arith, int_max, ints, clamps, by_lt_z}
+use Rattle.rect_contacts.proofs.Common.{Square, Rect, Covers, IsProper, AreDisjoint, shared_length}
 use Rattle.geo_core.specs.Neighbours.{AreEdgeNeighbours}
 use Rattle.geo_core.proofs.NeighbourLaws.{AreEdgeNeighbours-sym}
-use Rattle.geo_core.specs.Areas.{AreDisjoint}
-use Rattle.rect_contacts.specs.Contacts.{overlap, shared_beside, shared_upon, shared_length}
+use Rattle.rect_contacts.specs.Contacts.{overlap, shared_beside, shared_upon}
 use Rattle.rect_contacts.proofs.Shared.{shared_beside-cases, shared_upon-cases, shared_beside-not_negative, shared_upon-not_negative}
 
 -- a square of the one and a square of the other that share an edge

@@ -1,10 +1,5 @@
 -- Disjoint rectangles, by their bounds.
-use Rattle.std.proofs.Common.{◌≤ℤ◌, ◌<ℤ◌, ◌⊎◌, inl, inr, arith}
-use Rattle.std.specs.Int.{int_max}
-use Rattle.std.proofs.lemmas.Int.{ints, clamps, by_lt_z}
-use Rattle.geo_core.specs.declared.squares.Rect.{Rect}
-use Rattle.geo_core.specs.Covering.{IsProper}
-use Rattle.geo_core.specs.Areas.{AreDisjoint}
+use Rattle.rect_contacts.proofs.Common.{◌≤ℤ◌, ◌<ℤ◌, ◌⊎◌, inl, inr, arith, int_max, ints, clamps, by_lt_z, Rect, IsProper, AreDisjoint}
 
 -- one of the rectangles ends before the other begins, in x or in y
 abbrev pub AreApart : Rect → Rect → Type 0

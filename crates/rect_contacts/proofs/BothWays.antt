@@ -1,24 +1,18 @@
 -- Sums over contacts are sums over pairs of places.
-use Rattle.std.proofs.Common.{◌≡◌, ℕ, ◌<◌, ◌≤◌, ℤ, pos, ◌+ℤ◌, ◌*ℤ◌, ◌≤ℤ◌, ◌<ℤ◌, Bool, true, false, cond, ◌&&◌, List}
-use Rattle.std.proofs.Common.{[], ◌∷◌, inl, inr, map, filter, length, get_or, refl, sym, ◌∙◌, ap, subst, arith}
+use Rattle.rect_contacts.proofs.Common.{◌≡◌, ℕ, ◌<◌, ℤ, pos, ◌+ℤ◌, ◌*ℤ◌, ◌≤ℤ◌, ◌<ℤ◌, Bool, true, false, ◌&&◌, List, [], ◌∷◌, inl, inr, map, length}
+use Rattle.rect_contacts.proofs.Common.{get_or, refl, sym, ◌∙◌, ap, subst, arith, *ℤ-zero, cases_lt, ints, In, Lists, sum_on, pairs_of, Lists-iff}
+use Rattle.rect_contacts.proofs.Common.{In-index, In-get_or, Contact, rect_at, shared_length, IsSharedEdge}
+use Rattle.std.proofs.Common.{◌≤◌, cond}
+use Rattle.std.proofs.Common.{filter}
 use Rattle.std.specs.Prelude.{nat_lt, int_lt}
 use Rattle.std.specs.List.{range_with_len}
-use Rattle.std.proofs.Math.IntN.{*ℤ-zero}
-use Rattle.std.proofs.lemmas.Bool.{cases_eq, cases_lt, and_parts}
+use Rattle.std.proofs.lemmas.Bool.{cases_eq, and_parts}
 use Rattle.std.proofs.lemmas.Bool.Decides.{nat_tests}
-use Rattle.std.proofs.lemmas.Int.{ints}
 use Rattle.std.proofs.lemmas.List.FromFn.{length-range_with_len, get_or-range_with_len}
-use Rattle.geo_core.specs.FiniteSets.Lists.{In, Lists}
-use Rattle.geo_core.specs.FiniteSets.Total.{sum_on}
-use Rattle.geo_core.specs.FiniteSets.Range.{pairs_of}
-use Rattle.geo_core.proofs.FiniteSets.Listings.{Lists-iff}
-use Rattle.geo_core.proofs.FiniteSets.Members.{In-map, In-map_source, In-filter, In-filter_source, In-filter_passes, In-index, In-get_or}
+use Rattle.geo_core.proofs.FiniteSets.Members.{In-map, In-map_source, In-filter, In-filter_source, In-filter_passes}
 use Rattle.geo_core.proofs.FiniteSets.Distincts.{Distinct-map, Distinct-filter, Distinct-from_places}
 use Rattle.geo_core.proofs.FiniteSets.Sums.{sum_on-append, sum_on-map, sum_on-same, sum_on-add, sum_on-swap, sum_on-filter, sum_on-same_things}
 use Rattle.geo_core.proofs.FiniteSets.Ranges.{Lists-pairs_of}
-use Rattle.rect_contacts.specs.declared.contacts.Contact.{Contact}
-use Rattle.rect_contacts.specs.Rects.{rect_at}
-use Rattle.rect_contacts.specs.Contacts.{shared_length, IsSharedEdge}
 use Rattle.rect_contacts.specs.EdgeLaws.{ContactsCountBothWays}
 use Rattle.rect_contacts.proofs.Counting.{distributes_right}
 use Rattle.rect_contacts.proofs.Shared.{shared_length-same, shared_length-not_negative, shared_length-comm}

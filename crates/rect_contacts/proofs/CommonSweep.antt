@@ -1,25 +1,16 @@
 -- The sweep over the events of two lists finds the pairs of rectangles that have a square in common.
-use Rattle.std.proofs.Common.{◌≡◌, ◌≢◌, ◌⊎◌, inl, inr, ℕ, ◌+◌, ◌<◌, ℤ, pos, ◌-ℤ◌, ◌≤ℤ◌, ◌<ℤ◌, Bool, true, false, not, if◌then◌else◌, Some, None, List, []}
-use Rattle.std.proofs.Common.{◌∷◌, ◌++◌, map, take, length, get_or, refl, sym, ◌∙◌, ap, subst, arith}
-use Rattle.std.specs.Prelude.{All, AllPairs}
-use Rattle.std.specs.Int.{int_max}
-use Rattle.std.proofs.lemmas.Bool.{false≢true, cases_lt}
-use Rattle.std.proofs.lemmas.Int.{ints, clamps}
+use Rattle.rect_contacts.proofs.Common.{◌≡◌, ◌≢◌, ◌⊎◌, inl, inr, ℕ, ◌+◌, ◌<◌, ℤ, pos, ◌-ℤ◌, ◌≤ℤ◌, ◌<ℤ◌, Bool, true, false, Some, List, [], ◌∷◌, ◌++◌}
+use Rattle.rect_contacts.proofs.Common.{map, take, length, get_or, refl, sym, ◌∙◌, ap, subst, arith, All, AllPairs, int_max, false≢true, cases_lt}
+use Rattle.rect_contacts.proofs.Common.{ints, clamps, Square, Rect, AreDisjoint, IsNear, IsSmall, Covers, IsProper, In, Distinct, Lists}
+use Rattle.rect_contacts.proofs.Common.{Lists-append, Lists-iff, In-index, In-get_or, In-append_left, In-push, In-push_cases, Active, Event, no_rect}
+use Rattle.rect_contacts.proofs.Common.{rect_at, pair_of, AreEvents}
+use Rattle.std.proofs.Common.{not, if◌then◌else◌, None}
 use Rattle.std.proofs.lemmas.List.{get_or-take, length-take-le, take_more}
-use Rattle.geo_core.specs.declared.squares.Square.{Square}
-use Rattle.geo_core.specs.declared.squares.Rect.{Rect}
-use Rattle.geo_core.specs.Areas.{AreDisjoint, IsNear, IsSmall}
-use Rattle.geo_core.specs.Covering.{Covers, IsProper}
-use Rattle.geo_core.specs.FiniteSets.Lists.{In, Distinct, Lists}
 use Rattle.geo_core.specs.FiniteSets.Order.{Lexicographic}
 use Rattle.geo_core.proofs.FiniteSets.Distincts.{Distinct-places}
-use Rattle.geo_core.proofs.FiniteSets.Listings.{Lists-append, Lists-iff, Lists-map, Lists-none}
-use Rattle.geo_core.proofs.FiniteSets.Members.{In-index, In-get_or, In-append_left, In-push, In-push_cases}
-use Rattle.rect_contacts.specs.declared.actives.Active.{Active}
-use Rattle.rect_contacts.specs.declared.events.Event.{Event}
-use Rattle.rect_contacts.specs.Rects.{no_rect, rect_at}
+use Rattle.geo_core.proofs.FiniteSets.Listings.{Lists-map, Lists-none}
 use Rattle.rect_contacts.specs.CommonSquares.{IsOverlap}
-use Rattle.rect_contacts.specs.steps.Events.{pair_of, ComesNoLater, list_of, event_at, IsEvent, AreEvents}
+use Rattle.rect_contacts.specs.steps.Events.{ComesNoLater, list_of, event_at, IsEvent}
 use Rattle.rect_contacts.specs.steps.Actives.{Row, AreActives, IsMet, AddsMet, IsWith, IsWithout, IsTurned}
 use Rattle.rect_contacts.proofs.Apart.{AreApart, apart_from_disjoint, AreApart-sym}
 use Rattle.rect_contacts.proofs.RowLaws.{int_same, one_ends}

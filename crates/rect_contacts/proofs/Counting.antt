@@ -1,19 +1,14 @@
 -- How many integers of one range lie in another, and how many squares of one rectangle in another that is moved.
-use Rattle.std.proofs.Common.{◌≡◌, ℕ, zero, suc, ◌+◌, ◌*◌, ℤ, pos, ◌+ℤ◌, ◌*ℤ◌, ◌≤ℤ◌, ◌<ℤ◌, Bool, true, false}
-use Rattle.std.proofs.Common.{◌&&◌, List, [], ◌∷◌, ◌⊎◌, inl, inr, map, refl, sym, ◌∙◌, ap, arith}
+use Rattle.rect_contacts.proofs.Common.{◌≡◌, ℕ, zero, suc, ◌+◌, ℤ, pos, ◌+ℤ◌, ◌*ℤ◌, ◌≤ℤ◌, ◌<ℤ◌, Bool, true, false, ◌&&◌, List, [], ◌∷◌, ◌⊎◌, inl}
+use Rattle.rect_contacts.proofs.Common.{inr, map, refl, sym, ◌∙◌, ap, arith, zero-*ℤ, ints, clamps, by_lt_z, Square, Rect, is_covered, IsProper}
+use Rattle.rect_contacts.proofs.Common.{sum_on, one_if, extent, pairs_of, squares_of}
+use Rattle.std.proofs.Common.{◌*◌}
 use Rattle.std.specs.Prelude.{int_le, int_lt}
-use Rattle.std.proofs.Math.IntN.{zero-*ℤ}
-use Rattle.std.proofs.lemmas.Int.{ints, clamps, by_lt_z}
 use borrow.Author.Differences.{up, down}
-use Rattle.geo_core.specs.declared.squares.Square.{Square}
-use Rattle.geo_core.specs.declared.squares.Rect.{Rect}
-use Rattle.geo_core.specs.Covering.{is_covered, IsProper}
-use Rattle.geo_core.specs.FiniteSets.Total.{sum_on, one_if}
-use Rattle.geo_core.specs.FiniteSets.Range.{extent, integers_from, integer_range, pairs_of}
+use Rattle.geo_core.specs.FiniteSets.Range.{integers_from, integer_range}
 use Rattle.geo_core.proofs.FiniteSets.Sums.{sum_on-append, sum_on-map, sum_on-scale, sum_on-same}
 use Rattle.geo_core.proofs.FiniteSets.Ranges.{extent_up}
 use Rattle.rect_contacts.specs.Contacts.{overlap}
-use Rattle.rect_contacts.specs.Squares.{squares_of}
 
 passes : (lo hi z : ℤ) → lo ≤ℤ z → z <ℤ hi → (int_le lo z && int_lt z hi) ≡ true
 passes lo hi z from to = grind (arith, ints)

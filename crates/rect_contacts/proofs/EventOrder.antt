@@ -1,24 +1,16 @@
 -- The events of the rectangles of two lists: which there are, that each is there once, and their order.
-use Rattle.std.proofs.Common.{drop, append_assoc, ◌≡◌, ◌≢◌, inl, inr, ℕ, zero, suc, ◌+◌, ◌<◌, Bool, true, false, List, [], ◌∷◌, ◌++◌, length, get_or, refl}
-use Rattle.std.proofs.Common.{sym, ◌∙◌, ap, subst, arith}
-use Rattle.std.specs.Prelude.{IsPermutation, IsSorted}
+use Rattle.rect_contacts.proofs.Common.{drop, append_assoc, ◌≡◌, ◌≢◌, inl, inr, ℕ, zero, suc, ◌+◌, ◌<◌, Bool, true, false, List, [], ◌∷◌, ◌++◌}
+use Rattle.rect_contacts.proofs.Common.{length, get_or, refl, sym, ◌∙◌, ap, subst, arith, IsPermutation, IsSorted, Ordering, is_lt, int_cmp, nat_cmp}
+use Rattle.rect_contacts.proofs.Common.{ordering_then, false≢true, int_cmp_total, nat_cmp_total, on_total, then_total, get_or_default}
+use Rattle.rect_contacts.proofs.Common.{IsPermutation-sym, Rect, In, Distinct, In-append_left, In-permutation, AllPairs-permutation, Event, no_rect}
+use Rattle.rect_contacts.proofs.Common.{rect_at, events_from, AreEvents}
 use Rattle.std.specs.Cmp.{IsTotalOrder, bool_cmp_total}
-use Rattle.std.specs.declared.cmp.Ordering.{Ordering}
-use Rattle.std.specs.Ordering.{is_lt, int_cmp, nat_cmp, bool_cmp, ordering_then}
-use Rattle.std.proofs.lemmas.Bool.{false≢true}
-use Rattle.std.proofs.lemmas.Cmp.{int_cmp_total, nat_cmp_total, on_total, then_total}
-use Rattle.std.proofs.lemmas.List.{get_or_default}
-use Rattle.std.proofs.lemmas.List.Sorted.{IsPermutation-sym}
-use Rattle.geo_core.specs.declared.squares.Rect.{Rect}
-use Rattle.geo_core.specs.FiniteSets.Lists.{In, Distinct}
+use Rattle.std.specs.Ordering.{bool_cmp}
 use Rattle.geo_core.proofs.FiniteSets.Distincts.{Distinct-append, Distinct-places, Distinct-from_places}
-use Rattle.geo_core.proofs.FiniteSets.Members.{In-append_left, In-append_right, In-append_cases, In-permutation}
+use Rattle.geo_core.proofs.FiniteSets.Members.{In-append_right, In-append_cases}
 use Rattle.geo_core.proofs.FiniteSets.Orders.{ordering_then-not_less, Lexicographic-map, IsSorted-pairs}
-use Rattle.geo_core.proofs.FiniteSets.Pairs.{AllPairs-permutation}
 use Rattle.geo_core.proofs.FiniteSets.Searches.{drop_split}
-use Rattle.rect_contacts.specs.declared.events.Event.{Event}
-use Rattle.rect_contacts.specs.Rects.{no_rect, rect_at}
-use Rattle.rect_contacts.specs.steps.Events.{event_of, event_at, events_from, ComesNoLater, list_of, IsEvent, AreEvents}
+use Rattle.rect_contacts.specs.steps.Events.{event_of, event_at, ComesNoLater, list_of, IsEvent}
 
 -- the rectangle at each place has its beginning and its end among them
 event_in : (begins s : Bool) (n : ℕ) (rects : List Rect) (k : ℕ) → k < length rects → In (event_of begins s (n + k) (rect_at rects k)) (events_from s n rects)

@@ -1,7 +1,5 @@
 -- Laws of `overlap`.
-use Rattle.std.proofs.Common.{◌≡◌, ℤ, pos, ◌-ℤ◌, ◌≤ℤ◌, ◌<ℤ◌, arith}
-use Rattle.std.specs.Int.{int_max, int_min}
-use Rattle.std.proofs.lemmas.Int.{ints, clamps}
+use Rattle.rect_contacts.proofs.Common.{◌≡◌, ℤ, pos, ◌-ℤ◌, ◌≤ℤ◌, ◌<ℤ◌, arith, int_max, int_min, ints, clamps}
 use Rattle.rect_contacts.specs.Contacts.{overlap}
 
 -- no overlap is negative

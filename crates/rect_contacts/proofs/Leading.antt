@@ -1,18 +1,15 @@
 -- How many edges lead from the squares of one rectangle to those of another, or of the same.
-use Rattle.std.proofs.Common.{◌≡◌, ◌≢◌, ℤ, pos, neg_ℤ, ◌+ℤ◌, ◌-ℤ◌, ◌*ℤ◌, ◌≤ℤ◌, ◌<ℤ◌, ◌⊎◌, inl, inr, refl, sym, ◌∙◌, ap, arith}
-use Rattle.std.proofs.Math.IntN.{pred_ℤ, zero-*ℤ, *ℤ-zero, *ℤ_comm, pred_ℤ-*ℤ, -ℤ_one}
-use Rattle.std.proofs.lemmas.Int.{ints, clamps, by_lt_z}
-use Rattle.geo_core.specs.declared.squares.Square.{Square}
-use Rattle.geo_core.specs.declared.squares.Rect.{Rect}
-use Rattle.geo_core.specs.Covering.{Covers, is_covered, IsProper}
+use Rattle.rect_contacts.proofs.Common.{◌≡◌, ◌≢◌, ℤ, pos, ◌+ℤ◌, ◌-ℤ◌, ◌*ℤ◌, ◌≤ℤ◌, ◌<ℤ◌, ◌⊎◌, inl, inr, refl, sym, ◌∙◌, ap, arith, zero-*ℤ, *ℤ-zero}
+use Rattle.rect_contacts.proofs.Common.{ints, clamps, by_lt_z, Square, Rect, Covers, is_covered, IsProper, sum_on, one_if, pairs_of, Lists-iff}
+use Rattle.rect_contacts.proofs.Common.{squares_of, edges_between}
+use Rattle.std.proofs.Common.{neg_ℤ}
+use Rattle.std.proofs.Math.IntN.{pred_ℤ, *ℤ_comm, pred_ℤ-*ℤ, -ℤ_one}
 use Rattle.geo_core.specs.Neighbours.{right_of, left_of, above, below}
-use Rattle.geo_core.specs.FiniteSets.Total.{sum_on, one_if}
-use Rattle.geo_core.specs.FiniteSets.Range.{IsBetween, integer_range, pairs_of}
-use Rattle.geo_core.proofs.FiniteSets.Listings.{Lists-iff, Lists-image}
+use Rattle.geo_core.specs.FiniteSets.Range.{IsBetween, integer_range}
+use Rattle.geo_core.proofs.FiniteSets.Listings.{Lists-image}
 use Rattle.geo_core.proofs.FiniteSets.Sums.{sum_on-add, sum_on-zero, sum_on-map, sum_on-count}
 use Rattle.geo_core.proofs.FiniteSets.Ranges.{extent_up, length-integer_range, Lists-rectangle}
 use Rattle.rect_contacts.specs.Contacts.{overlap, shared_beside, shared_upon}
-use Rattle.rect_contacts.specs.Squares.{squares_of, edges_between}
 use Rattle.rect_contacts.specs.EdgeLaws.{SquaresAreCovered, AreaCountsSquares, SharedLengthCountsEdges, PerimeterLeadsOut}
 use Rattle.rect_contacts.proofs.Apart.{AreApart, AreApart-sym, apart_from_disjoint}
 use Rattle.rect_contacts.proofs.Counting.{count_moved, sum_on-pairs_of}

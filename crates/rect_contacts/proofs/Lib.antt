@@ -1,3 +1,4 @@
+mod Common
 mod Intervals
 mod Apart
 mod Sweep

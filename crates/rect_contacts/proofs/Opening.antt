@@ -1,19 +1,12 @@
 -- The open edges of one of several disjoint rectangles.
-use Rattle.std.proofs.Common.{◌≡◌, suc, ℤ, pos, ◌+ℤ◌, ◌-ℤ◌, ◌*ℤ◌, Bool, true, false, not, ◌||◌, List, [], ◌∷◌, inl, inr, refl, sym, ◌∙◌, ap, subst, arith}
-use Rattle.std.specs.Prelude.{AllPairs}
-use Rattle.std.proofs.lemmas.Int.{ints}
-use Rattle.geo_core.specs.declared.squares.Square.{Square}
-use Rattle.geo_core.specs.declared.squares.Rect.{Rect}
-use Rattle.geo_core.specs.Covering.{is_covered, IsProper}
+use Rattle.rect_contacts.proofs.Common.{◌≡◌, suc, ℤ, pos, ◌+ℤ◌, ◌-ℤ◌, ◌*ℤ◌, Bool, true, false, List, [], ◌∷◌, inl, inr, refl, sym, ◌∙◌, ap, subst}
+use Rattle.rect_contacts.proofs.Common.{arith, AllPairs, ints, Square, Rect, is_covered, IsProper, In, sum_on, one_if, In-index, AreDisjoint}
+use Rattle.rect_contacts.proofs.Common.{shared_length, squares_of, edges_between}
+use Rattle.std.proofs.Common.{not, ◌||◌}
 use Rattle.geo_core.specs.Neighbours.{edge_neighbours}
 use Rattle.geo_core.proofs.CoveringLaws.{Covers-is_covered}
-use Rattle.geo_core.specs.FiniteSets.Lists.{In}
-use Rattle.geo_core.specs.FiniteSets.Total.{sum_on, one_if}
-use Rattle.geo_core.proofs.FiniteSets.Members.{In-index}
 use Rattle.geo_core.proofs.FiniteSets.Sums.{sum_on-same, sum_on-sub, sum_on-swap, sum_on-scale}
-use Rattle.geo_core.specs.Areas.{AreDisjoint}
-use Rattle.rect_contacts.specs.Contacts.{shared_length}
-use Rattle.rect_contacts.specs.Squares.{squares_of, area_of, perimeter_of, edges_between, is_covered_by_any, open_edges}
+use Rattle.rect_contacts.specs.Squares.{area_of, perimeter_of, is_covered_by_any, open_edges}
 use Rattle.rect_contacts.specs.EdgeLaws.{PerimeterIsOpenOrShared}
 use Rattle.rect_contacts.proofs.Shared.{shared_length-same}
 use Rattle.rect_contacts.proofs.Leading.{edges_between-disjoint, edges_between-same, sum_on-squares_of}

@@ -1,12 +1,8 @@
 -- Rectangles of one list that a line crosses, and those that one of the other list meets.
-use Rattle.std.proofs.Common.{append_assoc, ◌≡◌, ◌⊎◌, inl, inr, ℕ, ℤ, ◌≤ℤ◌, ◌<ℤ◌, List, [], ◌∷◌, ◌++◌, map, Some, sym, ◌∙◌, ap, arith}
-use Rattle.std.proofs.lemmas.Int.{ints, by_lt_z}
+use Rattle.rect_contacts.proofs.Common.{append_assoc, ◌≡◌, ◌⊎◌, inl, inr, ℕ, ℤ, ◌≤ℤ◌, ◌<ℤ◌, List, [], ◌∷◌, ◌++◌, map, Some, sym, ◌∙◌, ap, arith}
+use Rattle.rect_contacts.proofs.Common.{ints, by_lt_z, Lists, Lists-append, Lists-iff, Active, Event, pair_of}
 use Rattle.std.proofs.lemmas.List.{map-append}
-use Rattle.geo_core.specs.FiniteSets.Lists.{Lists}
-use Rattle.geo_core.proofs.FiniteSets.Listings.{Lists-one, Lists-append, Lists-iff}
-use Rattle.rect_contacts.specs.declared.actives.Active.{Active}
-use Rattle.rect_contacts.specs.declared.events.Event.{Event}
-use Rattle.rect_contacts.specs.steps.Events.{pair_of}
+use Rattle.geo_core.proofs.FiniteSets.Listings.{Lists-one}
 use Rattle.rect_contacts.specs.steps.Actives.{Row, AreActives, IsFirstPast, IsMet, AddsMet}
 
 -- two columns are one or not

@@ -1,12 +1,10 @@
 -- The four edges at which two rectangles can touch: laws of `shared_beside` and `shared_upon`.
-use Rattle.std.proofs.Common.{◌≡◌, ◌≢◌, ℤ, pos, ◌≤ℤ◌, ◌<ℤ◌, Bool, true, false, cond, ◌⊎◌, inl, inr, refl, sym, subst, Decides, arith}
+use Rattle.rect_contacts.proofs.Common.{◌≡◌, ◌≢◌, ℤ, pos, ◌≤ℤ◌, ◌<ℤ◌, Bool, true, false, ◌⊎◌, inl, inr, refl, sym, subst, arith, false≢true, ints}
+use Rattle.rect_contacts.proofs.Common.{Rect, IsProper, shared_length}
+use Rattle.std.proofs.Common.{cond, Decides}
 use Rattle.std.specs.Ordering.{int_eq}
-use Rattle.std.proofs.lemmas.Bool.{false≢true}
 use Rattle.std.proofs.lemmas.Bool.Decides.{Decides-int_eq}
-use Rattle.std.proofs.lemmas.Int.{ints}
-use Rattle.geo_core.specs.declared.squares.Rect.{Rect}
-use Rattle.geo_core.specs.Covering.{IsProper}
-use Rattle.rect_contacts.specs.Contacts.{overlap, shared_beside, shared_upon, shared_length}
+use Rattle.rect_contacts.specs.Contacts.{overlap, shared_beside, shared_upon}
 use Rattle.rect_contacts.proofs.Intervals.{overlap-not_negative, overlap-from_before_to, overlap-to_after_from}
 
 -- a choice by whether two integers are equal

@@ -1,25 +1,12 @@
 -- Sides of disjoint rectangles, sorted, stand one before the next.
-use Rattle.std.proofs.Common.{◌≡◌, ◌≢◌, ℕ, ◌<◌, ℤ, pos, ◌≤ℤ◌, ◌<ℤ◌, List, ◌⊎◌, false, length, get_or, inl, inr, refl, sym, ◌∙◌, ap, subst, arith}
-use Rattle.std.specs.Prelude.{All, AllPairs, IsPermutation, IsSorted}
+use Rattle.rect_contacts.proofs.Common.{◌≡◌, ◌≢◌, ℕ, ◌<◌, ℤ, pos, ◌≤ℤ◌, ◌<ℤ◌, List, ◌⊎◌, false, length, get_or, inl, inr, refl, sym, ◌∙◌, ap, subst}
+use Rattle.rect_contacts.proofs.Common.{arith, All, AllPairs, IsPermutation, IsSorted, Ordering, is_lt, int_cmp, nat_cmp, ordering_then}
+use Rattle.rect_contacts.proofs.Common.{int_cmp_total, nat_cmp_total, on_total, then_total, ints, get_or_default, IsPermutation-sym, Rect, IsProper}
+use Rattle.rect_contacts.proofs.Common.{In, In-get_or, In-index, In-permutation, AllPairs-permutation, Edge, Left, Right, Bottom, Top, Side}
+use Rattle.rect_contacts.proofs.Common.{AreDisjoint, IsNear, rect_at, side_of, AreSidesOf}
 use Rattle.std.specs.Cmp.{IsTotalOrder}
-use Rattle.std.specs.declared.cmp.Ordering.{Ordering}
-use Rattle.std.specs.Ordering.{is_lt, int_cmp, nat_cmp, ordering_then}
-use Rattle.std.proofs.lemmas.Cmp.{int_cmp_total, nat_cmp_total, on_total, then_total}
-use Rattle.std.proofs.lemmas.Int.{ints}
-use Rattle.std.proofs.lemmas.List.{get_or_default}
-use Rattle.std.proofs.lemmas.List.Sorted.{IsPermutation-sym}
-use Rattle.geo_core.specs.declared.squares.Rect.{Rect}
-use Rattle.geo_core.specs.Covering.{IsProper}
-use Rattle.geo_core.specs.FiniteSets.Lists.{In}
-use Rattle.geo_core.proofs.FiniteSets.Members.{In-get_or, In-index, In-permutation}
 use Rattle.geo_core.proofs.FiniteSets.Orders.{ordering_then-not_less, int_then-not_less, IsSorted-pairs}
-use Rattle.geo_core.proofs.FiniteSets.Pairs.{AllPairs-permutation}
-use Rattle.rect_contacts.specs.declared.sides.Edge.{Edge}
-use Rattle.rect_contacts.specs.declared.sides.Edge.TheVariants.{Left, Right, Bottom, Top}
-use Rattle.rect_contacts.specs.declared.sides.Side.{Side}
-use Rattle.geo_core.specs.Areas.{AreDisjoint, IsNear}
-use Rattle.rect_contacts.specs.Rects.{rect_at}
-use Rattle.rect_contacts.specs.steps.Sides.{side_of, IsSpan, EndsBefore, AreSidesOf}
+use Rattle.rect_contacts.specs.steps.Sides.{IsSpan, EndsBefore}
 use Rattle.rect_contacts.proofs.Apart.{AreApart, apart_from_disjoint}
 
 -- The sides are those of two rectangles that are apart: where they lie on one line, one ends before the other begins.

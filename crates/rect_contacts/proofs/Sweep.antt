@@ -1,18 +1,13 @@
 -- The sweep over two lists of sides: what has been found when so much of each list is left.
-use Rattle.std.proofs.Common.{◌≡◌, ◌≢◌, ℕ, suc, ◌+◌, ◌<◌, min, max, ℤ, pos, ◌≤ℤ◌, ◌<ℤ◌, List, [], ◌∷◌, ◌⊎◌, length}
-use Rattle.std.proofs.Common.{get_or, drop, length-drop, add-one, inl, inr, refl, sym, ◌∙◌, ap, subst, arith}
-use Rattle.std.specs.Prelude.{AllPairs}
-use Rattle.std.proofs.lemmas.Int.{ints, by_lt_z}
-use Rattle.std.proofs.lemmas.Bool.{cases_lt}
+use Rattle.rect_contacts.proofs.Common.{◌≡◌, ◌≢◌, ℕ, suc, ◌+◌, ◌<◌, min, max, ℤ, pos, ◌≤ℤ◌, ◌<ℤ◌, List, [], ◌∷◌, ◌⊎◌, length, get_or, drop, inl, inr}
+use Rattle.rect_contacts.proofs.Common.{refl, sym, ◌∙◌, ap, subst, arith, AllPairs, ints, by_lt_z, cases_lt, In, Distinct, In-append_left, In-push}
+use Rattle.rect_contacts.proofs.Common.{In-push_cases, In-index, In-get_or, Contact, Side, AreOpposite, Meet, contact_of, IsMeeting}
+use Rattle.std.proofs.Common.{length-drop, add-one}
 use Rattle.std.proofs.Math.Seq.{drop-cons}
 use Rattle.std.proofs.lemmas.List.{get_or-drop}
-use Rattle.geo_core.specs.FiniteSets.Lists.{In, Distinct}
 use Rattle.geo_core.proofs.FiniteSets.Distincts.{Distinct-push}
-use Rattle.geo_core.proofs.FiniteSets.Members.{In-append_left, In-push, In-push_cases, In-index, In-get_or}
-use Rattle.rect_contacts.specs.declared.contacts.Contact.{Contact}
-use Rattle.rect_contacts.specs.declared.sides.Side.{Side}
 use Rattle.rect_contacts.specs.Contacts.{overlap}
-use Rattle.rect_contacts.specs.steps.Sides.{EndsBefore, ReachesNoFarther, AreOpposite, Meet, contact_of, IsMeeting, AddsContact}
+use Rattle.rect_contacts.specs.steps.Sides.{EndsBefore, ReachesNoFarther, AddsContact}
 use Rattle.rect_contacts.proofs.Intervals.{overlap-before, overlap-comm}
 
 -- The contacts are those of sides of the two lists that meet, each once, but for sides that are both among what is left of their lists.

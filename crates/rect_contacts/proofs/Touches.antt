@@ -1,19 +1,9 @@
 -- Where a side of one rectangle meets the opposite side of another, their owners touch: from meetings of sides to contacts.
-use Rattle.std.proofs.Common.{◌≡◌, ◌≢◌, ℕ, ◌<◌, min, max, ℤ, pos, ◌+ℤ◌, ◌≤ℤ◌, ◌<ℤ◌, List, ◌++◌, ◌⊎◌, length, inl, inr, sym, ◌∙◌, ap, subst, arith}
-use Rattle.std.specs.Prelude.{All}
-use Rattle.std.proofs.lemmas.Bool.{cases_lt}
-use Rattle.std.proofs.lemmas.Int.{ints, by_lt_z}
-use Rattle.geo_core.specs.declared.squares.Rect.{Rect}
-use Rattle.geo_core.specs.Covering.{IsProper}
-use Rattle.geo_core.specs.FiniteSets.Lists.{Lists}
-use Rattle.geo_core.proofs.FiniteSets.Listings.{Lists-append, Lists-iff}
-use Rattle.rect_contacts.specs.declared.contacts.Contact.{Contact}
-use Rattle.rect_contacts.specs.declared.sides.Edge.{Edge}
-use Rattle.rect_contacts.specs.declared.sides.Edge.TheVariants.{Left, Right, Bottom, Top}
-use Rattle.rect_contacts.specs.declared.sides.Side.{Side}
-use Rattle.rect_contacts.specs.Rects.{rect_at}
-use Rattle.rect_contacts.specs.Contacts.{overlap, shared_beside, shared_upon, shared_stacked, shared_abreast, shared_length, IsSharedEdgeBy, IsSharedEdge}
-use Rattle.rect_contacts.specs.steps.Sides.{side_of, AreSidesOf, AreOpposite, Meet, IsMeeting}
+use Rattle.rect_contacts.proofs.Common.{◌≡◌, ◌≢◌, ℕ, ◌<◌, min, max, ℤ, pos, ◌+ℤ◌, ◌≤ℤ◌, ◌<ℤ◌, List, ◌++◌, ◌⊎◌, length, inl, inr, sym, ◌∙◌, ap, subst}
+use Rattle.rect_contacts.proofs.Common.{arith, All, cases_lt, ints, by_lt_z, Rect, IsProper, Lists, Lists-append, Lists-iff, Contact, Edge, Left}
+use Rattle.rect_contacts.proofs.Common.{Right, Bottom, Top, Side, rect_at, shared_length, IsSharedEdge, side_of, AreSidesOf, AreOpposite, Meet}
+use Rattle.rect_contacts.proofs.Common.{IsMeeting}
+use Rattle.rect_contacts.specs.Contacts.{overlap, shared_beside, shared_upon, shared_stacked, shared_abreast, IsSharedEdgeBy}
 use Rattle.rect_contacts.proofs.Intervals.{overlap-not_negative}
 use Rattle.rect_contacts.proofs.Shared.{shared_beside-cases, shared_upon-cases, shared_upon-not_negative, upon_not_beside, upon_not_beside_back}
 use Rattle.rect_contacts.proofs.Sorting.{side_owner}

@@ -1,22 +1,13 @@
 -- Regions whose members lie apart are made stacks, one for each member.
-use Rattle.std.proofs.Common.{◌≡◌, inl, inr, ℕ, ◌<◌, false, List, [], ◌∷◌, ◌++◌, get_or, map, refl, sym, ◌∙◌, ap, subst}
-use Rattle.std.specs.Prelude.{AllPairs}
+use Rattle.rect_overlays.proofs.Common.{◌≡◌, inl, inr, ℕ, ◌<◌, false, List, [], ◌∷◌, ◌++◌, get_or, map, refl, sym, ◌∙◌, ap, subst, AllPairs, In}
+use Rattle.rect_overlays.proofs.Common.{In-append_left, In-push, In-push_cases, Pairwise, AllPairs-from_Pairwise, Pairwise-from_AllPairs}
+use Rattle.rect_overlays.proofs.Common.{AllPairs-push, Square, Rect, common_rect, AreDisjoint, Covers, IsProper, IsProper-has_square, covers_first}
+use Rattle.rect_overlays.proofs.Common.{covers_second, covers_both, rect_at, Stack, Region, meets_at, IsRegion, AreApart, IsSplit, CoversAt}
 use Rattle.std.specs.List.{list_any}
-use Rattle.geo_core.specs.FiniteSets.Lists.{In}
-use Rattle.geo_core.proofs.FiniteSets.Members.{In-append_left, In-append_right, In-append_cases, In-map, In-map_source, In-push, In-push_cases, In-some}
-use Rattle.geo_core.proofs.FiniteSets.Pairs.{Pairwise, Pairwise-append, Pairwise-map, AllPairs-from_Pairwise, Pairwise-from_AllPairs, AllPairs-push, Pairwise-unmap}
+use Rattle.geo_core.proofs.FiniteSets.Members.{In-append_right, In-append_cases, In-map, In-map_source, In-some}
+use Rattle.geo_core.proofs.FiniteSets.Pairs.{Pairwise-append, Pairwise-map, Pairwise-unmap}
 use Rattle.geo_core.proofs.FiniteSets.Searches.{list_any-In}
-use Rattle.geo_core.specs.declared.squares.Square.{Square}
-use Rattle.geo_core.specs.declared.squares.Rect.{Rect}
-use Rattle.geo_core.specs.Areas.{common_rect, AreDisjoint}
-use Rattle.geo_core.specs.Covering.{Covers, IsProper}
-use Rattle.geo_core.proofs.CoveringLaws.{IsProper-has_square, covers_first, covers_second, covers_both}
-use Rattle.rect_contacts.specs.Rects.{rect_at}
-use Rattle.rect_overlays.specs.declared.stacks.Stack.{Stack}
-use Rattle.rect_overlays.specs.steps.Regions.{Region, meets_at, IsRegion}
-use Rattle.rect_overlays.specs.steps.Singles.{AreApart, single_of, contents_of}
-use Rattle.rect_overlays.specs.steps.Splits.{IsSplit}
-use Rattle.geo_core.specs.Covering.{CoversAt}
+use Rattle.rect_overlays.specs.steps.Singles.{single_of, contents_of}
 use Rattle.rect_overlays.specs.Stacks.{IsStack}
 use Rattle.rect_overlays.proofs.Lists.{AllPairs-front}
 use Rattle.rect_overlays.proofs.Parts.{square_meets, rect_at_covers, covered_at}

@@ -1,22 +1,12 @@
 -- The region of all rectangles of a list.
-use Rattle.std.proofs.Common.{◌≡◌, ◌≢◌, inl, inr, Bool, true, false, ℕ, ◌<◌, List, [], ◌∷◌, ◌++◌, length, cond, refl, sym, ◌∙◌, ap, subst}
-use Rattle.std.specs.Prelude.{AllPairs, filter}
-use Rattle.std.specs.List.{range_with_len}
-use Rattle.std.proofs.lemmas.List.Kept.{AllPairs-filter}
-use Rattle.geo_core.specs.FiniteSets.Lists.{In}
-use Rattle.geo_core.proofs.FiniteSets.Members.{In-push_cases, In-filter, In-filter_source, In-filter_passes}
-use Rattle.geo_core.specs.declared.squares.Square.{Square}
-use Rattle.geo_core.specs.declared.squares.Rect.{Rect}
-use Rattle.geo_core.specs.Areas.{joined_rect, corner_of}
-use Rattle.geo_core.specs.Covering.{Covers}
-use Rattle.geo_core.proofs.CornerLaws.{corner_covers}
-use Rattle.geo_core.proofs.CoveringLaws.{IsProper-has_square, has_square-IsProper, covers_joined_left, covers_joined_right, covers_is_proper}
-use Rattle.rect_contacts.specs.Rects.{rect_at}
+use Rattle.rect_overlays.proofs.Common.{◌≡◌, ◌≢◌, inl, inr, Bool, true, false, ℕ, ◌<◌, List, [], ◌∷◌, ◌++◌, length, cond, refl, sym, ◌∙◌, ap, subst}
+use Rattle.rect_overlays.proofs.Common.{AllPairs, filter, range_with_len, AllPairs-filter, In, In-push_cases, In-filter, In-filter_source}
+use Rattle.rect_overlays.proofs.Common.{In-filter_passes, Square, Rect, joined_rect, Covers, corner_covers, IsProper-has_square, has_square-IsProper}
+use Rattle.rect_overlays.proofs.Common.{covers_joined_left, covers_joined_right, covers_is_proper, rect_at, Part, Regions, Region, IsWholeOf}
+use Rattle.rect_overlays.proofs.Common.{IsRegion, Holds, CoversAt}
+use Rattle.geo_core.specs.Areas.{corner_of}
 use Rattle.rect_contacts.proofs.BothWays.{Lists-below}
-use Rattle.rect_overlays.specs.declared.regions.Part.{Part}
-use Rattle.rect_overlays.specs.declared.regions.Regions.{Regions}
-use Rattle.rect_overlays.specs.steps.Regions.{Region, has_square_at, IsWholeOf, IsRegion, IsBeginning, Holds, AddsGathered}
-use Rattle.geo_core.specs.Covering.{CoversAt}
+use Rattle.rect_overlays.specs.steps.Regions.{has_square_at, IsBeginning, AddsGathered}
 use Rattle.rect_overlays.proofs.Lists.{kept_more, some-In, range_rises}
 use Rattle.rect_overlays.proofs.Parts.{square_meets, rect_at_covers, at_is_below}
 use Rattle.rect_overlays.proofs.Held.{holds_more}

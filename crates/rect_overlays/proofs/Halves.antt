@@ -1,17 +1,11 @@
 -- Cutting an area in two: the sides along which a rectangle cuts it, and the halves.
-use Rattle.std.proofs.Common.{◌≡◌, ◌⊎◌, inl, inr, true, false, ◌≤ℤ◌, ◌<ℤ◌, arith}
-use Rattle.std.proofs.lemmas.Int.{ints, clamps}
+use Rattle.rect_overlays.proofs.Common.{◌≡◌, ◌⊎◌, inl, inr, true, false, ◌≤ℤ◌, ◌<ℤ◌, arith, ints, Square, Rect, common_rect, AreDisjoint, Covers}
+use Rattle.rect_overlays.proofs.Common.{IsProper, IsProper-has_square, has_square-IsProper, Cut, Column, Row, low_half, high_half, IsInside, meets}
+use Rattle.std.proofs.lemmas.Int.{clamps}
 use Rattle.std.specs.Cmp.{both_ways}
 use Rattle.geo_core.proofs.FiniteSets.Orders.{at_most_or_greater}
-use Rattle.geo_core.specs.declared.squares.Square.{Square}
-use Rattle.geo_core.specs.declared.squares.Rect.{Rect}
-use Rattle.geo_core.specs.Areas.{common_rect, AreDisjoint}
-use Rattle.geo_core.specs.Covering.{Covers, IsProper}
-use Rattle.geo_core.proofs.CoveringLaws.{IsProper-has_square, has_square-IsProper}
-use Rattle.rect_overlays.specs.declared.cuts.Cut.{Cut}
-use Rattle.rect_overlays.specs.declared.cuts.Cut.TheVariants.{Column, Row}
-use Rattle.rect_overlays.specs.steps.Cuts.{low_half, high_half, is_past_low, is_past_high, IsInside}
-use Rattle.rect_overlays.specs.steps.Regions.{meets, goes_round}
+use Rattle.rect_overlays.specs.steps.Cuts.{is_past_low, is_past_high}
+use Rattle.rect_overlays.specs.steps.Regions.{goes_round}
 
 -- where a rectangle begins above the lowest row of an area that it meets, its lower side cuts the area
 pub begins_inside : (area : Rect) (rect : Rect) → meets area rect ≡ true → area.ylo <ℤ rect.ylo → rect.ylo <ℤ area.yhi

@@ -1,16 +1,10 @@
 -- Regions that are kept as spans and members.
-use Rattle.std.proofs.Common.{◌≡◌, inl, inr, ℕ, ◌-◌, List, [], ◌∷◌, ◌++◌, length, map, take, drop, refl, sym, ◌∙◌, ap}
+use Rattle.rect_overlays.proofs.Common.{◌≡◌, inl, inr, ℕ, ◌-◌, List, [], ◌∷◌, ◌++◌, length, map, take, drop, refl, sym, ◌∙◌, ap, map-append, Rect}
+use Rattle.rect_overlays.proofs.Common.{Cut, Part, Regions, Span, low_half, high_half, Region, IsGathered, AddsPart, Holds, CutsInTwo}
 use Rattle.std.specs.List.{flat_map}
 use Rattle.std.proofs.lemmas.Grind.{flat_map-append}
-use Rattle.std.proofs.lemmas.List.{append-nil, map-append}
-use Rattle.geo_core.specs.declared.squares.Rect.{Rect}
-use Rattle.rect_overlays.specs.declared.cuts.Cut.{Cut}
-use Rattle.rect_overlays.specs.declared.regions.Part.{Part}
-use Rattle.rect_overlays.specs.declared.regions.Regions.{Regions}
-use Rattle.rect_overlays.specs.declared.regions.Span.{Span}
-use Rattle.rect_overlays.specs.steps.Cuts.{low_half, high_half}
-use Rattle.rect_overlays.specs.steps.Regions.{Region, span_of, members_of, IsGathered, AddsPart, Holds, AddsGathered}
-use Rattle.rect_overlays.specs.steps.Splits.{CutsInTwo}
+use Rattle.std.proofs.lemmas.List.{append-nil}
+use Rattle.rect_overlays.specs.steps.Regions.{span_of, members_of, AddsGathered}
 use Rattle.rect_overlays.proofs.Lists.{map_ends, last_are, front_is}
 use Rattle.rect_overlays.proofs.Parts.{gathered_is_part, none_is_there}
 

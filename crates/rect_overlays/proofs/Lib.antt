@@ -2,6 +2,7 @@
 pub use Rattle.rect_contacts.proofs as RectContacts
 mod Apart
 mod Begin
+mod Common
 mod Halves
 mod Held
 pub mod Lists

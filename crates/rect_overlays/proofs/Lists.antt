@@ -1,18 +1,14 @@
 -- Lists of indices and of regions.
-use Rattle.std.proofs.Common.{◌≡◌, ◌≢◌, inl, inr, Bool, true, false, ℕ, ◌+◌, ◌-◌, ◌<◌, List, [], ◌∷◌, ◌++◌, length, map, get_or, take, drop}
-use Rattle.std.proofs.Common.{Some, refl, ap, subst, cond, arith}
-use Rattle.std.specs.Prelude.{All, AllPairs, filter, find, not, None}
-use Rattle.std.specs.List.{range_with_len}
+use Rattle.rect_overlays.proofs.Common.{◌≡◌, ◌≢◌, inl, inr, Bool, true, false, ℕ, ◌+◌, ◌-◌, ◌<◌, List, [], ◌∷◌, ◌++◌, length, map, get_or, take}
+use Rattle.rect_overlays.proofs.Common.{drop, refl, ap, subst, cond, arith, All, AllPairs, filter, range_with_len, In, In-append_left, In-push}
+use Rattle.rect_overlays.proofs.Common.{Pairwise, AllPairs-from_Pairwise, Pairwise-from_AllPairs, Rect, AllMeet, AllGoRound, meets_at, goes_round_at}
+use Rattle.std.proofs.Common.{Some}
+use Rattle.std.specs.Prelude.{find, not, None}
 use Rattle.std.proofs.Math.Seq.{drop-append_seam, take-append_seam}
 use Rattle.std.proofs.lemmas.List.{length-append}
 use Rattle.std.proofs.lemmas.List.Elements.{filter-append}
 use Rattle.std.proofs.lemmas.List.FromFn.{length-range_with_len, get_or-range_with_len}
-use Rattle.geo_core.specs.FiniteSets.Lists.{In}
-use Rattle.geo_core.proofs.FiniteSets.Members.{In-append_left, In-push}
-use Rattle.geo_core.proofs.FiniteSets.Pairs.{Pairwise, AllPairs-from_Pairwise, Pairwise-from_AllPairs}
 use Rattle.geo_core.proofs.FiniteSets.Searches.{find-In, find-passes, find-none, All-In}
-use Rattle.geo_core.specs.declared.squares.Rect.{Rect}
-use Rattle.rect_overlays.specs.steps.Regions.{AllMeet, AllGoRound, meets_at, goes_round_at}
 
 Pairwise-front : {X : Type 0} (R : X → X → Type 0) (xs : List X) (y : X) → Pairwise R (xs ++ y ∷ []) → Pairwise R xs × ((x : X) → In x xs → R x y)
 Pairwise-front R [] y h = (tt, λ x i. absurd i)

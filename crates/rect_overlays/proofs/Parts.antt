@@ -1,24 +1,15 @@
 -- What rectangles have of an area, and the regions that it makes.
-use Rattle.std.proofs.Common.{◌≡◌, ◌≢◌, ◌⊎◌, inl, inr, Bool, true, false, ℕ, ◌<◌, ◌<ℤ◌, List, [], ◌∷◌, ◌++◌, length, refl, sym, ◌∙◌, ap, subst}
-use Rattle.std.proofs.Common.{cond, arith}
-use Rattle.std.specs.Prelude.{AllPairs, filter}
-use Rattle.std.proofs.lemmas.Int.{ints}
-use Rattle.std.proofs.lemmas.List.Kept.{AllPairs-filter}
+use Rattle.rect_overlays.proofs.Common.{◌≡◌, ◌≢◌, ◌⊎◌, inl, inr, Bool, true, false, ℕ, ◌<◌, ◌<ℤ◌, List, [], ◌∷◌, ◌++◌, length, refl, sym, ◌∙◌, ap}
+use Rattle.rect_overlays.proofs.Common.{subst, cond, arith, AllPairs, filter, ints, AllPairs-filter, In, In-append_left, In-push, In-push_cases}
+use Rattle.rect_overlays.proofs.Common.{In-filter, In-filter_source, In-filter_passes, AllPairs-push, Square, Rect, common_rect, joined_rect}
+use Rattle.rect_overlays.proofs.Common.{AreDisjoint, LiesWithin, Covers, IsProper, corner_covers, IsProper-has_square, has_square-IsProper}
+use Rattle.rect_overlays.proofs.Common.{covers_first, covers_second, covers_both, covers_is_proper, covers_joined_left, covers_joined_right, rect_at}
+use Rattle.rect_overlays.proofs.Common.{Part, Region, meets, meets_at, IsGathered, AddsPart, IsRegion, CoversAt}
 use Rattle.std.proofs.lemmas.Option.{slice_get-get_or, slice_get_within, get_or_from_slice_get}
-use Rattle.geo_core.specs.FiniteSets.Lists.{In}
-use Rattle.geo_core.proofs.FiniteSets.Members.{In-append_left, In-push, In-push_cases, In-filter, In-filter_source, In-filter_passes}
-use Rattle.geo_core.proofs.FiniteSets.Pairs.{AllPairs-push}
-use Rattle.geo_core.specs.declared.squares.Square.{Square}
-use Rattle.geo_core.specs.declared.squares.Rect.{Rect}
-use Rattle.geo_core.specs.Areas.{common_rect, joined_rect, AreDisjoint, LiesWithin}
-use Rattle.geo_core.specs.Covering.{Covers, IsProper}
-use Rattle.geo_core.proofs.CornerLaws.{corner_covers}
-use Rattle.geo_core.proofs.CoveringLaws.{IsProper-has_square, has_square-IsProper, covers_first, covers_second, covers_both, within_covers, covers_is_proper}
-use Rattle.geo_core.proofs.CoveringLaws.{covers_joined_left, covers_joined_right, joined_within, common_within}
-use Rattle.rect_contacts.specs.Rects.{no_rect, rect_at}
-use Rattle.rect_overlays.specs.declared.regions.Part.{Part}
-use Rattle.rect_overlays.specs.steps.Regions.{Region, meets, meets_at, turned_over, IsHull, IsGathered, IsPart, AddsPart, Knows, IsRegion}
-use Rattle.geo_core.specs.Covering.{CoversAt}
+use Rattle.geo_core.proofs.CoveringLaws.{within_covers}
+use Rattle.geo_core.proofs.CoveringLaws.{joined_within, common_within}
+use Rattle.rect_contacts.specs.Rects.{no_rect}
+use Rattle.rect_overlays.specs.steps.Regions.{turned_over, IsHull, IsPart, Knows}
 use Rattle.rect_overlays.proofs.Lists.{kept_more, some-In}
 
 -- the area turned over goes nowhere past it

@@ -1,20 +1,8 @@
 -- The stacks and the regions stay apart and have all that is covered, as a region is made a stack or cut in two.
-use Rattle.std.proofs.Common.{◌≡◌, ◌≢◌, ◌⊎◌, inl, inr, ℕ, ◌<◌, List, [], ◌∷◌, ◌++◌, refl, sym, subst, arith}
-use Rattle.std.specs.Prelude.{AllPairs}
-use Rattle.geo_core.specs.FiniteSets.Lists.{In}
-use Rattle.geo_core.proofs.FiniteSets.Members.{In-append_left, In-push, In-push_cases}
-use Rattle.geo_core.proofs.FiniteSets.Pairs.{AllPairs-push}
-use Rattle.geo_core.specs.declared.squares.Square.{Square}
-use Rattle.geo_core.specs.declared.squares.Rect.{Rect}
-use Rattle.geo_core.specs.Areas.{AreDisjoint}
-use Rattle.geo_core.specs.Covering.{Covers, IsProper}
-use Rattle.rect_contacts.specs.Rects.{rect_at}
-use Rattle.rect_overlays.specs.declared.cuts.Cut.{Cut}
-use Rattle.rect_overlays.specs.declared.stacks.Stack.{Stack}
-use Rattle.rect_overlays.specs.steps.Cuts.{low_half, high_half, IsInside}
-use Rattle.rect_overlays.specs.steps.Regions.{Region, IsPart, AddsPart, IsRegion, IsWhole}
-use Rattle.rect_overlays.specs.steps.Splits.{IsMade, AddsHalves, IsSplit}
-use Rattle.geo_core.specs.Covering.{CoversAt}
+use Rattle.rect_overlays.proofs.Common.{◌≡◌, ◌≢◌, ◌⊎◌, inl, inr, ℕ, ◌<◌, List, [], ◌∷◌, ◌++◌, refl, sym, subst, arith, AllPairs, In, In-append_left}
+use Rattle.rect_overlays.proofs.Common.{In-push, In-push_cases, AllPairs-push, Square, Rect, AreDisjoint, Covers, IsProper, rect_at, Cut, Stack}
+use Rattle.rect_overlays.proofs.Common.{low_half, high_half, IsInside, Region, AddsPart, IsRegion, IsMade, AddsHalves, IsSplit, CoversAt}
+use Rattle.rect_overlays.specs.steps.Regions.{IsPart, IsWhole}
 use Rattle.rect_overlays.specs.Stacks.{IsStack, AreStacks}
 use Rattle.rect_overlays.proofs.Halves.{round_covers, low_covers, high_covers, in_one_half, halves_are_apart}
 use Rattle.rect_overlays.proofs.Lists.{AllPairs-front}

@@ -1,16 +1,9 @@
 -- What is known of a region that is taken off.
-use Rattle.std.proofs.Common.{Vec, Global, ◌≡◌, ℕ, ◌-◌, ◌<◌, List, [], ◌∷◌, ◌++◌, length, take, drop, refl, sym, ◌∙◌, ap, subst}
-use Rattle.std.specs.Prelude.{All}
+use Rattle.rect_overlays.proofs.Common.{◌≡◌, ℕ, ◌-◌, ◌<◌, List, [], ◌∷◌, ◌++◌, length, take, drop, refl, sym, ◌∙◌, ap, subst, All, Rect, Cut}
+use Rattle.rect_overlays.proofs.Common.{Regions, Span, Stack, IsInside, Region, Holds, IsRegion, AreApart, AddsSingles, CutsInTwo, IsMade, IsSplit}
+use Rattle.rect_overlays.proofs.Common.{IsSplitWith}
+use Rattle.std.proofs.Common.{Vec, Global}
 use Rattle.geo_core.proofs.FiniteSets.Searches.{All-from_In}
-use Rattle.geo_core.specs.declared.squares.Rect.{Rect}
-use Rattle.rect_overlays.specs.declared.cuts.Cut.{Cut}
-use Rattle.rect_overlays.specs.declared.regions.Regions.{Regions}
-use Rattle.rect_overlays.specs.declared.regions.Span.{Span}
-use Rattle.rect_overlays.specs.declared.stacks.Stack.{Stack}
-use Rattle.rect_overlays.specs.steps.Cuts.{IsInside}
-use Rattle.rect_overlays.specs.steps.Regions.{Region, Holds, IsRegion}
-use Rattle.rect_overlays.specs.steps.Singles.{AreApart, AddsSingles}
-use Rattle.rect_overlays.specs.steps.Splits.{CutsInTwo, IsMade, IsSplit, IsSplitWith}
 use Rattle.rect_overlays.proofs.Apart.{singles_keep}
 use Rattle.rect_overlays.proofs.Held.{last_is_taken}
 use Rattle.rect_overlays.proofs.Splitting.{last_is_region, finish_keeps, cut_keeps}

@@ -1,22 +1,14 @@
 -- How much there is left to do: it falls as a region is made a stack or cut in two.
-use Rattle.std.proofs.Common.{◌≡◌, inl, inr, ℕ, ◌+◌, ◌-◌, ◌*◌, ◌<◌, ◌≤◌, ℤ, ◌≤ℤ◌, ◌<ℤ◌, List, [], ◌∷◌, ◌++◌, map, ◌∙◌, ap, arith}
+use Rattle.rect_overlays.proofs.Common.{◌≡◌, inl, inr, ℕ, ◌+◌, ◌-◌, ◌<◌, ◌≤ℤ◌, ◌<ℤ◌, List, [], ◌∷◌, ◌++◌, map, ◌∙◌, ap, arith, ints, map-append}
+use Rattle.rect_overlays.proofs.Common.{Rect, LiesWithin, IsProper, Cut, Column, Row, Regions, Span, low_half, high_half, IsInside, Region, AddsPart}
+use Rattle.rect_overlays.proofs.Common.{Holds, AddsHalves, CutsInTwo}
+use Rattle.std.proofs.Common.{◌*◌, ◌≤◌, ℤ}
 use Rattle.std.specs.Prelude.{sum_by}
-use Rattle.std.proofs.lemmas.Int.{ints}
-use Rattle.std.proofs.lemmas.List.{map-append}
 use Rattle.std.proofs.lemmas.List.Sums.{sum_by-append, sum_by-cons}
 use Rattle.std.proofs.lemmas.Nat.{mul-le}
 use Rattle.geo_core.specs.FiniteSets.Range.{extent}
 use Rattle.geo_core.proofs.FiniteSets.Ranges.{extent_up}
-use Rattle.geo_core.specs.declared.squares.Rect.{Rect}
-use Rattle.geo_core.specs.Areas.{LiesWithin}
-use Rattle.geo_core.specs.Covering.{IsProper}
-use Rattle.rect_overlays.specs.declared.cuts.Cut.{Cut}
-use Rattle.rect_overlays.specs.declared.cuts.Cut.TheVariants.{Column, Row}
-use Rattle.rect_overlays.specs.declared.regions.Regions.{Regions}
-use Rattle.rect_overlays.specs.declared.regions.Span.{Span}
-use Rattle.rect_overlays.specs.steps.Cuts.{low_half, high_half, IsInside}
-use Rattle.rect_overlays.specs.steps.Regions.{Region, span_of, IsPart, AddsPart, Holds}
-use Rattle.rect_overlays.specs.steps.Splits.{AddsHalves, CutsInTwo}
+use Rattle.rect_overlays.specs.steps.Regions.{span_of, IsPart}
 use Rattle.rect_overlays.proofs.Halves.{low_is_proper, high_is_proper}
 
 -- how many squares an area has

@@ -1,18 +1,14 @@
 -- What goes round both sides of a fork has a square in each area in which one of their rectangles has one.
-use Rattle.std.proofs.Common.{◌≡◌, ℕ, false, List, [], ◌∷◌, ◌++◌, None, inl, inr, filter, find, cond, sym, ◌∙◌, ap, subst, arith}
-use Rattle.std.proofs.lemmas.Bool.{cases_Bool, false≢true}
-use Rattle.std.proofs.lemmas.Int.{ints, clamps}
+use Rattle.rect_trees.proofs.Common.{◌≡◌, ℕ, false, List, [], ◌∷◌, ◌++◌, None, inl, inr, filter, find, sym, ◌∙◌, ap, subst, arith, false≢true, ints}
+use Rattle.rect_trees.proofs.Common.{clamps, In, Rect, common_rect, has_square, IsProper, IsProper-has_square, has_square-IsProper, Node, meets_at}
+use Rattle.rect_trees.proofs.Common.{positions_of, hull_of, AreHulls}
+use Rattle.std.proofs.Common.{cond}
+use Rattle.std.proofs.lemmas.Bool.{cases_Bool}
 use Rattle.std.proofs.lemmas.List.Elements.{filter-append}
-use Rattle.geo_core.specs.FiniteSets.Lists.{In}
 use Rattle.geo_core.proofs.FiniteSets.Members.{In-filter}
 use Rattle.geo_core.proofs.FiniteSets.Searches.{none_found}
-use Rattle.geo_core.specs.declared.squares.Rect.{Rect}
-use Rattle.geo_core.specs.Areas.{common_rect, has_square, joined_rect}
-use Rattle.geo_core.specs.Covering.{IsProper}
-use Rattle.geo_core.proofs.CoveringLaws.{IsProper-has_square, has_square-IsProper}
-use Rattle.rect_trees.specs.declared.nodes.Node.{Node, Leaf, Fork'}
-use Rattle.rect_trees.specs.Positions.{meets_at}
-use Rattle.rect_trees.specs.Nodes.{positions_of, hull_of, AreHulls}
+use Rattle.geo_core.specs.Areas.{joined_rect}
+use Rattle.rect_trees.specs.declared.nodes.Node.{Leaf, Fork'}
 
 -- an area that has a square of a rectangle has one of what goes round it and another
 left_in_joined : (a b area : Rect) → IsProper (common_rect a area) → IsProper (common_rect (joined_rect a b) area)

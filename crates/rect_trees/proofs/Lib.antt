@@ -1,3 +1,4 @@
+mod Common
 mod PlaceLaws
 mod HullLaws
 mod MeetingLaws

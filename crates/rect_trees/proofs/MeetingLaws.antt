@@ -1,27 +1,20 @@
 -- What a search of a tree finds, in order.
-use Rattle.std.proofs.Common.{◌≡◌, ◌≢◌, ℕ, ◌<◌, ◌≤◌, false, List, Some, None, inl, inr, filter, find, length, get_or, sym, ◌∙◌, ap, subst, arith}
-use Rattle.std.specs.Prelude.{AllPairs, IsPermutation, IsSorted, Option, slice_get}
-use Rattle.std.proofs.lemmas.Bool.{false≢true}
+use Rattle.rect_trees.proofs.Common.{◌≡◌, ◌≢◌, ℕ, ◌<◌, ◌≤◌, false, List, Some, None, inl, inr, filter, find, length, get_or, sym, ◌∙◌, ap, subst}
+use Rattle.rect_trees.proofs.Common.{arith, Option, false≢true, ints, clamps, In, Distinct, Rect, common_rect, IsProper, IsProper-has_square}
+use Rattle.rect_trees.proofs.Common.{has_square-IsProper, Node, rect_at, meets_at, HasSquareAt, root_positions, IsRoot, AreMeeting}
+use Rattle.std.specs.Prelude.{AllPairs, IsPermutation, IsSorted, slice_get}
 use Rattle.std.specs.Ordering.{nat_cmp}
 use Rattle.std.proofs.lemmas.Cmp.{nat_cmp_total}
-use Rattle.std.proofs.lemmas.Int.{ints, clamps}
 use Rattle.std.proofs.lemmas.Option.{slice_get-get_or, slice_get_within, get_or_from_slice_get}
 use Rattle.std.proofs.lemmas.List.Sorted.{IsPermutation-sym}
 use Rattle.std.proofs.lemmas.Map.Keys.{ge_from_not_lt}
-use Rattle.geo_core.specs.FiniteSets.Lists.{In, Distinct}
 use Rattle.geo_core.proofs.FiniteSets.Members.{In-permutation, In-filter, In-filter_source, In-filter_passes, In-get_or, In-index}
 use Rattle.geo_core.proofs.FiniteSets.Searches.{find-In, find-passes, find-none}
 use Rattle.geo_core.proofs.FiniteSets.Distincts.{Distinct-places, Distinct-filter}
 use Rattle.geo_core.proofs.FiniteSets.Orders.{IsSorted-pairs}
 use Rattle.geo_core.proofs.FiniteSets.Images.{Distinct-permutation}
-use Rattle.geo_core.specs.declared.squares.Rect.{Rect}
-use Rattle.geo_core.specs.Areas.{common_rect}
-use Rattle.geo_core.specs.Covering.{IsProper}
-use Rattle.geo_core.proofs.CoveringLaws.{IsProper-has_square, has_square-IsProper}
-use Rattle.rect_trees.specs.declared.nodes.Node.{Node}
-use Rattle.rect_trees.specs.Positions.{no_rect, rect_at, meets_at, HasSquareAt}
-use Rattle.rect_trees.specs.Nodes.{root_positions, IsRoot}
-use Rattle.rect_trees.specs.Meetings.{MeetsAt, AreMeeting, IsMeeting, MissesAll}
+use Rattle.rect_trees.specs.Positions.{no_rect}
+use Rattle.rect_trees.specs.Meetings.{MeetsAt, IsMeeting, MissesAll}
 
 -- a rectangle that has a square in an area has a square
 first_proper : (a area : Rect) → IsProper (common_rect a area) → IsProper a

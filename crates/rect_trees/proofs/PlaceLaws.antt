@@ -1,20 +1,15 @@
 -- Places of the rectangles that have squares, as they are found and as they are sorted.
-use Rattle.std.proofs.Common.{◌≡◌, ◌≢◌, ℕ, ◌+◌, ◌-◌, ◌<◌, ◌≤◌, true, false, List, [], ◌∷◌, ◌++◌, ◌⊎◌, inl, inr, map, length, get_or}
-use Rattle.std.proofs.Common.{take, drop, length-drop, sym, ◌∙◌, ap, subst, arith}
+use Rattle.rect_trees.proofs.Common.{◌≡◌, ◌≢◌, ℕ, ◌<◌, ◌≤◌, false, List, [], ◌∷◌, ◌++◌, inl, inr, map, length, get_or, take, sym, ◌∙◌, ap, subst}
+use Rattle.rect_trees.proofs.Common.{arith, false≢true, Distinct, Lists, Rect, has_square, IsProper, IsProper-has_square, has_square-IsProper, Place}
+use Rattle.rect_trees.proofs.Common.{rect_at, HasSquareAt, position_of, ArePlaces}
+use Rattle.std.proofs.Common.{◌+◌, ◌-◌, true, ◌⊎◌}
+use Rattle.std.proofs.Common.{drop, length-drop}
 use Rattle.std.specs.Prelude.{All, IsPermutation}
-use Rattle.std.proofs.lemmas.Bool.{false≢true}
 use Rattle.std.proofs.lemmas.List.{map-append, take_all, take-append-drop}
 use Rattle.std.proofs.lemmas.List.Sorted.{IsPermutation-sym, IsPermutation-map}
-use Rattle.geo_core.specs.FiniteSets.Lists.{Distinct, Lists}
 use Rattle.geo_core.proofs.FiniteSets.Members.{In-permutation, In-map, In-get_or}
 use Rattle.geo_core.proofs.FiniteSets.Listings.{Lists-none, Lists-one, Lists-append, Lists-iff}
 use Rattle.geo_core.proofs.FiniteSets.Images.{Distinct-permutation}
-use Rattle.geo_core.specs.declared.squares.Rect.{Rect}
-use Rattle.geo_core.specs.Areas.{has_square}
-use Rattle.geo_core.specs.Covering.{IsProper}
-use Rattle.geo_core.proofs.CoveringLaws.{IsProper-has_square, has_square-IsProper}
-use Rattle.rect_trees.specs.declared.places.Place.{Place}
-use Rattle.rect_trees.specs.Positions.{rect_at, HasSquareAt, position_of, ArePlaces}
 
 -- the list of a set, in another order
 pub Lists-permutation : {X : Type 0} (P : X → Type 0) (xs ys : List X) → IsPermutation xs ys → Lists P xs → Lists P ys

@@ -1,11 +1,6 @@
 -- The tree of places of the rectangles that have squares has those rectangles.
-use Rattle.std.proofs.Common.{◌≡◌, List, [], ◌∷◌, Some, None, map, length, sym, subst}
-use Rattle.geo_core.specs.FiniteSets.Lists.{Lists}
-use Rattle.geo_core.specs.declared.squares.Rect.{Rect}
-use Rattle.rect_trees.specs.declared.nodes.Node.{Node}
-use Rattle.rect_trees.specs.declared.places.Place.{Place}
-use Rattle.rect_trees.specs.Positions.{HasSquareAt, position_of, ArePlaces}
-use Rattle.rect_trees.specs.Nodes.{positions_of, AreHulls, IsRoot}
+use Rattle.rect_trees.proofs.Common.{◌≡◌, List, [], ◌∷◌, Some, None, map, length, sym, subst, Lists, Rect, Node, Place, HasSquareAt, position_of}
+use Rattle.rect_trees.proofs.Common.{ArePlaces, positions_of, AreHulls, IsRoot}
 
 -- there is no tree where there is no place
 pub no_root : (rects : List Rect) (places : List Place) → length places ≡ 0 → ArePlaces rects places → IsRoot rects None

@@ -1,27 +1,13 @@
 -- The rows of a span, and the rows where they are replaced.
-use Rattle.std.proofs.Common.{◌≡◌, ◌⊎◌, inl, inr, ℕ, ◌+◌, ◌-◌, ◌≤◌, ℤ, pos, ◌≤ℤ◌, ◌<ℤ◌, ◌-ℤ◌, List, [], ◌∷◌}
-use Rattle.std.proofs.Common.{◌++◌, length, take, drop, get_or, refl, sym, ◌∙◌, ap, subst, arith, ◌^◌}
-use Rattle.std.specs.Prelude.{All, slice_range}
-use Rattle.std.specs.declared.ops.Range.{Range}
-use Rattle.std.proofs.lemmas.Bool.{cases_lt}
-use Rattle.std.proofs.lemmas.Int.{ints}
-use Rattle.std.proofs.lemmas.List.{drop-drop, drop-take, get_or-take, get_or-drop, length-take, length-drop}
-use Rattle.finite_sets.specs.Lists.{In}
-use Rattle.finite_sets.proofs.Members.{In-get_or, In-append_left, In-append_right, In-append_cases}
-use Rattle.finite_sets.proofs.Orders.{at_most_or_greater}
-use Rattle.finite_sets.proofs.Searches.{All-In}
+use Rattle.run_plane.proofs.Common.{◌≡◌, ◌⊎◌, inl, inr, ℕ, ◌+◌, ◌-◌, ◌≤◌, ℤ, pos, ◌≤ℤ◌, ◌<ℤ◌, ◌-ℤ◌, List, [], ◌∷◌, ◌++◌, length, take, drop, get_or}
+use Rattle.run_plane.proofs.Common.{refl, sym, ◌∙◌, ap, subst, arith, ◌^◌, All, Range, cases_lt, ints, get_or-take, get_or-drop, length-take}
+use Rattle.run_plane.proofs.Common.{length-drop, In, In-get_or, In-append_left, In-append_right, In-append_cases, at_most_or_greater, All-In}
+use Rattle.run_plane.proofs.Common.{PLANE_EDGE, Square, Piece, IsNear, IsSmall, Covers, IsProper, AreSet, Run, Row, value_at, number_at, top_runs}
+use Rattle.run_plane.proofs.Common.{edge, AreRising, AreRows, square_at, Spans, AreAbove, AreHeights, AreRowsFor, replaced}
+use Rattle.std.specs.Prelude.{slice_range}
+use Rattle.std.proofs.lemmas.List.{drop-drop, drop-take}
 use Rattle.finite_sets.proofs.Places.{In-take, In-drop, In-take_drop}
-use Rattle.geo_core.specs.declared.limits.TheConstants.{PLANE_EDGE}
-use Rattle.geo_core.specs.declared.squares.Square.{Square}
-use Rattle.geo_core.specs.declared.squares.Piece.{Piece}
-use Rattle.geo_core.specs.Areas.{IsNear, IsSmall}
-use Rattle.geo_core.specs.Covering.{Covers, IsProper}
-use Rattle.geo_core.specs.Planes.{AreSet}
-use Rattle.run_plane.specs.declared.runs.Run.{Run}
-use Rattle.run_plane.specs.declared.rows.Row.{Row}
-use Rattle.run_plane.specs.Rows.{value_at, number_at, top_runs, edge, AreRising, AreRows}
-use Rattle.run_plane.specs.steps.Changes.{square_at, IsRowWith, Spans, IsBand, AreAbove, AreHeights, AreRowsFor}
-use Rattle.run_plane.specs.Contents.{replaced}
+use Rattle.run_plane.specs.steps.Changes.{IsRowWith, IsBand}
 use Rattle.run_plane.proofs.RowLaws.{runs_stop, runs_top, runs_own, row_above, row_facts, rising_from, rising_take, rising_drop, rising_append}
 use Rattle.run_plane.proofs.ChangeLaws.{IsRight, HasCritical, all_right}
 

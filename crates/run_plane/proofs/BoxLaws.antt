@@ -1,27 +1,12 @@
 -- The smallest rectangle that covers all squares with a number, row after row.
-use Rattle.std.proofs.Common.{◌≡◌, ◌≢◌, ◌⊎◌, inl, inr, ℕ, zero, suc, ◌+◌, ◌-◌, ◌<◌, ◌≤◌, ℤ, pos, ◌+ℤ◌, ◌-ℤ◌, ◌≤ℤ◌, ◌<ℤ◌}
-use Rattle.std.proofs.Common.{List, [], ◌∷◌, length, get_or, refl, sym, ◌∙◌, ap, subst, arith, ◌^◌, Option, Some, None}
-use Rattle.std.specs.Prelude.{MatchOption, slice_get}
-use Rattle.std.proofs.lemmas.Bool.{cases_lt}
-use Rattle.std.proofs.lemmas.Int.{ints}
+use Rattle.run_plane.proofs.Common.{◌≡◌, ◌≢◌, ◌⊎◌, inl, inr, ℕ, zero, suc, ◌+◌, ◌-◌, ◌<◌, ◌≤◌, ℤ, pos, ◌+ℤ◌, ◌-ℤ◌, ◌≤ℤ◌, ◌<ℤ◌, List, [], ◌∷◌, length}
+use Rattle.run_plane.proofs.Common.{get_or, refl, sym, ◌∙◌, ap, subst, arith, ◌^◌, Option, Some, None, MatchOption, cases_lt, ints, In, In-get_or}
+use Rattle.run_plane.proofs.Common.{at_most_or_greater, PLANE_EDGE, Square, Rect, IsNear, Covers, HasValue, IsBox, IsStrip, Run, Row, value_at}
+use Rattle.run_plane.proofs.Common.{runs_from, number_at, edge, AreRuns, AreRows, square_at, joined_rect, no_row, IsRowBox}
+use Rattle.std.specs.Prelude.{slice_get}
 use Rattle.std.proofs.lemmas.Option.{slice_get_within, get_or_from_slice_get}
-use Rattle.finite_sets.specs.Lists.{In}
-use Rattle.finite_sets.proofs.Members.{In-get_or}
-use Rattle.finite_sets.proofs.Orders.{at_most_or_greater}
-use Rattle.geo_core.specs.declared.limits.TheConstants.{PLANE_EDGE}
-use Rattle.geo_core.specs.declared.squares.Square.{Square}
-use Rattle.geo_core.specs.declared.squares.Rect.{Rect}
-use Rattle.geo_core.specs.Areas.{IsNear, LiesWithin}
-use Rattle.geo_core.specs.Covering.{Covers}
-use Rattle.geo_core.specs.Planes.{HasValue, IsBox}
-use Rattle.geo_core.specs.Strips.{IsStrip}
-use Rattle.run_plane.specs.declared.runs.Run.{Run}
-use Rattle.run_plane.specs.declared.rows.Row.{Row}
-use Rattle.run_plane.specs.Rows.{value_at, runs_from, number_at, edge, AreRuns, AreRows}
-use Rattle.run_plane.specs.steps.Changes.{square_at}
-use Rattle.geo_core.specs.Areas.{joined_rect}
+use Rattle.geo_core.specs.Areas.{LiesWithin}
 use Rattle.geo_core.proofs.CoveringLaws.{covers_joined_left, covers_joined_right, joined_within}
-use Rattle.run_plane.specs.steps.Listings.{no_row, IsRowBox}
 use Rattle.run_plane.proofs.RunLaws.{value_of_run, run_of_value, run_facts}
 use Rattle.run_plane.proofs.BandLaws.{number_high}
 use Rattle.run_plane.proofs.RowLaws.{runs_stop, runs_top, runs_ordered, row_above, row_facts, rising_next, all_above}

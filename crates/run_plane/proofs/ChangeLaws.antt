@@ -1,14 +1,7 @@
 -- Rows that are right at each height where something begins or ends are right everywhere.
-use Rattle.std.proofs.Common.{◌≡◌, ◌⊎◌, inl, inr, ℕ, ℤ, ◌≤ℤ◌, ◌<ℤ◌, List, [], ◌∷◌, refl, sym, ◌∙◌, ap, subst, arith}
-use Rattle.std.proofs.lemmas.Int.{ints}
-use Rattle.finite_sets.specs.Lists.{In}
-use Rattle.finite_sets.proofs.Orders.{at_most_or_greater}
-use Rattle.geo_core.specs.declared.squares.Piece.{Piece}
-use Rattle.geo_core.specs.Covering.{Covers}
-use Rattle.run_plane.specs.declared.runs.Run.{Run}
-use Rattle.run_plane.specs.declared.rows.Row.{Row}
-use Rattle.run_plane.specs.Rows.{value_at, runs_from, number_at, AreRising}
-use Rattle.run_plane.specs.steps.Changes.{square_at, IsSetTo, HasEdgeAt}
+use Rattle.run_plane.proofs.Common.{◌≡◌, ◌⊎◌, inl, inr, ℕ, ℤ, ◌≤ℤ◌, ◌<ℤ◌, List, [], ◌∷◌, refl, sym, ◌∙◌, ap, subst, arith, ints, In}
+use Rattle.run_plane.proofs.Common.{at_most_or_greater, Piece, Covers, Run, Row, value_at, runs_from, number_at, AreRising, square_at}
+use Rattle.run_plane.specs.steps.Changes.{IsSetTo, HasEdgeAt}
 use Rattle.run_plane.proofs.RowLaws.{runs_in, runs_under, runs_between, row_above}
 
 module _ (rows : List Row) (pieces : List Piece) where

@@ -1,10 +1,9 @@
 -- The rows after a commit: two turns of the list put the new rows in their place.
-use Rattle.std.proofs.Common.{◌≡◌, ℕ, ◌+◌, ◌-◌, ◌≤◌, List, ◌++◌, length, take, drop, ◌∙◌, ap, append_assoc, arith}
+use Rattle.run_plane.proofs.Common.{◌≡◌, ℕ, ◌+◌, ◌-◌, ◌≤◌, List, ◌++◌, length, take, drop, ◌∙◌, ap, append_assoc, arith, length-drop, Row, replaced}
 use Rattle.std.proofs.Math.Seq.{take-append-add, take-append_seam, drop-append_seam}
-use Rattle.std.proofs.lemmas.List.{length-drop, take-take}
-use Rattle.run_plane.specs.declared.rows.Row.{Row}
+use Rattle.std.proofs.lemmas.List.{take-take}
 use Rattle.run_plane.specs.declared.changes.Change.{Change}
-use Rattle.run_plane.specs.Contents.{replaced, IsNoChange}
+use Rattle.run_plane.specs.Contents.{IsNoChange}
 
 -- rows cut, joined and appended are the rows replaced
 pub committed : (rows others turned cut joined after : List Row) (from until above : ℕ) → from ≤ until → until ≤ length rows → above ≡ length rows - until

@@ -1,19 +1,16 @@
 -- Sorted heights, each once.
-use Rattle.std.proofs.Common.{◌≡◌, inl, inr, ℤ, ◌<ℤ◌, List, [], ◌∷◌, ◌++◌, map, refl, sym, subst, arith}
+use Rattle.run_plane.proofs.Common.{◌≡◌, inl, inr, ℤ, ◌<ℤ◌, List, [], ◌∷◌, ◌++◌, map, refl, sym, subst, arith, ints, Contains-permutation}
+use Rattle.run_plane.proofs.Common.{IsPermutation-sym, In, In-map, In-map_source, In-append_left, In-append_right, In-append_cases, Piece, Row}
+use Rattle.run_plane.proofs.Common.{AreAbove, AreHeights}
 use Rattle.std.specs.Prelude.{IsPermutation, IsSorted}
 use Rattle.std.specs.List.{dedup, AllByRecursion}
 use Rattle.std.specs.List.Sorted.{IsStrictlySortedBy}
 use Rattle.std.specs.Ordering.{int_cmp, int_eq}
 use Rattle.std.specs.declared.cmp.Ordering.TheVariants.{Less}
 use Rattle.std.proofs.lemmas.Cmp.{int_cmp_total, int_eq_equiv, int_ranked}
-use Rattle.std.proofs.lemmas.Int.{ints}
 use Rattle.std.proofs.lemmas.List.Kept.{Contains-dedup, Contains-from_dedup, IsStrictlySortedBy-dedup}
-use Rattle.std.proofs.lemmas.List.Sorted.{Contains-permutation, IsPermutation-sym}
-use Rattle.finite_sets.specs.Lists.{In}
-use Rattle.finite_sets.proofs.Members.{Contains-from_In, In-from_Contains, In-map, In-map_source, In-append_left, In-append_right, In-append_cases}
-use Rattle.geo_core.specs.declared.squares.Piece.{Piece}
-use Rattle.run_plane.specs.declared.rows.Row.{Row}
-use Rattle.run_plane.specs.steps.Changes.{AreAbove, all_heights, AreHeights}
+use Rattle.finite_sets.proofs.Members.{Contains-from_In, In-from_Contains}
+use Rattle.run_plane.specs.steps.Changes.{all_heights}
 
 strict_above : (low : ℤ) (heights : List ℤ) → IsStrictlySortedBy int_cmp heights → ((height : ℤ) → In height heights → low <ℤ height) → AreAbove low heights
 unfolding IsStrictlySortedBy

@@ -2,6 +2,7 @@ mod BandLaws
 mod BoxLaws
 mod ChangeLaws
 mod CommitLaws
+mod Common
 mod HeightLaws
 mod PieceLaws
 mod PlaneLaws

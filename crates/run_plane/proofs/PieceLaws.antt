@@ -1,21 +1,9 @@
 -- Rows as pieces, one row after the other.
-use Rattle.std.proofs.Common.{◌≡◌, ◌≢◌, inl, inr, ℕ, zero, suc, ◌+◌, ◌-◌, ◌<◌, ◌≤◌, ℤ, pos, ◌-ℤ◌, ◌≤ℤ◌, ◌<ℤ◌, List}
-use Rattle.std.proofs.Common.{[], ◌∷◌, ◌++◌, length, map, take, drop, get_or, sym, ◌∙◌, ap, subst, arith}
-use Rattle.std.specs.Prelude.{All}
-use Rattle.std.specs.Int.{int_min, int_max}
-use Rattle.std.proofs.lemmas.Bool.{cases_lt}
-use Rattle.std.proofs.lemmas.Int.{ints, clamps}
-use Rattle.std.proofs.lemmas.List.{get_or-take, get_or-drop, length-take, length-drop}
-use Rattle.finite_sets.specs.Lists.{In}
-use Rattle.finite_sets.proofs.Members.{In-get_or, In-append_left, In-append_right, In-append_cases, In-map, In-map_source}
-use Rattle.finite_sets.proofs.Orders.{at_most_or_greater}
-use Rattle.geo_core.specs.declared.squares.Square.{Square}
-use Rattle.geo_core.specs.declared.squares.Piece.{Piece}
-use Rattle.geo_core.specs.Covering.{Covers}
-use Rattle.run_plane.specs.declared.runs.Run.{Run}
-use Rattle.run_plane.specs.declared.rows.Row.{Row}
-use Rattle.run_plane.specs.Rows.{value_at, runs_from, number_at, edge, AreRuns, AreRising}
-use Rattle.run_plane.specs.steps.Listings.{no_row, piece_of, AreBetween}
+use Rattle.run_plane.proofs.Common.{◌≡◌, ◌≢◌, inl, inr, ℕ, zero, suc, ◌+◌, ◌-◌, ◌<◌, ◌≤◌, ℤ, pos, ◌-ℤ◌, ◌≤ℤ◌, ◌<ℤ◌, List, [], ◌∷◌, ◌++◌, length, map}
+use Rattle.run_plane.proofs.Common.{take, drop, get_or, sym, ◌∙◌, ap, subst, arith, All, int_min, int_max, cases_lt, ints, clamps, get_or-take}
+use Rattle.run_plane.proofs.Common.{get_or-drop, length-take, length-drop, In, In-get_or, In-append_left, In-append_right, In-append_cases, In-map}
+use Rattle.run_plane.proofs.Common.{In-map_source, at_most_or_greater, Square, Piece, Covers, Run, Row, value_at, runs_from, number_at, edge}
+use Rattle.run_plane.proofs.Common.{AreRuns, AreRising, no_row, piece_of, AreBetween}
 use Rattle.run_plane.proofs.RunLaws.{value_of_run, run_of_value}
 use Rattle.run_plane.proofs.RowLaws.{runs_in, runs_under, runs_stop, row_above, row_facts, all_above}
 

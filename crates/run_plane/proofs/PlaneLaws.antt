@@ -1,21 +1,10 @@
 -- What the strips and tiles of the pieces of rows say of the rows.
-use Rattle.std.proofs.Common.{◌≡◌, ◌≢◌, ℕ, ℤ, pos, ◌+ℤ◌, ◌-ℤ◌, ◌≤ℤ◌, ◌<ℤ◌, List, refl, sym, ◌∙◌, ap, subst, arith, ◌^◌}
-use Rattle.std.specs.Int.{int_min, int_max}
-use Rattle.std.proofs.lemmas.Bool.{cases_eq}
-use Rattle.std.proofs.lemmas.Int.{ints, clamps}
-use Rattle.geo_core.specs.declared.limits.TheConstants.{PLANE_EDGE}
-use Rattle.geo_core.specs.declared.squares.Square.{Square}
-use Rattle.geo_core.specs.declared.squares.Rect.{Rect}
-use Rattle.geo_core.specs.declared.squares.Piece.{Piece}
-use Rattle.geo_core.specs.Areas.{common_rect}
-use Rattle.geo_core.specs.Covering.{IsProper}
-use Rattle.geo_core.specs.Planes.{HasValue, IsTileIn, AreTilesIn}
-use Rattle.geo_core.specs.Strips.{IsStrips}
+use Rattle.run_plane.proofs.Common.{◌≡◌, ◌≢◌, ℕ, ℤ, pos, ◌+ℤ◌, ◌-ℤ◌, ◌≤ℤ◌, ◌<ℤ◌, List, refl, sym, ◌∙◌, ap, subst, arith, ◌^◌, int_min, int_max}
+use Rattle.run_plane.proofs.Common.{cases_eq, ints, clamps, PLANE_EDGE, Square, Rect, Piece, common_rect, IsProper, HasValue, AreTilesIn, IsStrips}
+use Rattle.run_plane.proofs.Common.{rect_is, Row, number_at, edge, AreRows, AreBetween, IsInPieces, AreTilesFrom}
+use Rattle.geo_core.specs.Planes.{IsTileIn}
 use Rattle.geo_core.proofs.StripSets.{strip_same, strips_same, InBand, clipped, strip_clipped, strip_of_band}
-use Rattle.geo_core.proofs.SquareLaws.{rect_is}
-use Rattle.run_plane.specs.declared.rows.Row.{Row}
-use Rattle.run_plane.specs.Rows.{number_at, edge, AreRows}
-use Rattle.run_plane.specs.steps.Listings.{AreBetween, IsInPieces, AgreeOnSquares, IsTileFrom, AreTilesFrom}
+use Rattle.run_plane.specs.steps.Listings.{AgreeOnSquares, IsTileFrom}
 use Rattle.run_plane.proofs.BoxLaws.{number_near}
 
 module _ (rows : List Row) (low high : ℤ) (pieces : List Piece) (between : AreBetween rows low high pieces) where

@@ -1,16 +1,9 @@
 -- Rows from the lowest up: the runs at a height.
-use Rattle.std.proofs.Common.{◌≡◌, ◌⊎◌, inl, inr, ℕ, zero, suc, ◌+◌, ◌<◌, ◌≤◌, ℤ, ◌≤ℤ◌, ◌<ℤ◌, true, false, cond}
-use Rattle.std.proofs.Common.{List, [], ◌∷◌, ◌++◌, length, take, drop, get_or, refl, sym, ◌∙◌, ap, subst, arith}
-use Rattle.std.specs.Prelude.{All, int_le}
-use Rattle.std.proofs.lemmas.Int.{ints}
+use Rattle.run_plane.proofs.Common.{◌≡◌, ◌⊎◌, inl, inr, ℕ, zero, suc, ◌+◌, ◌<◌, ◌≤◌, ℤ, ◌≤ℤ◌, ◌<ℤ◌, true, false, cond, List, [], ◌∷◌, ◌++◌, length}
+use Rattle.run_plane.proofs.Common.{take, drop, get_or, refl, sym, ◌∙◌, ap, subst, arith, All, int_le, ints, In, In-get_or, at_most_or_greater}
+use Rattle.run_plane.proofs.Common.{All-In, Run, Row, edge, AreRuns, runs_from, top_runs, AreRising}
 use Rattle.std.proofs.lemmas.List.{take-append-drop}
-use Rattle.finite_sets.specs.Lists.{In}
-use Rattle.finite_sets.proofs.Members.{In-get_or}
-use Rattle.finite_sets.proofs.Orders.{at_most_or_greater}
-use Rattle.finite_sets.proofs.Searches.{All-In}
-use Rattle.run_plane.specs.declared.runs.Run.{Run}
-use Rattle.run_plane.specs.declared.rows.Row.{Row}
-use Rattle.run_plane.specs.Rows.{edge, AreRuns, runs_from, top_runs, IsRowAbove, AreRising}
+use Rattle.run_plane.specs.Rows.{IsRowAbove}
 
 -- the first row begins at y or below
 pub runs_in : (under : List Run) (row : Row) (rows : List Row) (y : ℤ) → row.ylo ≤ℤ y → runs_from under (row ∷ rows) y ≡ runs_from row.runs rows y

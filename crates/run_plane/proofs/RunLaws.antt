@@ -1,18 +1,11 @@
 -- The number of a row at x, and the runs that setting a piece leaves.
-use Rattle.std.proofs.Common.{◌≡◌, ◌≢◌, ◌⊎◌, inl, inr, ℕ, zero, suc, ◌≤◌, ◌<◌, ℤ, ◌≤ℤ◌, ◌<ℤ◌, true, false, cond, List, [], ◌∷◌}
-use Rattle.std.proofs.Common.{◌++◌, map, length, get_or, drop, drop-cons, append_assoc, refl, sym, ◌∙◌, ap, subst, arith}
-use Rattle.std.specs.Prelude.{filter, int_le, int_lt}
-use Rattle.std.specs.Int.{int_min, int_max}
-use Rattle.std.proofs.lemmas.Int.{ints, clamps}
+use Rattle.run_plane.proofs.Common.{◌≡◌, ◌≢◌, ◌⊎◌, inl, inr, ℕ, zero, suc, ◌≤◌, ◌<◌, ℤ, ◌≤ℤ◌, ◌<ℤ◌, true, false, cond, List, [], ◌∷◌, ◌++◌, map}
+use Rattle.run_plane.proofs.Common.{length, get_or, drop, append_assoc, refl, sym, ◌∙◌, ap, subst, arith, int_le, int_min, int_max, ints, clamps, In}
+use Rattle.run_plane.proofs.Common.{In-get_or, at_most_or_greater, Run, value_at, edge, AreRuns, Piece, IsSmall, IsNear, IsProper}
+use Rattle.std.proofs.Common.{drop-cons}
+use Rattle.std.specs.Prelude.{filter, int_lt}
 use Rattle.std.proofs.lemmas.List.{drop_all}
-use Rattle.finite_sets.specs.Lists.{In}
-use Rattle.finite_sets.proofs.Members.{In-get_or}
-use Rattle.finite_sets.proofs.Orders.{at_most_or_greater}
-use Rattle.run_plane.specs.declared.runs.Run.{Run}
-use Rattle.run_plane.specs.Rows.{value_at, edge, IsRunFrom, AreRuns}
-use Rattle.geo_core.specs.declared.squares.Piece.{Piece}
-use Rattle.geo_core.specs.Areas.{IsSmall, IsNear}
-use Rattle.geo_core.specs.Covering.{IsProper}
+use Rattle.run_plane.specs.Rows.{IsRunFrom}
 use Rattle.run_plane.specs.steps.Changes.{parts_before, parts_after, AreRunsWith}
 
 -- the first run has x

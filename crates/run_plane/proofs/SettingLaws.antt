@@ -1,27 +1,14 @@
 -- One square where pieces are set one after the other, and the span of pieces.
-use Rattle.std.proofs.Common.{◌≡◌, ◌⊎◌, inl, inr, ℕ, suc, ◌<◌, ◌≤◌, ◌≢◌, ◌+◌, ◌-◌, ℤ, pos, ◌-ℤ◌, ◌≤ℤ◌, ◌<ℤ◌, List}
-use Rattle.std.proofs.Common.{[], ◌∷◌, ◌++◌, length, take, drop, get_or, set, refl, sym, ◌∙◌, ap, subst, arith}
-use Rattle.std.specs.Prelude.{All, AllPairs}
-use Rattle.std.specs.Int.{int_min, int_max}
-use Rattle.std.specs.declared.ops.Range.{Range}
+use Rattle.run_plane.proofs.Common.{◌≡◌, ◌⊎◌, inl, inr, ℕ, suc, ◌<◌, ◌≤◌, ◌≢◌, ◌+◌, ◌-◌, ℤ, pos, ◌-ℤ◌, ◌≤ℤ◌, ◌<ℤ◌, List, [], ◌∷◌, ◌++◌, length, take}
+use Rattle.run_plane.proofs.Common.{drop, get_or, refl, sym, ◌∙◌, ap, subst, arith, All, AllPairs, int_min, int_max, Range, cases_eq, cases_lt, ints}
+use Rattle.run_plane.proofs.Common.{clamps, get_or-take, get_or-drop, length-take, length-drop, take_more, In, In-append_left, at_most_or_greater}
+use Rattle.run_plane.proofs.Common.{Square, Rect, Piece, AreDisjoint, IsNear, Covers, IsProper, Run, Row, value_at, runs_from, number_at, edge}
+use Rattle.run_plane.proofs.Common.{AreRuns, AreRising, square_at, Spans, AreRowsFor, no_piece, no_row}
+use Rattle.std.proofs.Common.{set}
 use Rattle.std.proofs.Math.ListN.{length-set}
-use Rattle.std.proofs.lemmas.Bool.{cases_eq, cases_lt}
-use Rattle.std.proofs.lemmas.Int.{ints, clamps}
-use Rattle.std.proofs.lemmas.List.{get_or-set_same, get_or-set_other, get_or-take, get_or-drop, length-take, length-drop, take_more}
-use Rattle.finite_sets.specs.Lists.{In}
-use Rattle.finite_sets.proofs.Members.{In-index, In-push, In-push_cases, In-append_left}
-use Rattle.finite_sets.proofs.Orders.{at_most_or_greater}
-use Rattle.geo_core.specs.declared.squares.Square.{Square}
-use Rattle.geo_core.specs.declared.squares.Rect.{Rect}
-use Rattle.geo_core.specs.declared.squares.Piece.{Piece}
-use Rattle.geo_core.specs.Areas.{AreDisjoint, IsNear}
-use Rattle.geo_core.specs.Covering.{Covers, IsProper}
-use Rattle.run_plane.specs.declared.runs.Run.{Run}
-use Rattle.run_plane.specs.declared.rows.Row.{Row}
-use Rattle.run_plane.specs.Rows.{value_at, runs_from, number_at, edge, AreRuns, AreRising}
-use Rattle.run_plane.specs.steps.Changes.{square_at, AreRunsWith, IsSetTo, IsRowWith, Spans, AreRowsFor, IsRowSet, IsSetIn}
-use Rattle.geo_core.proofs.CornerLaws.{no_piece}
-use Rattle.run_plane.specs.steps.Listings.{no_row}
+use Rattle.std.proofs.lemmas.List.{get_or-set_same, get_or-set_other}
+use Rattle.finite_sets.proofs.Members.{In-index, In-push, In-push_cases}
+use Rattle.run_plane.specs.steps.Changes.{AreRunsWith, IsSetTo, IsRowWith, IsRowSet, IsSetIn}
 use Rattle.run_plane.proofs.RunLaws.{small_min, small_max}
 use Rattle.run_plane.proofs.RowLaws.{runs_ordered}
 

@@ -1,27 +1,22 @@
 -- Tiles of pieces, value after value.
-use Rattle.std.proofs.Common.{◌≡◌, ◌≢◌, ◌⊎◌, inl, inr, ℕ, ◌+◌, ◌<◌, ◌≤◌, Bool, true}
-use Rattle.std.proofs.Common.{List, [], ◌++◌, length, get_or, refl, sym, ◌∙◌, ap, subst, arith}
-use Rattle.std.specs.Prelude.{All, AllPairs, IsPermutation, filter, ◌==◌}
+use Rattle.run_plane.proofs.Common.{◌≡◌, ◌≢◌, ◌⊎◌, inl, inr, ℕ, ◌+◌, ◌<◌, ◌≤◌, true, List, [], ◌++◌, length, get_or, refl, sym, ◌∙◌, ap, subst}
+use Rattle.run_plane.proofs.Common.{arith, All, AllPairs, cases_lt, Contains-permutation, IsPermutation-sym, In, In-get_or, In-append_left}
+use Rattle.run_plane.proofs.Common.{In-append_right, In-append_cases, In-map, In-map_source, Square, Rect, Piece, AreDisjoint, common_rect, Covers}
+use Rattle.run_plane.proofs.Common.{IsProper, IsStrip, IsStrips, IsInUnion, corner_key, All-In, rects_with, parts_in, IsInPieces, AreTilesFrom}
+use Rattle.std.proofs.Common.{Bool}
+use Rattle.std.specs.Prelude.{IsPermutation, filter, ◌==◌}
 use Rattle.std.specs.List.Sorted.{IsSortedByKey}
-use Rattle.std.proofs.lemmas.Bool.{cases_lt}
-use Rattle.std.proofs.lemmas.List.Sorted.{Contains-permutation, IsPermutation-sym}
-use Rattle.finite_sets.specs.Lists.{In, Distinct}
+use Rattle.finite_sets.specs.Lists.{Distinct}
 use Rattle.finite_sets.proofs.Distincts.{Distinct-append, Distinct-map, Distinct-filter, Distinct-places, Distinct-from_places}
-use Rattle.finite_sets.proofs.Members.{In-get_or, In-append_left, In-append_right, In-append_cases, In-map, In-map_source}
 use Rattle.finite_sets.proofs.Members.{In-filter, In-filter_source, In-filter_passes, Contains-from_In, In-from_Contains}
-use Rattle.geo_core.specs.declared.squares.Square.{Square}
-use Rattle.geo_core.specs.declared.squares.Rect.{Rect}
-use Rattle.geo_core.specs.declared.squares.Piece.{Piece}
-use Rattle.geo_core.specs.Areas.{AreDisjoint, common_rect, has_square}
-use Rattle.geo_core.specs.Covering.{Covers, IsProper}
-use Rattle.geo_core.specs.Strips.{IsStrip, IsStrips, IsInUnion, StandsBefore}
+use Rattle.geo_core.specs.Areas.{has_square}
+use Rattle.geo_core.specs.Strips.{StandsBefore}
 use Rattle.geo_core.proofs.CoveringLaws.{IsProper-has_square, has_square-IsProper, covers_first, covers_both, covers_is_proper, corner_covered}
-use Rattle.geo_core.proofs.CornerLaws.{corner_key, pair_cmp, sorted_by_corner}
+use Rattle.geo_core.proofs.CornerLaws.{pair_cmp, sorted_by_corner}
 use Rattle.finite_sets.proofs.Pairs.{AllPairs-permutation}
-use Rattle.finite_sets.proofs.Searches.{All-In}
 use Rattle.geo_core.proofs.SquareLaws.{piece_is}
 use Rattle.geo_core.proofs.StripSets.{one_strip_at, strip_within, strips_same, StandsBefore-irreflexive}
-use Rattle.run_plane.specs.steps.Listings.{rects_with, parts_in, IsInPieces, AgreeOnSquares, IsTileFrom, HaveTileAt, AreTilesFrom}
+use Rattle.run_plane.specs.steps.Listings.{AgreeOnSquares, IsTileFrom, HaveTileAt}
 
 same_number : (m n : ℕ) → (m == n) ≡ true → m ≡ n
 same_number m n test = grind arith

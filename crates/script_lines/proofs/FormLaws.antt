@@ -1,17 +1,17 @@
 -- The fields of a command that a line is read as are of their forms.
-use Rattle.std.proofs.Common.{◌≡◌, subst, ℕ, suc, ℤ, pos, Bool, true, false, List, [], ◌∷◌, Result, Ok, Err, refl}
+use Rattle.script_lines.proofs.Common.{◌≡◌, ℕ, suc, ℤ, pos, Bool, true, false, List, [], ◌∷◌, Result, Ok, Err, refl, is_label_text, LAST_POSITION}
+use Rattle.script_lines.proofs.Common.{LineFault, ArgumentKind, Plain, Layer, UseId, Number, Position, Count, Text, Argument, is_between, is_formed}
+use Rattle.script_lines.proofs.Common.{command_with, given_to}
+use Rattle.std.proofs.Common.{subst}
 use Rattle.std.specs.Prelude.{IsTrue}
 use Rattle.std.proofs.lemmas.List.Elements.{All-nil, All-cons}
-use Rattle.cell_bodies.specs.Words.{is_use_id, is_label_text}
-use Rattle.cell_bodies.specs.declared.limits.TheConstants.{LAST_POSITION}
+use Rattle.cell_bodies.specs.Words.{is_use_id}
 use Rattle.script_lines.specs.declared.commands.Command.{Command}
-use Rattle.script_lines.specs.declared.faults.LineFault.{LineFault}
 use Rattle.script_lines.specs.declared.limits.TheConstants.{MOST_GENERATED}
 use Rattle.script_lines.specs.declared.verbs.Verb.{Verb}
 use Rattle.script_lines.specs.declared.verbs.Verb.TheVariants as verb
-use Rattle.script_lines.specs.Arguments.{ArgumentKind, Plain, Layer, UseId, Number, Position, Count, Text, Argument, is_between, is_formed}
 use Rattle.script_lines.specs.Arguments.{is_in_range, argument_of, are_formed, are_in_range, arguments_of, read_words, words_for, word_at, value_at}
-use Rattle.script_lines.specs.Commands.{kinds_of, command_with, given_to, command_on}
+use Rattle.script_lines.specs.Commands.{kinds_of, command_on}
 use Rattle.script_lines.specs.Forms.{IsNumber, IsPlain, AreSixNumbers, IsFormed}
 use Rattle.script_lines.proofs.FrontLaws.{first, second}
 use Rattle.script_lines.proofs.ReadLaws.{judged}

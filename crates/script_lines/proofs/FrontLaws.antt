@@ -1,14 +1,12 @@
 -- The first words of a line, one more at a time.
-use Rattle.std.proofs.Common.{◌≡◌, ◌+◌, ◌<◌, ◌∙◌, sym, ap, ℕ, ℤ, zero, suc, Bool, true, false}
-use Rattle.std.proofs.Common.{List, [], ◌∷◌, ◌++◌, Some, None, take, drop, map, set, arith, refl, add-one, length}
-use Rattle.std.specs.Prelude.{◌&&◌, if◌then◌else◌}
-use Rattle.std.specs.List.{list_all}
+use Rattle.script_lines.proofs.Common.{◌≡◌, ◌∙◌, sym, ap, ℕ, ℤ, zero, suc, Bool, true, false, List, [], ◌∷◌, ◌++◌, Some, None, take, drop, map}
+use Rattle.script_lines.proofs.Common.{arith, refl, length, ◌&&◌, if◌then◌else◌, list_all, and_from, behind, behind_word, is_number, number_in}
+use Rattle.script_lines.proofs.Common.{begins_with_numbers, fitting, is_fitting}
+use Rattle.std.proofs.Common.{◌+◌, ◌<◌}
+use Rattle.std.proofs.Common.{set, add-one}
 use Rattle.std.proofs.Math.Bool.{and-true}
-use Rattle.std.proofs.lemmas.Bool.{and_from}
 use Rattle.std.proofs.lemmas.List.{take_more_set, map-append}
 use Rattle.std.proofs.lemmas.List.Folds.{list_all-append}
-use Rattle.script_lines.specs.Arguments.{behind, behind_word, is_number, number_in}
-use Rattle.script_lines.specs.steps.NextWords.{begins_with_numbers, fitting, is_fitting}
 
 behind-suc : (count : ℕ) (line : List ℕ) → behind_word (behind count line) ≡ behind (suc count) line
 behind-suc zero line = refl

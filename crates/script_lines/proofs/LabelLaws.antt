@@ -1,21 +1,13 @@
 -- What the words of a label give, and the only word of a line that says how many.
-use Rattle.std.proofs.Common.{◌≡◌, ◌∙◌, sym, ap, ℕ, ℤ, pos, Bool, true, false, List, [], ◌∷◌, ◌++◌, Ok, Err, Option, Some, None, take, map, arith, refl}
-use Rattle.std.specs.Prelude.{MatchOption, ok_or, ◌&&◌}
-use Rattle.std.specs.List.{list_all}
-use Rattle.std.proofs.lemmas.Grind.{common_steps}
-use Rattle.std.proofs.lemmas.Int.{ints}
-use Rattle.text_scan.specs.Words.{words_of}
-use Rattle.cell_bodies.specs.Words.{is_label_text, without_outer_blanks}
-use Rattle.cell_bodies.specs.declared.limits.TheConstants.{LAST_POSITION}
+use Rattle.script_lines.proofs.Common.{◌≡◌, ◌∙◌, sym, ap, ℕ, ℤ, pos, Bool, true, false, List, [], ◌∷◌, ◌++◌, Ok, Err, Option, Some, None, take, map}
+use Rattle.script_lines.proofs.Common.{arith, refl, MatchOption, ok_or, ◌&&◌, list_all, common_steps, ints, words_of, is_label_text}
+use Rattle.script_lines.proofs.Common.{without_outer_blanks, LAST_POSITION, LineFault, BadForm, NumberRange, ArgumentKind, Layer, Number, Position}
+use Rattle.script_lines.proofs.Common.{Count, Text, Argument, Word, Value, is_number, number_in, is_between, behind, behind_word, label_given}
+use Rattle.script_lines.proofs.Common.{label_kinds, begins_with_numbers, is_fitting}
 use Rattle.geo_core.specs.declared.squares.Rect.{Rect}
-use Rattle.script_lines.specs.declared.faults.LineFault.{LineFault}
-use Rattle.script_lines.specs.declared.faults.LineFault.TheVariants.{BadForm, NumberRange}
 use Rattle.script_lines.specs.declared.limits.TheConstants.{LEAST_NUMBER, GREATEST_NUMBER, MOST_GENERATED}
-use Rattle.script_lines.specs.Arguments.{ArgumentKind, Layer, Number, Position, Count, Text}
-use Rattle.script_lines.specs.Arguments.{Argument, Word, Value, are_formed, are_in_range, arguments_of, read_words}
-use Rattle.script_lines.specs.Arguments.{is_number, number_in, is_between, behind, behind_word, words_and_text, label_given}
-use Rattle.script_lines.specs.Commands.{label_kinds}
-use Rattle.script_lines.specs.steps.NextWords.{begins_with_numbers, is_fitting}
+use Rattle.script_lines.specs.Arguments.{are_formed, are_in_range, arguments_of, read_words}
+use Rattle.script_lines.specs.Arguments.{words_and_text}
 use Rattle.script_lines.proofs.FrontLaws.{second, second-fails}
 use Rattle.script_lines.proofs.ReadLaws.{judged, read-front, read-front-err, read-unformed, read-outside, read-ok}
 

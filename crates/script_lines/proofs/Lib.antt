@@ -1,3 +1,4 @@
+mod Common
 mod FormLaws
 mod FrontLaws
 mod LabelLaws

@@ -1,16 +1,14 @@
 -- Words that are numbers of any size, and those of 64 bits.
-use Rattle.std.proofs.Common.{◌≡◌, ◌^◌, ℕ, ℤ, pos, Bool, true, false, List, length, arith, refl, Result, Ok, Err, None, neg_ℤ, int_lt}
-use Rattle.std.specs.Prelude.{int_le, ◌&&◌, ◌==◌, is_ok, if◌then◌else◌}
+use Rattle.script_lines.proofs.Common.{◌≡◌, ℕ, ℤ, pos, Bool, true, false, List, length, arith, refl, Result, Ok, Err, None, ◌&&◌, if◌then◌else◌}
+use Rattle.script_lines.proofs.Common.{common_steps, ints, Empty, Digit, is_number, number_in, fitting}
+use Rattle.std.proofs.Common.{◌^◌, neg_ℤ, int_lt}
+use Rattle.std.specs.Prelude.{int_le, ◌==◌, is_ok}
 use Rattle.std.specs.Result.{result_unwrap_or}
 use Rattle.std.specs.Str.{all_ascii_digits}
 use Rattle.std.specs.Str.Parse.{digits_value, starts_with_minus}
-use Rattle.std.proofs.lemmas.Grind.{common_steps}
-use Rattle.std.proofs.lemmas.Int.{ints}
 use Rattle.text_scan.specs.declared.numeral.NumFault.{NumFault}
-use Rattle.text_scan.specs.declared.numeral.NumFault.TheVariants.{Empty, Digit, Range}
+use Rattle.text_scan.specs.declared.numeral.NumFault.TheVariants.{Range}
 use Rattle.text_scan.specs.Numbers.{natural_of, integer_of, number_of, in_range, without_minus, signed}
-use Rattle.script_lines.specs.Arguments.{is_number, number_in}
-use Rattle.script_lines.specs.steps.NextWords.{fitting}
 
 abbrev chosen : Bool → ℤ → Result ℤ NumFault
 chosen b y = if b then Ok y else Err Range

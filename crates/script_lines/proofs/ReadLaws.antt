@@ -1,16 +1,11 @@
 -- What the words of a line give, one word at a time.
-use Rattle.std.proofs.Common.{◌≡◌, ◌≢◌, ◌∙◌, sym, ap, ℕ, ℤ, zero, suc, Bool, true, false, List}
-use Rattle.std.proofs.Common.{[], ◌∷◌, Result, Ok, Err, Option, Some, None, take, drop, map, replicate, refl}
-use Rattle.std.specs.Prelude.{MatchOption, IfOk, IfErr, ok_or, ◌&&◌, if◌then◌else◌}
-use Rattle.std.proofs.lemmas.Bool.{and_from}
-use Rattle.std.specs.List.{list_all}
-use Rattle.script_lines.specs.declared.faults.LineFault.{LineFault}
-use Rattle.script_lines.specs.declared.faults.LineFault.TheVariants.{BadForm, NumberRange}
-use Rattle.script_lines.specs.Arguments.{ArgumentKind, Number, Argument, Value, is_formed}
+use Rattle.script_lines.proofs.Common.{◌≡◌, ◌≢◌, ◌∙◌, sym, ap, ℕ, ℤ, zero, suc, Bool, true, false, List, [], ◌∷◌, Result, Ok, Err, Option, Some}
+use Rattle.script_lines.proofs.Common.{None, take, drop, map, replicate, refl, MatchOption, ok_or, ◌&&◌, if◌then◌else◌, and_from, list_all}
+use Rattle.script_lines.proofs.Common.{LineFault, BadForm, NumberRange, ArgumentKind, Number, Argument, Value, is_formed, is_number, number_in}
+use Rattle.script_lines.proofs.Common.{begins_with, begins_with_numbers, is_fitting}
+use Rattle.std.specs.Prelude.{IfOk, IfErr}
 use Rattle.script_lines.specs.Arguments.{is_in_range, argument_of, are_formed, are_in_range, arguments_of, read_words}
-use Rattle.script_lines.specs.Arguments.{is_number, number_in}
 use Rattle.script_lines.proofs.FrontLaws.{first, second, second-fails}
-use Rattle.script_lines.specs.steps.NextWords.{begins_with, begins_with_numbers, is_fitting}
 
 abbrev pub judged : Bool → Bool → List Argument → Result (List Argument) LineFault
 judged formed fit given = if formed then (if fit then Ok given else Err NumberRange) else Err BadForm

@@ -1,6 +1,6 @@
 -- Six numbers among arguments are these numbers.
-use Rattle.std.proofs.Common.{◌≡◌, ℕ, ℤ, List, [], ◌∷◌, length, map, arith, refl}
-use Rattle.script_lines.specs.Arguments.{Word, Value, six_at}
+use Rattle.script_lines.proofs.Common.{◌≡◌, ℕ, ℤ, List, [], ◌∷◌, length, map, arith, refl, Word, Value}
+use Rattle.script_lines.specs.Arguments.{six_at}
 
 all_six : (six : List ℤ) → length six ≡ 6 → six_at 0 (map Value six) ≡ six
 all_six [] size = absurd (omega arith)

@@ -1,15 +1,10 @@
 -- Counts that rose by several.
-use Rattle.std.proofs.Common.{◌≡◌, ◌⊎◌, inl, inr, ◌+◌, ◌≤◌, ℕ, Bool, true, cond, List, [], ◌∷◌, ◌++◌, sym, ◌∙◌, subst, arith}
-use Rattle.std.proofs.lemmas.Bool.{cases_Bool}
+use Rattle.session_model.proofs.Common.{◌≡◌, ◌⊎◌, inl, inr, ◌+◌, ◌≤◌, ℕ, Bool, true, cond, List, [], ◌∷◌, ◌++◌, sym, ◌∙◌, subst, arith, cases_Bool}
+use Rattle.session_model.proofs.Common.{Rose, ShelfWords, LineKind, ReportLine, ComeFrom, line_kinds, AreCounted}
 use Rattle.std.proofs.lemmas.List.Sums.{sum_by-append}
 use Rattle.std.specs.Prelude.{count_by}
 use Rattle.std.specs.List.{list_any}
-use Rattle.outside_io.specs.Counts.{Rose}
-use Rattle.outside_io.specs.declared.outside.Shelf.{Ghosts as ShelfWords}
-use Rattle.session_model.specs.declared.report.LineKind.{LineKind}
-use Rattle.session_model.specs.declared.report.ReportLine.{ReportLine}
-use Rattle.session_model.specs.Causes.{ComeFrom, line_kinds}
-use Rattle.session_model.specs.Counted.{AreCounted, RoseBy}
+use Rattle.session_model.specs.Counted.{RoseBy}
 use Rattle.session_model.specs.Laws.{AreCountedTogether}
 use Rattle.session_model.specs.Reports.{is_for_absent, is_for_too_long}
 

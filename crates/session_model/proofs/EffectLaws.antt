@@ -1,17 +1,12 @@
 -- Reports and effects, one after the other.
-use Rattle.std.proofs.Common.{◌≡◌, ◌+◌, ℕ, suc, Bool, true, false, List, [], ◌∷◌, ◌++◌, length, refl, ◌∙◌, ap, subst, append-nil, arith}
+use Rattle.session_model.proofs.Common.{◌≡◌, ◌+◌, ℕ, suc, Bool, true, false, List, [], ◌∷◌, ◌++◌, length, refl, ◌∙◌, ap, subst, append-nil, arith}
+use Rattle.session_model.proofs.Common.{map-append, Option, CallPlan, told_after_call, Files, with_file, Store, ReportLine, Effect, after_fetches}
+use Rattle.session_model.proofs.Common.{state_after, with_stores, report_of, Act, LinesMean, acts_of, answers_in, fetched_in, lines_in, stores_in}
 use Rattle.std.proofs.lemmas.Grind.{flat_map-append}
 use Rattle.std.proofs.lemmas.List.Elements.{filter-append}
 use Rattle.std.proofs.lemmas.List.Sums.{fold-append}
-use Rattle.std.proofs.lemmas.List.{map-append}
-use Rattle.std.specs.Prelude.{Option, codes}
-use Rattle.outside_io.specs.CallPlans.{CallPlan, told_after_call}
-use Rattle.outside_io.specs.Files.{Files, with_file}
-use Rattle.session_model.specs.declared.answer.Store.{Store}
-use Rattle.session_model.specs.declared.report.ReportLine.{ReportLine}
-use Rattle.session_model.specs.Effects.{Effect, after_fetches, state_after, with_stores}
-use Rattle.session_model.specs.Reports.{is_shown_in_quiet, report_of, shown, text_of}
-use Rattle.session_model.specs.Scripts.{Act, LinesMean, acts_of, answers_in, fetched_in, lines_in, stores_in}
+use Rattle.std.specs.Prelude.{codes}
+use Rattle.session_model.specs.Reports.{is_shown_in_quiet, shown, text_of}
 
 shown-append : (quiet : Bool) (xs ys : List ReportLine) → shown quiet (xs ++ ys) ≡ shown quiet xs ++ shown quiet ys
 shown-append true xs ys = filter-append (λ (line : ReportLine). is_shown_in_quiet line.kind) xs ys

@@ -1,12 +1,9 @@
 -- Reading a tree of files: how it goes on and where it stops, that it comes to one end, and that this rests on the files alone that it asks for.
-use Rattle.std.proofs.Common.{◌≡◌, ◌⊎◌, inl, inr, ℕ, true, false, List, [], ◌∷◌, ◌++◌, map, refl, sym, ◌∙◌, ap, subst, arith}
-use Rattle.std.proofs.lemmas.Bool.{false≢true}
-use Rattle.std.proofs.lemmas.List.{map-append}
-use Rattle.std.proofs.lemmas.List.Elements.{Contains-append_left, Contains-append_right}
-use Rattle.std.specs.Prelude.{Contains, Option, Result, Ok, Err}
-use Rattle.outside_io.specs.Files.{Files}
-use Rattle.outside_io.specs.CallPlans.{CallPlan, told_after_call}
-use Rattle.session_model.specs.Effects.{GivesFetching, after_fetches}
+use Rattle.session_model.proofs.Common.{◌≡◌, ◌⊎◌, inl, inr, ℕ, true, false, List, [], ◌∷◌, ◌++◌, refl, sym, ◌∙◌, ap, subst, arith, false≢true}
+use Rattle.session_model.proofs.Common.{map-append, Contains-append_left, Contains-append_right, Contains, Option, Result, Ok, Err, Files, CallPlan}
+use Rattle.session_model.proofs.Common.{told_after_call, after_fetches}
+use Rattle.std.proofs.Common.{map}
+use Rattle.session_model.specs.Effects.{GivesFetching}
 use Rattle.session_model.specs.Fetches.{AgreeOn}
 use Rattle.session_model.specs.FileTrees.{FileIsRefused, FileKind, GivesByFile, GoesOn, StopsAsking, StopsAt, fetched_by, files_of}
 use Rattle.session_model.specs.FileTrees.{Reading, All, Stopped, Reads, end, opened, passed, stop}

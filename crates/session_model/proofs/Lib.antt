@@ -1,4 +1,5 @@
 mod CauseLaws
+mod Common
 pub mod CountedLaws
 pub mod EffectLaws
 pub mod FetchLaws

@@ -1,17 +1,13 @@
 -- How a run goes on from line to line.
-use Rattle.std.proofs.Common.{◌≡◌, ◌+◌, ◌||◌, inl, inr, ℕ, Bool, false, List, [], ◌∷◌, ◌++◌, length, Option, Some, refl, sym, ◌∙◌, ap, subst, append_assoc}
-use Rattle.std.proofs.Common.{append-nil, take, drop, take-append-drop, arith, length-append}
+use Rattle.session_model.proofs.Common.{◌≡◌, ◌+◌, inl, inr, ℕ, Bool, false, List, [], ◌∷◌, ◌++◌, length, Some, refl, sym, ◌∙◌, ap, subst}
+use Rattle.session_model.proofs.Common.{append_assoc, append-nil, take, drop, arith, Result, Ok, Err, OnErr, CallPlan, Files, Store, ReportLine}
+use Rattle.session_model.proofs.Common.{Effect, after_fetches, state_after, with_stores, BeginsNext, DoesPart, IsPrefixOf, Progress, is_told}
+use Rattle.session_model.proofs.Common.{report_of, Act, LinesMean, acts_of, fetched_in, lines_in, stores_in}
+use Rattle.std.proofs.Common.{◌||◌, Option}
+use Rattle.std.proofs.Common.{take-append-drop, length-append}
 use Rattle.std.proofs.lemmas.List.Folds.{list_any-append}
-use Rattle.std.specs.Prelude.{Result, Ok, Err, OnErr}
-use Rattle.outside_io.specs.CallPlans.{CallPlan}
-use Rattle.outside_io.specs.Files.{Files}
 use Rattle.outside_io.specs.ToldBytes.{AppendsPrefix, ToldBytes, with_back}
-use Rattle.session_model.specs.declared.answer.Store.{Store}
-use Rattle.session_model.specs.declared.report.ReportLine.{ReportLine}
-use Rattle.session_model.specs.Effects.{Effect, after_fetches, state_after, with_stores}
-use Rattle.session_model.specs.Progress.{BeginsNext, DoesPart, IsPrefixOf, Progress}
-use Rattle.session_model.specs.Reports.{is_told, report_of, tells}
-use Rattle.session_model.specs.Scripts.{Act, LinesMean, acts_of, fetched_in, lines_in, stores_in}
+use Rattle.session_model.specs.Reports.{tells}
 use Rattle.session_model.proofs.EffectLaws.{fetched_and_last, fetches-append, files_and_last, lines_and_last, lines_and_one, report_of-append, report_of-nothing, state_and_last}
 use Rattle.session_model.proofs.StoreLaws.{StoresSome-weaker}
 

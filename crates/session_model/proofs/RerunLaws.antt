@@ -1,21 +1,17 @@
 -- A session over other files that agree with these on what it fetches.
-use Rattle.std.proofs.Common.{◌≡◌, ◌≢◌, ◌⊎◌, inl, inr, ◌+◌, ℕ, Bool, true, false, cond, List, [], ◌∷◌, ◌++◌, sym, ◌∙◌, ap, subst, arith}
-use Rattle.std.proofs.lemmas.Bool.{cases_Bool, false≢true}
+use Rattle.session_model.proofs.Common.{◌≡◌, ◌⊎◌, inl, inr, ◌+◌, ℕ, Bool, true, false, cond, List, [], ◌∷◌, ◌++◌, sym, ◌∙◌, ap, subst, arith}
+use Rattle.session_model.proofs.Common.{cases_Bool, false≢true, Contains-append_left, Contains-append_right, Contains, Option, Files, bytes_of}
+use Rattle.session_model.proofs.Common.{with_file, Store, Effect, with_stores, StoresSome, Act, LinesMean, acts_of, fetched_in, stores_in}
+use Rattle.std.proofs.Common.{◌≢◌}
 use Rattle.std.proofs.lemmas.Cmp.{tied_itself}
-use Rattle.std.proofs.lemmas.List.Elements.{Contains-append_left, Contains-append_right}
 use Rattle.std.proofs.lemmas.Map.Made.{Contains-tail}
-use Rattle.std.specs.Prelude.{Contains, Some, Option}
+use Rattle.std.specs.Prelude.{Some}
 use Rattle.std.specs.Cmp.Lexicographic.{slice_cmp, nat_list_cmp_total}
 use Rattle.std.specs.Cmp.{Equal-is}
 use Rattle.std.specs.FinMap as finmap
 use Rattle.std.specs.Ordering.{nat_cmp, eq_by_cmp, is_eq}
-use Rattle.outside_io.specs.Files.{Files, bytes_of, with_file}
 use Rattle.outside_io.proofs.FileLaws.{bytes_of-with_file, same_files}
-use Rattle.session_model.specs.declared.answer.Store.{Store}
-use Rattle.session_model.specs.Effects.{Effect, with_stores}
-use Rattle.session_model.specs.Progress.{StoresSome}
 use Rattle.session_model.specs.Reruns.{IsMadeGood, RestsOnFetched, names_stored}
-use Rattle.session_model.specs.Scripts.{Act, LinesMean, acts_of, fetched_in, stores_in}
 
 -- the files agree on each name that is none of these
 abbrev AgreeOff : List (List ℕ) → Files → Files → Type 0

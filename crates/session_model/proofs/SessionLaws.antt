@@ -1,12 +1,9 @@
 -- What is left of a run belongs to each session that its script means.
-use Rattle.std.proofs.Common.{◌≡◌, ◌⊎◌, inl, inr, ◌+◌, ℕ, suc, Bool, List, [], ◌∷◌, ◌++◌, length, refl, sym, ◌∙◌, ap, subst, append_assoc, arith}
-use Rattle.std.proofs.lemmas.List.{map-append}
-use Rattle.outside_io.specs.Files.{Files, with_file}
-use Rattle.session_model.specs.declared.answer.Store.{Store}
-use Rattle.session_model.specs.Effects.{Effect, state_after, with_stores}
-use Rattle.session_model.specs.Progress.{BeginsNext, DoesFirst, DoesPart, IsCutShort, IsPrefixOf, Progress, StoresSome}
-use Rattle.session_model.specs.Reports.{report_of}
-use Rattle.session_model.specs.Scripts.{Act, HasOneEffect, LinesMean, ScriptActs, acts_of, lines_in, stores_in}
+use Rattle.session_model.proofs.Common.{◌≡◌, ◌⊎◌, inl, inr, ◌+◌, ℕ, suc, Bool, List, [], ◌∷◌, ◌++◌, length, refl, sym, ◌∙◌, ap, subst, append_assoc}
+use Rattle.session_model.proofs.Common.{arith, map-append, Files, with_file, Store, Effect, state_after, with_stores, BeginsNext, DoesPart}
+use Rattle.session_model.proofs.Common.{IsPrefixOf, Progress, StoresSome, report_of, Act, LinesMean, acts_of, lines_in, stores_in}
+use Rattle.session_model.specs.Progress.{DoesFirst, IsCutShort}
+use Rattle.session_model.specs.Scripts.{HasOneEffect, ScriptActs}
 use Rattle.session_model.proofs.EffectLaws.{lines_in-append, report_of-append, stores_in-append, with_stores-append}
 use Rattle.session_model.proofs.StoreLaws.{StoresSome-after}
 

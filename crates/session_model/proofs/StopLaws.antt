@@ -1,7 +1,5 @@
 -- What holds of a refusal.
-use Rattle.std.proofs.Common.{◌≡◌, subst, sym}
-use Rattle.std.specs.Prelude.{Option, Result, Err}
-use Rattle.outside_io.specs.CallPlans.{CallPlan, told_after_call}
+use Rattle.session_model.proofs.Common.{◌≡◌, subst, sym, Option, Result, Err, CallPlan, told_after_call}
 use Rattle.session_model.specs.declared.stops.Stop.{Stop}
 use Rattle.session_model.specs.declared.stops.Stop.TheVariants.{Refused, Halted}
 use Rattle.session_model.specs.steps.Stops.{AsksOnce, IfRefusal, IfRefused}

@@ -1,15 +1,9 @@
 -- How many nodes there are, by names that are pairwise of different nodes.
-use Rattle.std.proofs.Common.{◌≡◌, ℕ, zero, suc, ◌<◌, ◌≤◌, List, [], ◌∷◌, length, inl, inr, refl, ap, subst, arith}
-use Rattle.std.proofs.lemmas.Bool.{cases_eq}
-use Rattle.finite_sets.specs.Lists.{In, Distinct}
+use Rattle.sim_networks.proofs.Common.{◌≡◌, ℕ, zero, suc, ◌<◌, ◌≤◌, List, [], ◌∷◌, length, inl, inr, refl, ap, subst, arith, cases_eq, In, Distinct}
+use Rattle.sim_networks.proofs.Common.{In-index, All-from_In, HasName, AreOfOneNode, SimRecords, names_of, AreNodesOf}
 use Rattle.finite_sets.proofs.Distincts.{length-distinct}
-use Rattle.finite_sets.proofs.Members.{In-index}
 use Rattle.finite_sets.proofs.Pairs.{Pairwise, AllPairs-from_Pairwise, Pairwise-from_AllPairs}
-use Rattle.finite_sets.proofs.Searches.{All-from_In}
-use Rattle.switch_net.specs.Names.{HasName}
-use Rattle.switch_net.specs.SimRecords.{AreOfOneNode, SimRecords, names_of}
 use Rattle.sim_networks.specs.SimNetworks.{HasMoreNodesThan}
-use Rattle.sim_networks.specs.steps.Numbering.{AreNodesOf}
 
 -- the numbers below one, the greatest first
 abbrev numbers_down : ℕ → List ℕ

@@ -1,24 +1,17 @@
 -- Names that are met one after another, each kept once.
-use Rattle.std.proofs.Common.{◌≡◌, ℕ, ℤ, ◌+◌, ◌<◌, Bool, true, false, cond, List, [], ◌∷◌, ◌++◌, length, get_or, take, map, inl, inr}
-use Rattle.std.proofs.Common.{refl, sym, ap, ◌∙◌, subst, arith}
+use Rattle.sim_networks.proofs.Common.{◌≡◌, ℕ, ℤ, ◌+◌, ◌<◌, Bool, true, false, cond, List, [], ◌∷◌, ◌++◌, length, get_or, take, map, inl, inr, refl}
+use Rattle.sim_networks.proofs.Common.{sym, ap, ◌∙◌, subst, arith, bytes_eq, cases_lt, bytes_eq-Decides, map_more, take_more, In, Distinct}
+use Rattle.sim_networks.proofs.Common.{In-append_left, In-get_or, In-index, names_of_aliases, names_of_transistors, SimFet, SimFile, NodeNames}
+use Rattle.sim_networks.proofs.Common.{transistor_of, records_of, AddsNames}
 use Rattle.std.proofs.Common.{append_assoc, append-nil, length-append}
 use Rattle.std.specs.List.{list_any}
-use Rattle.std.specs.Str.{bytes_eq}
 use Rattle.std.proofs.Math.ListN.{get_or-append}
 use Rattle.std.proofs.Math.Seq.{get_or-append_seam}
-use Rattle.std.proofs.lemmas.Bool.{cases_lt}
-use Rattle.std.proofs.lemmas.Slice.Eq.{bytes_eq-Decides}
-use Rattle.std.proofs.lemmas.List.{map_more, take_more}
-use Rattle.finite_sets.specs.Lists.{In, Distinct}
-use Rattle.finite_sets.proofs.Members.{In-append_left, In-push_cases, In-push, In-get_or, In-index}
+use Rattle.finite_sets.proofs.Members.{In-push_cases, In-push}
 use Rattle.finite_sets.proofs.Distincts.{Distinct-push}
 use Rattle.finite_sets.proofs.Searches.{In-from_list_any, absent-from_list_any}
-use Rattle.switch_net.specs.SimRecords.{TransistorLine, names_of_aliases, names_of_transistors}
-use Rattle.sim_text.specs.declared.files.SimFet.{SimFet}
-use Rattle.sim_text.specs.declared.files.SimFile.{SimFile}
-use Rattle.sim_networks.specs.declared.names.NodeNames.{NodeNames}
-use Rattle.sim_networks.specs.SimNetworks.{transistor_of, records_of}
-use Rattle.sim_networks.specs.steps.Numbering.{with_name, with_names, arrivals, AreIndexed, AddsNames, AreNamesOf}
+use Rattle.switch_net.specs.SimRecords.{TransistorLine}
+use Rattle.sim_networks.specs.steps.Numbering.{with_name, with_names, arrivals, AreIndexed, AreNamesOf}
 
 with_names-append : (names xs ys : List (List ℕ)) → with_names names (xs ++ ys) ≡ with_names (with_names names xs) ys
 with_names-append names [] ys = refl

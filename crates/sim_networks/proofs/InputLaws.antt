@@ -1,18 +1,12 @@
 -- Inputs of a network, and the network as a whole.
-use Rattle.std.proofs.Common.{◌≡◌, ℕ, ◌<◌, Bool, true, false, List, [], length, get_or, inl, inr, refl, sym, ap, ◌∙◌, subst}
-use Rattle.std.proofs.Common.{arith}
-use Rattle.std.specs.Prelude.{All, codes, slice_set}
-use Rattle.std.proofs.lemmas.Bool.{cases_eq, cases_lt}
+use Rattle.sim_networks.proofs.Common.{◌≡◌, ℕ, ◌<◌, Bool, true, false, List, [], length, get_or, inl, inr, refl, sym, ap, ◌∙◌, subst, arith, All}
+use Rattle.sim_networks.proofs.Common.{cases_eq, cases_lt, In, In-get_or, Switch, HasName, NameNodesBelow, NameOneNodeEach, Network, AreTransistors}
+use Rattle.sim_networks.proofs.Common.{IsNetworkOf, SimRecords, NodeTable, IsTableOf, names_with_nodes}
+use Rattle.std.specs.Prelude.{codes, slice_set}
 use Rattle.std.proofs.Math.ListN.{get_or-eq_default}
 use Rattle.std.proofs.Common.{get_or-set_other, get_or-set_same}
-use Rattle.finite_sets.specs.Lists.{In}
-use Rattle.finite_sets.proofs.Members.{In-get_or}
-use Rattle.switch_net.specs.declared.switches.Switch.{Switch}
-use Rattle.switch_net.specs.Names.{HasName, NameNodesBelow, NameOneNodeEach}
-use Rattle.switch_net.specs.Network.{IsSound, Network}
-use Rattle.switch_net.specs.SimRecords.{AreTransistors, IsNetworkOf, SimRecords}
-use Rattle.sim_networks.specs.declared.nodes.NodeTable.{NodeTable}
-use Rattle.sim_networks.specs.steps.Numbering.{IsTable, IsTableOf, MarksInput, names_with_nodes}
+use Rattle.switch_net.specs.Network.{IsSound}
+use Rattle.sim_networks.specs.steps.Numbering.{IsTable, MarksInput}
 use Rattle.sim_networks.proofs.NumberLaws.{has_labelled, one_number}
 
 -- a name of the table has one node

@@ -1,15 +1,13 @@
 -- The letters of transistors in a sim text.
-use Rattle.std.proofs.Common.{◌≡◌, ◌+◌, ◌≤◌, ℕ, ℤ, Bool, true, false, cond, List, [], ◌∷◌, Result, Ok, Err, inl, inr, refl}
-use Rattle.std.proofs.Common.{sym, subst, ◌∙◌, arith}
-use Rattle.std.specs.Prelude.{All, filter_map, codes}
-use Rattle.std.specs.Str.{bytes_eq}
+use Rattle.sim_networks.proofs.Common.{◌≡◌, ◌+◌, ◌≤◌, ℕ, ℤ, Bool, true, false, cond, List, [], ◌∷◌, inl, inr, refl, sym, subst, ◌∙◌, arith, All}
+use Rattle.sim_networks.proofs.Common.{bytes_eq, SimFet, SimFile, In, All-from_In}
+use Rattle.std.proofs.Common.{Result, Ok, Err}
+use Rattle.std.specs.Prelude.{filter_map, codes}
 use Rattle.text_scan.specs.Lines.{lines_of}
 use Rattle.text_scan.specs.Words.{words_of}
 use Rattle.sim_text.specs.TextForm.SaidLines.{and_then, AreSaid}
 use Rattle.sim_text.specs.declared.faults.SimFault.{SimFault}
 use Rattle.sim_text.specs.declared.faults.SimFault.TheVariants.{BadLine, Letter}
-use Rattle.sim_text.specs.declared.files.SimFet.{SimFet}
-use Rattle.sim_text.specs.declared.files.SimFile.{SimFile}
 use Rattle.sim_text.specs.declared.files.SimLine.{SimLine}
 use Rattle.sim_text.specs.declared.files.SimLine.TheVariants.{Header, Fet, Cap, Alias, Nothing}
 use Rattle.sim_text.specs.Parts.{is_letter, letter_in, name_in, cap_in, four_numbers_in}
@@ -17,8 +15,6 @@ use Rattle.sim_text.specs.LineForms.{words_say, begins_with_bar, says}
 use Rattle.sim_text.specs.SimTexts.{sim_in, fet_said, IsSimText}
 use Rattle.sim_text.proofs.SpelledTexts.{sim_in-spelled}
 use Rattle.sim_text.proofs.WrittenLines.{says-further}
-use Rattle.finite_sets.specs.Lists.{In}
-use Rattle.finite_sets.proofs.Searches.{All-from_In}
 use Rattle.sim_networks.specs.SimNetworks.{HasLetter}
 
 -- a transistor that a line says has a letter that makes a switch

@@ -1,3 +1,4 @@
+mod Common
 mod GatherLaws
 mod NumberLaws
 pub mod NodeLaws

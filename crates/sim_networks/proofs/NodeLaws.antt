@@ -1,23 +1,17 @@
 -- Nodes as classes of names that aliases join.
-use Rattle.std.proofs.Common.{◌≡◌, ◌↔◌, ℕ, ◌+◌, ◌<◌, ◌≤◌, Some, List, [], ◌∷◌, ◌++◌, length, get_or, take, map, inl, inr, refl, sym}
-use Rattle.std.proofs.Common.{ap, ◌∙◌, subst, arith}
-use Rattle.std.specs.Prelude.{zip, All}
-use Rattle.std.proofs.lemmas.Bool.{cases_lt, cases_order}
-use Rattle.std.proofs.lemmas.List.{map_more, take_all}
-use Rattle.std.proofs.lemmas.Option.{slice_get_within, slice_get-get_or, get_or_from_slice_get}
-use Rattle.finite_sets.specs.Least.{IsLeast}
-use Rattle.finite_sets.specs.Lists.{In}
+use Rattle.sim_networks.proofs.Common.{◌≡◌, ℕ, ◌+◌, ◌<◌, ◌≤◌, Some, List, [], ◌∷◌, ◌++◌, length, get_or, take, map, inl, inr, refl, sym, ap, ◌∙◌}
+use Rattle.sim_networks.proofs.Common.{subst, arith, zip, All, cases_lt, cases_order, map_more, take_all, slice_get_within, get_or_from_slice_get}
+use Rattle.sim_networks.proofs.Common.{IsLeast, In, In-append_left, In-append_right, In-get_or, In-map, All-from_In, Divides, IsPair, AreOfOneNode}
+use Rattle.sim_networks.proofs.Common.{SimRecords, names_of, names_of_aliases, names_of_transistors, SimFile, NodeNames, NodeTable, IsNumberedByCaps}
+use Rattle.sim_networks.proofs.Common.{StandsAt, records_of, AreNodesOf, IsTableOf, number_in, numbers_in}
+use Rattle.std.proofs.Common.{◌↔◌}
+use Rattle.std.proofs.lemmas.Option.{slice_get-get_or}
 use Rattle.finite_sets.proofs.Chains.{Chain-one, Chain-map}
-use Rattle.finite_sets.proofs.Members.{In-append_left, In-append_right, In-append_cases, In-get_or, In-map, In-map_source}
-use Rattle.finite_sets.proofs.Searches.{All-from_In}
-use Rattle.partition.specs.Divides.{Divides, IsJoined, IsPair, AddsPair}
+use Rattle.finite_sets.proofs.Members.{In-append_cases, In-map_source}
+use Rattle.partition.specs.Divides.{IsJoined, AddsPair}
 use Rattle.partition.specs.Marks.{HasMark, IsNumbered}
-use Rattle.switch_net.specs.SimRecords.{AreOfOneNode, IsAlias, SimRecords, names_of, names_of_aliases, names_of_transistors}
-use Rattle.sim_text.specs.declared.files.SimFile.{SimFile}
-use Rattle.sim_networks.specs.declared.names.NodeNames.{NodeNames}
-use Rattle.sim_networks.specs.declared.nodes.NodeTable.{NodeTable}
-use Rattle.sim_networks.specs.SimNetworks.{IsNumberedByCaps, StandsAt, records_of}
-use Rattle.sim_networks.specs.steps.Numbering.{AreKnown, AreNamesOf, AreNodesOf, IsTableOf, arrivals, number_in, numbers_in}
+use Rattle.switch_net.specs.SimRecords.{IsAlias}
+use Rattle.sim_networks.specs.steps.Numbering.{AreKnown, AreNamesOf, arrivals}
 use Rattle.sim_networks.proofs.GatherLaws.{AreGathered, gathered}
 use Rattle.sim_networks.proofs.NumberLaws.{IsLabelled, number_is, number_in-is, labelled_has, has_labelled}
 

@@ -1,20 +1,13 @@
 -- The numbers of names, and names with their nodes.
-use Rattle.std.proofs.Common.{◌≡◌, ℕ, zero, suc, ◌+◌, ◌<◌, Option, Some, None, List, [], ◌∷◌, ◌++◌, ◌≤◌, length}
-use Rattle.std.proofs.Common.{get_or, take, inl, inr, refl, sym, ap, ◌∙◌, subst, arith}
-use Rattle.std.specs.Prelude.{zip, position, unwrap_or}
-use Rattle.std.specs.Str.{bytes_eq}
-use Rattle.std.proofs.lemmas.Bool.{cases_order}
-use Rattle.std.proofs.lemmas.List.{take_all, take_more}
+use Rattle.sim_networks.proofs.Common.{◌≡◌, ℕ, zero, suc, ◌+◌, ◌<◌, Some, List, [], ◌∷◌, ◌++◌, ◌≤◌, length, get_or, take, inl, inr, refl, sym, ap}
+use Rattle.sim_networks.proofs.Common.{◌∙◌, subst, arith, zip, bytes_eq, cases_order, take_all, take_more, get_or_from_slice_get, bytes_eq-Decides}
+use Rattle.sim_networks.proofs.Common.{In, Distinct, In-get_or, HasName, number_in, stands_nowhere}
+use Rattle.std.proofs.Common.{Option, None}
+use Rattle.std.specs.Prelude.{position, unwrap_or}
 use Rattle.std.proofs.lemmas.List.Quantifiers.{position-Some}
-use Rattle.std.proofs.lemmas.Option.{get_or_from_slice_get, slice_get_read}
+use Rattle.std.proofs.lemmas.Option.{slice_get_read}
 use Rattle.std.proofs.lemmas.Slice.Zip.{get_or-zip, length-zip}
-use Rattle.std.proofs.lemmas.Slice.Eq.{bytes_eq-Decides}
-use Rattle.finite_sets.specs.Lists.{In, Distinct}
-use Rattle.finite_sets.proofs.Members.{In-get_or}
 use Rattle.finite_sets.proofs.Distincts.{Distinct-places}
-use Rattle.switch_net.specs.Names.{HasName}
-use Rattle.sim_networks.specs.steps.Numbering.{number_in}
-use Rattle.name_index.proofs.Positions.{stands_nowhere}
 
 -- The name stands at this number.
 pub record IsNumber (names : List (List ℕ)) (name : List ℕ) (number : ℕ) : Type 0 where

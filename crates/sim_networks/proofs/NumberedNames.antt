@@ -1,18 +1,13 @@
 -- Where the names of capacitances are of a node each, and every node has one, the nodes stand for them in their order.
-use Rattle.std.proofs.Common.{◌≡◌, ◌<◌, ◌≤◌, ◌++◌, ℕ, zero, suc, List, [], length, Some, get_or, inl, inr, refl, sym, subst, ◌∙◌, arith}
+use Rattle.sim_networks.proofs.Common.{◌≡◌, ◌<◌, ◌≤◌, ◌++◌, ℕ, zero, suc, List, [], length, Some, get_or, inl, inr, refl, sym, subst, ◌∙◌, arith}
+use Rattle.sim_networks.proofs.Common.{cases_eq, cases_lt, get_or_from_slice_get, slice_get_within, IsLeast, In, In-append_left, In-append_right}
+use Rattle.sim_networks.proofs.Common.{HasName, Network, AreOfOneNode, IsNetworkOf, SimRecords, names_of, names_of_aliases, names_of_transistors}
+use Rattle.sim_networks.proofs.Common.{IsNumberedByCaps, StandsAt}
 use Rattle.std.specs.Prelude.{AllPairs, slice_get}
-use Rattle.std.proofs.lemmas.Bool.{cases_eq, cases_lt}
 use Rattle.std.proofs.lemmas.List.{length-append}
-use Rattle.std.proofs.lemmas.Option.{get_or_from_slice_get, slice_get_within}
 use Rattle.finite_sets.specs.Chain.Chain.{stay}
-use Rattle.finite_sets.specs.Least.{IsLeast}
-use Rattle.finite_sets.specs.Lists.{In}
-use Rattle.finite_sets.proofs.Members.{In-append_left, In-append_right}
 use Rattle.finite_sets.proofs.Places.{In-slice_get, slice_get-In, slice_get-append_front, slice_get-append_left, slice_get-below, slice_get-one}
-use Rattle.switch_net.specs.Names.{HasName}
-use Rattle.switch_net.specs.Network.{Network}
-use Rattle.switch_net.specs.SimRecords.{AreOfOneNode, IsNetworkOf, SimRecords, names_of, names_of_aliases, names_of_transistors}
-use Rattle.sim_networks.specs.SimNetworks.{HasNodeForEach, IsNumberedByCaps, StandsAt}
+use Rattle.sim_networks.specs.SimNetworks.{HasNodeForEach}
 
 -- each name of a capacitance is one of the records
 pub name_of_cap : (records : SimRecords) (name : List ℕ) → In name records.capacitors → In name (names_of records)

@@ -1,19 +1,9 @@
 -- The switches of transistors, one after another, and the names at their terminals.
-use Rattle.std.proofs.Common.{◌≡◌, ℕ, suc, ◌+◌, ◌<◌, List, [], ◌∷◌, ◌++◌, length, get_or, take, map, inl, inr, refl, sym, ap, ◌∙◌, subst}
-use Rattle.std.specs.Prelude.{All}
-use Rattle.std.proofs.lemmas.List.{map_more}
-use Rattle.finite_sets.specs.Lists.{In}
-use Rattle.finite_sets.proofs.Members.{In-append_left, In-get_or, In-map}
-use Rattle.finite_sets.proofs.Searches.{All-from_In}
-use Rattle.sim_text.specs.declared.files.SimFet.{SimFet}
-use Rattle.sim_text.specs.declared.files.SimFile.{SimFile}
-use Rattle.switch_net.specs.declared.switches.Switch.{Switch}
-use Rattle.switch_net.specs.Names.{NameNodesBelow}
-use Rattle.switch_net.specs.Network.{IsWithin}
-use Rattle.switch_net.specs.SimRecords.{AreTransistors, IsTransistor, TransistorLine, names_of_aliases, names_of_transistors}
-use Rattle.sim_networks.specs.declared.nodes.NodeTable.{NodeTable}
-use Rattle.sim_networks.specs.SimNetworks.{records_of, transistor_of}
-use Rattle.sim_networks.specs.steps.Numbering.{HasTerminals, IsTableOf}
+use Rattle.sim_networks.proofs.Common.{◌≡◌, ℕ, suc, ◌+◌, ◌<◌, List, [], ◌∷◌, ◌++◌, length, get_or, take, map, inl, inr, refl, sym, ap, ◌∙◌, subst}
+use Rattle.sim_networks.proofs.Common.{All, map_more, In, In-append_left, In-get_or, In-map, All-from_In, SimFet, SimFile, Switch, NameNodesBelow}
+use Rattle.sim_networks.proofs.Common.{IsWithin, AreTransistors, names_of_aliases, names_of_transistors, NodeTable, records_of, transistor_of}
+use Rattle.sim_networks.proofs.Common.{HasTerminals, IsTableOf}
+use Rattle.switch_net.specs.SimRecords.{IsTransistor, TransistorLine}
 use Rattle.sim_networks.proofs.NumberLaws.{has_labelled}
 
 transistors_push : (names : List (List ℕ × ℕ)) (lines : List TransistorLine) (switches : List Switch) (line : TransistorLine)

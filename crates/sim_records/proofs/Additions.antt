@@ -1,13 +1,10 @@
 -- Switches that are added one after another.
-use Rattle.std.proofs.Common.{◌≡◌, ◌<◌, ◌+◌, ℕ, suc, List, [], ◌∷◌, ◌++◌, length, map, take, get_or, sym, ◌∙◌, ap, arith}
-use Rattle.std.proofs.Common.{length-append}
-use Rattle.std.specs.List.{flat_map}
+use Rattle.sim_records.proofs.Common.{◌≡◌, ◌<◌, ℕ, List, [], ◌∷◌, ◌++◌, length, map, take, sym, ◌∙◌, ap, arith, length-append, flat_map, FetRec}
+use Rattle.sim_records.proofs.Common.{MOST_SWITCHES, switches_of}
+use Rattle.std.proofs.Common.{◌+◌, suc, get_or}
 use Rattle.std.proofs.Math.Seq.{take-suc}
 use Rattle.std.proofs.lemmas.List.{append_assoc, map_more, flat_map_more}
 use Rattle.std.proofs.lemmas.List.Folds.{length-flat_map-take}
-use Rattle.ext_model.specs.declared.records.FetRec.{FetRec}
-use Rattle.sim_records.specs.declared.limits.TheConstants.{MOST_SWITCHES}
-use Rattle.sim_records.specs.Switches.{switches_of}
 
 -- ---- one more item
 

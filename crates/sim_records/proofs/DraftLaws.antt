@@ -1,22 +1,14 @@
 -- Sim texts that go on line by line.
-use Rattle.std.proofs.Common.{◌≡◌, ◌<◌, ◌≤◌, ◌+◌, ℕ, ℤ, List, [], ◌∷◌, ◌++◌, length, map, take, drop, get_or, inl, inr, refl, sym, ap, subst, ◌∙◌, arith}
-use Rattle.std.specs.List.{flat_map}
+use Rattle.sim_records.proofs.Common.{◌≡◌, ◌<◌, ◌≤◌, ℕ, ℤ, List, [], ◌∷◌, ◌++◌, length, map, take, drop, sym, ap, subst, ◌∙◌, arith, flat_map}
+use Rattle.sim_records.proofs.Common.{Circuit, NodeRec, FetRec, TermRec, SimFet, LONGEST_TEXT, lines_saying, saying_alias, saying_cap, sim_text}
+use Rattle.sim_records.proofs.Common.{whole_line_saying, SimDraft, aliases_of, cap_of, sim_of, switches_among, switches_from, switches_of}
+use Rattle.sim_records.proofs.Common.{MOST_SWITCHES, AddsSwitches, CountsAsFar, GoesOnBy, IsAsFar, aliases_text, caps_text, switches_text}
+use Rattle.std.proofs.Common.{◌+◌, get_or, inl, inr, refl}
 use Rattle.std.proofs.lemmas.Grind.{flat_map-append}
 use Rattle.std.proofs.lemmas.List.{append_assoc, append-nil, drop_more, drop_all, flat_map_more}
-use Rattle.ext_model.specs.declared.circuits.Circuit.{Circuit}
-use Rattle.ext_model.specs.declared.records.NodeRec.{NodeRec}
-use Rattle.ext_model.specs.declared.records.FetRec.{FetRec}
-use Rattle.ext_model.specs.declared.records.TermRec.{TermRec}
-use Rattle.sim_text.specs.declared.files.SimFet.{SimFet}
 use Rattle.sim_text.specs.declared.files.SimLine.TheVariants.{Header, Fet}
-use Rattle.sim_text.specs.declared.limits.TheConstants.{LONGEST_TEXT}
-use Rattle.sim_text.specs.WrittenTexts.{lines_saying, saying_alias, saying_cap, sim_text, whole_line_saying}
 use Rattle.sim_text.proofs.AppendedText.{sim_text-parts}
-use Rattle.sim_records.specs.declared.drafts.SimDraft.{SimDraft}
-use Rattle.sim_records.specs.SimRecords.{aliases_of, cap_of, sim_of}
-use Rattle.sim_records.specs.Switches.{switches_among, switches_from, switches_of}
-use Rattle.sim_records.specs.declared.limits.TheConstants.{MOST_SWITCHES}
-use Rattle.sim_records.specs.Drafts.{AddsSwitches, CountsAsFar, GoesOnBy, IsAsFar, IsDraftOf, aliases_text, caps_text, node_aliases_text, switches_text}
+use Rattle.sim_records.specs.Drafts.{IsDraftOf, node_aliases_text}
 use Rattle.sim_records.proofs.Additions.{add_image, add_images}
 
 -- ---- texts

@@ -1,4 +1,5 @@
 mod Additions
+mod Common
 mod WrittenNumbers
 mod WrittenRecords
 mod DraftLaws

@@ -1,6 +1,7 @@
 -- The numbers of sim records are those that a sim text can have.
-use Rattle.std.proofs.Common.{◌≡◌, ◌<◌, ◌/◌, ℕ, ℤ, pos, negsuc, ◌+ℤ◌, ◌<ℤ◌, Bool, true, false, cond, FitsSigned, arith}
-use Rattle.std.specs.Int.{w128, int_max, int_div_euclid}
+use Rattle.sim_records.proofs.Common.{◌≡◌, ◌<◌, ℕ, ℤ, ◌+ℤ◌, arith, w128}
+use Rattle.std.proofs.Common.{◌/◌, pos, negsuc, ◌<ℤ◌, Bool, true, false, cond, FitsSigned}
+use Rattle.std.specs.Int.{int_max, int_div_euclid}
 use Rattle.std.specs.Prelude.{int_lt, ◌^◌}
 use Rattle.std.proofs.lemmas.Int.{ints}
 use Rattle.std.proofs.Math.Nat.{div-le_self}

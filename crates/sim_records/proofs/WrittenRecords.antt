@@ -1,21 +1,14 @@
 -- Sim records are read back from their text.
-use Rattle.std.proofs.Common.{◌≡◌, ℤ, ◌+ℤ◌, true, List, [], ◌∷◌, map, Ok, FitsSigned}
+use Rattle.sim_records.proofs.Common.{◌≡◌, ℤ, ◌+ℤ◌, List, [], ◌∷◌, map, w128, flat_map, NodeRec, TermRec, FetRec, Circuit, SimFet, sim_text}
+use Rattle.sim_records.proofs.Common.{switch_between, switches_from, switches_among, switches_of, cap_of, aliases_of, sim_of}
+use Rattle.std.proofs.Common.{true, Ok, FitsSigned}
 use Rattle.std.proofs.Common.{All}
-use Rattle.std.specs.Int.{w128}
-use Rattle.std.specs.List.{flat_map}
 use Rattle.std.proofs.lemmas.List.Elements.{recursion_from_All, All-nil, All-cons, All-head, All-tail, All-append, All-map, All-weaker}
-use Rattle.ext_model.specs.declared.records.NodeRec.{NodeRec}
-use Rattle.ext_model.specs.declared.records.TermRec.{TermRec}
-use Rattle.ext_model.specs.declared.records.FetRec.{FetRec}
-use Rattle.ext_model.specs.declared.circuits.Circuit.{Circuit}
-use Rattle.sim_text.specs.declared.files.SimFet.{SimFet}
 use Rattle.sim_text.specs.Parts.{is_sim_name}
 use Rattle.sim_text.specs.SimTexts.{sim_in}
-use Rattle.sim_text.specs.WrittenTexts.{sim_text}
 use Rattle.sim_text.specs.Writable.{IsWritableFet, IsWritableCap, IsWritableAlias, IsWritable}
 use Rattle.sim_text.proofs.WrittenBack.{sim_in-sim_text}
-use Rattle.sim_records.specs.Switches.{width_of, switch_between, switches_from, switches_among, switches_with, switches_of}
-use Rattle.sim_records.specs.SimRecords.{cap_of, aliases_of, sim_of}
+use Rattle.sim_records.specs.Switches.{width_of, switches_with}
 use Rattle.sim_records.specs.SimNames.{HasSimNodeNames, HasSimFetNames, HasSimNames, HasFetNumbersThatFit, HasNumbersThatFit}
 use Rattle.sim_records.proofs.WrittenNumbers.{width_of-fits, width_of-pair-fits, length_of-fits, thousandth-within}
 

@@ -1,16 +1,11 @@
 -- What is appended, one part behind the other, is the text.
-use Rattle.std.proofs.Common.{◌≡◌, ◌+◌, ℕ, ℤ, List, [], ◌∷◌, ◌++◌, length, map, refl, sym, subst, ap, ◌∙◌, arith, append_assoc, append-nil}
+use Rattle.sim_text.proofs.Common.{◌≡◌, ◌+◌, ℕ, ℤ, List, [], ◌∷◌, ◌++◌, length, map, refl, sym, subst, ap, ◌∙◌, arith, append_assoc, append-nil}
+use Rattle.sim_text.proofs.Common.{codes, decimal, SimFault, SimFet, SimFile, SimLine, Header, Fet, saying_cap, saying_alias, lines_saying}
+use Rattle.sim_text.proofs.Common.{numbers_behind_blanks, IsTooLong}
 use Rattle.std.proofs.lemmas.List.{length-append}
-use Rattle.std.specs.Prelude.{codes}
 use Rattle.std.specs.List.{join_with_byte}
-use Rattle.text_scan.specs.Decimal.{decimal}
 use Rattle.text_scan.specs.Written.{text_of}
-use Rattle.sim_text.specs.declared.faults.SimFault.{SimFault}
-use Rattle.sim_text.specs.declared.files.SimFet.{SimFet}
-use Rattle.sim_text.specs.declared.files.SimFile.{SimFile}
-use Rattle.sim_text.specs.declared.files.SimLine.{SimLine}
-use Rattle.sim_text.specs.declared.files.SimLine.TheVariants.{Header, Fet}
-use Rattle.sim_text.specs.WrittenTexts.{line_saying, saying_cap, saying_alias, sim_text, whole_line_saying, lines_saying, numbers_behind_blanks, IsTooLong}
+use Rattle.sim_text.specs.WrittenTexts.{line_saying, sim_text, whole_line_saying}
 
 -- the word that is appended is the name that it was taken from
 pub named : (b a word name : List ℕ) → b ≡ a ++ 32 ∷ word → word ≡ name → b ≡ a ++ 32 ∷ name

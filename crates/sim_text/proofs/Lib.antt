@@ -1,3 +1,4 @@
+mod Common
 pub mod WrittenLines
 pub mod WrittenBack
 pub mod AppendedText

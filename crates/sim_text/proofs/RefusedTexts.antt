@@ -1,18 +1,11 @@
 -- A text is refused exactly at its first faulty line.
-use Rattle.std.proofs.Common.{◌≡◌, ◌↔◌, ◌+◌, ◌==◌, inl, inr, ℕ, Bool, true, false, cond, List}
-use Rattle.std.proofs.Common.{[], ◌∷◌, length, Result, Ok, Err, refl, sym, ap, ◌∙◌}
-use Rattle.std.specs.Prelude.{fold}
-use Rattle.text_scan.specs.Lines.{lines_of}
+use Rattle.sim_text.proofs.Common.{◌≡◌, ◌↔◌, ◌+◌, ◌==◌, ℕ, Bool, true, false, cond, List, [], ◌∷◌, length, Result, Ok, Err, refl, sym, ap, ◌∙◌, fold}
+use Rattle.sim_text.proofs.Common.{lines_of, first_fault_or, text_state, last_number, ended_at, and_then, saying, read_said, said_of, SimFault}
+use Rattle.sim_text.proofs.Common.{NoHeader, SimFile, SimLine, says}
+use Rattle.std.proofs.Common.{inl, inr}
 use Rattle.text_form.specs.declared.reading.At.{At}
-use Rattle.text_form.specs.Folds.{fault_at, first_fault_or, text_state, finished, last_number, ended_at}
-use Rattle.text_form.specs.SaidLines.{and_then, saying}
+use Rattle.text_form.specs.Folds.{fault_at, finished}
 use Rattle.text_form.proofs.FoldLaws.{first_fault_or-first, first_fault_or-refused}
-use Rattle.text_form.proofs.SaidLaws.{read_said, said_of}
-use Rattle.sim_text.specs.declared.faults.SimFault.{SimFault}
-use Rattle.sim_text.specs.declared.faults.SimFault.TheVariants.{Header as NoHeader}
-use Rattle.sim_text.specs.declared.files.SimFile.{SimFile}
-use Rattle.sim_text.specs.declared.files.SimLine.{SimLine}
-use Rattle.sim_text.specs.LineForms.{says}
 use Rattle.sim_text.specs.SimTexts.{nothing_yet, with_line, with_header, sim_in, IsFirstFaultyLine, IsRefusedText}
 use Rattle.sim_text.proofs.SpelledTexts.{tech_said}
 

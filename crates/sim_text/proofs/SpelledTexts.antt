@@ -1,23 +1,15 @@
 -- A text is read as a circuit exactly where its lines spell the circuit, and is refused exactly at its first faulty line.
-use Rattle.std.proofs.Common.{◌≡◌, ◌↔◌, ◌+◌, ◌≤◌, ◌==◌, ◌&&◌, ℕ, ℤ, Bool, true, false, cond, List, [], ◌∷◌, ◌++◌, length, Result, Ok, Err, refl, sym}
-use Rattle.std.proofs.Common.{subst, ap, ◌∙◌, arith, append_assoc, append-nil}
-use Rattle.std.specs.Prelude.{fold, filter_map, codes}
-use Rattle.std.specs.List.{AllByRecursion}
+use Rattle.sim_text.proofs.Common.{◌≡◌, ◌↔◌, ◌+◌, ◌≤◌, ◌==◌, ◌&&◌, ℕ, ℤ, Bool, true, false, cond, List, [], ◌∷◌, ◌++◌, length, Result, Ok, Err, refl}
+use Rattle.sim_text.proofs.Common.{sym, subst, ap, ◌∙◌, arith, append_assoc, append-nil, fold, codes, AllByRecursion, lines_of, words_of}
+use Rattle.sim_text.proofs.Common.{first_fault_or, text_state, ended_at, last_number, and_then, saying, read_said, said_of, SimFault, NoHeader}
+use Rattle.sim_text.proofs.Common.{SimFet, SimFile, SimLine, Header, Fet, Cap, Alias, Nothing, is_sim_name, name_in, letter_in, cap_in}
+use Rattle.sim_text.proofs.Common.{four_numbers_in, begins_with_units, says}
+use Rattle.std.specs.Prelude.{filter_map}
 use Rattle.std.specs.Str.{bytes_eq}
-use Rattle.text_scan.specs.Lines.{lines_of}
-use Rattle.text_scan.specs.Words.{words_of}
-use Rattle.text_form.specs.Folds.{first_fault_or, text_state, ended_at, last_number}
-use Rattle.text_form.specs.SaidLines.{and_then, saying, AreSaid}
+use Rattle.text_form.specs.SaidLines.{AreSaid}
 use Rattle.text_form.proofs.FoldLaws.{text_state-ended, text_state-Ok}
-use Rattle.text_form.proofs.SaidLaws.{read_said, said_of}
-use Rattle.sim_text.specs.declared.faults.SimFault.{SimFault}
-use Rattle.sim_text.specs.declared.faults.SimFault.TheVariants.{Header as NoHeader, BadLine, Name}
-use Rattle.sim_text.specs.declared.files.SimFet.{SimFet}
-use Rattle.sim_text.specs.declared.files.SimFile.{SimFile}
-use Rattle.sim_text.specs.declared.files.SimLine.{SimLine}
-use Rattle.sim_text.specs.declared.files.SimLine.TheVariants.{Header, Fet, Cap, Alias, Nothing}
-use Rattle.sim_text.specs.Parts.{is_sim_name, name_in, letter_in, cap_in, four_numbers_in}
-use Rattle.sim_text.specs.LineForms.{words_say, begins_with_bar, header_words_say, begins_with_units, says}
+use Rattle.sim_text.specs.declared.faults.SimFault.TheVariants.{BadLine, Name}
+use Rattle.sim_text.specs.LineForms.{words_say, begins_with_bar, header_words_say}
 use Rattle.sim_text.specs.SimTexts.{nothing_yet, with_line, with_header, sim_in, fet_said, cap_said, alias_said, IsSimText}
 use Rattle.sim_text.proofs.WrittenLines.{has_name, says-further}
 

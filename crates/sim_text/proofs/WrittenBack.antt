@@ -1,22 +1,15 @@
 -- A written text is read as the circuit that it was written from.
-use Rattle.std.proofs.Common.{◌≡◌, ◌≤◌, ℕ, ℤ, Bool, cond, List, [], ◌∷◌, ◌++◌, map, Ok, Err, sym, ap, ◌∙◌, append_assoc, append-nil}
-use Rattle.std.specs.Prelude.{fold}
-use Rattle.std.specs.List.{AllByRecursion}
+use Rattle.sim_text.proofs.Common.{◌≡◌, ◌≤◌, ℕ, ℤ, Bool, cond, List, [], ◌∷◌, ◌++◌, map, Ok, Err, sym, ap, ◌∙◌, append_assoc, append-nil, fold}
+use Rattle.sim_text.proofs.Common.{AllByRecursion, first_fault_or, text_state, ended_at, last_number, and_then, saying, NoHeader, SimFet, SimFile}
+use Rattle.sim_text.proofs.Common.{SimLine, Header, Fet, Cap, Alias, says, words_saying, saying_cap, saying_alias}
 use Rattle.std.proofs.lemmas.List.Sums.{fold-append}
 use Rattle.text_scan.specs.Written.{IsLine}
 use Rattle.text_scan.proofs.WrittenLemmas.{lines_of-text_of, IsLine-line_of}
-use Rattle.text_form.specs.Folds.{unless_faulty, first_fault_or, text_state, ended_at, last_number}
-use Rattle.text_form.specs.SaidLines.{and_then, saying}
+use Rattle.text_form.specs.Folds.{unless_faulty}
 use Rattle.text_form.proofs.FoldLaws.{text_state-ended}
 use Rattle.text_form.proofs.SaidLaws.{reads_said}
-use Rattle.sim_text.specs.declared.faults.SimFault.TheVariants.{Header as NoHeader}
-use Rattle.sim_text.specs.declared.files.SimFet.{SimFet}
-use Rattle.sim_text.specs.declared.files.SimFile.{SimFile}
-use Rattle.sim_text.specs.declared.files.SimLine.{SimLine}
-use Rattle.sim_text.specs.declared.files.SimLine.TheVariants.{Header, Fet, Cap, Alias}
-use Rattle.sim_text.specs.LineForms.{says}
 use Rattle.sim_text.specs.SimTexts.{nothing_yet, with_line, with_header, sim_in}
-use Rattle.sim_text.specs.WrittenTexts.{words_saying, line_saying, saying_cap, saying_alias, body_of, sim_text}
+use Rattle.sim_text.specs.WrittenTexts.{line_saying, body_of, sim_text}
 use Rattle.sim_text.specs.Writable.{IsWritableFet, IsWritableCap, IsWritableAlias, IsWritable}
 use Rattle.sim_text.proofs.WrittenLines.{has_name, says-Header, says-Fet, says-Cap, says-Alias, words-Header, words-Fet, words-Cap, words-Alias}
 

@@ -1,27 +1,24 @@
 -- A written line is read as what it says.
-use Rattle.std.proofs.Common.{◌≡◌, ◌≤◌, ◌==◌, ◌&&◌, ℕ, ℤ, Bool, true, false, cond, List, [], ◌∷◌, length, map, Ok, Err, FitsSigned, get_or, refl}
-use Rattle.std.proofs.Common.{ap, ◌∙◌, arith}
-use Rattle.std.specs.Prelude.{codes, nat_le, int_lt, neg_ℤ, ◌<ℤ◌}
+use Rattle.sim_text.proofs.Common.{◌≡◌, ◌≤◌, ◌==◌, ◌&&◌, ℕ, ℤ, Bool, true, false, cond, List, [], ◌∷◌, length, map, Ok, Err, refl, ap, ◌∙◌, arith}
+use Rattle.sim_text.proofs.Common.{codes, AllByRecursion, decimal, words_of, and_then, NoHeader, SimFet, Header, Fet, Cap, Alias, Nothing}
+use Rattle.sim_text.proofs.Common.{is_sim_name, name_in, letter_in, cap_in, four_numbers_in, begins_with_units, says, words_saying}
+use Rattle.std.proofs.Common.{FitsSigned, get_or}
+use Rattle.std.specs.Prelude.{nat_le, int_lt, neg_ℤ, ◌<ℤ◌}
 use Rattle.std.specs.Char.{is_ascii_graphic}
 use Rattle.std.specs.Int.{w128}
-use Rattle.std.specs.List.{AllByRecursion, list_all}
+use Rattle.std.specs.List.{list_all}
 use Rattle.std.proofs.lemmas.Bool.{and_parts}
 use Rattle.std.proofs.lemmas.Bool.Decides.{Decides-by_and, nat_tests}
 use Rattle.std.proofs.lemmas.List.Elements.{All-cons}
 use Rattle.std.proofs.lemmas.Int.{ints}
-use Rattle.text_scan.specs.Decimal.{decimal}
-use Rattle.text_scan.specs.Words.{words_of}
 use Rattle.text_scan.specs.Written.{is_separator, IsWord, line_of}
 use Rattle.text_scan.proofs.DecimalLemmas.{wide_of-decimal}
 use Rattle.text_scan.proofs.WrittenLemmas.{IsWord-decimal, IsWord-test, words_of-line_of, words-decimals}
-use Rattle.text_form.specs.SaidLines.{and_then}
-use Rattle.sim_text.specs.declared.faults.SimFault.TheVariants.{Header as NoHeader, Letter, Name, Range}
-use Rattle.sim_text.specs.declared.files.SimFet.{SimFet}
-use Rattle.sim_text.specs.declared.files.SimLine.TheVariants.{Header, Fet, Cap, Alias, Nothing}
+use Rattle.sim_text.specs.declared.faults.SimFault.TheVariants.{Letter, Name, Range}
 use Rattle.sim_text.specs.declared.limits.TheConstants.{LONGEST_SIM_NAME, CAP_EDGE}
-use Rattle.sim_text.specs.Parts.{is_sim_name, is_letter, is_within_edge, name_in, letter_in, or_bad_line, number_in, within_edge, cap_in, four_numbers_in}
-use Rattle.sim_text.specs.LineForms.{fet_line, words_say, begins_with_bar, further_line_says, header_words_say, begins_with_units, says}
-use Rattle.sim_text.specs.WrittenTexts.{words_saying, line_saying}
+use Rattle.sim_text.specs.Parts.{is_letter, is_within_edge, or_bad_line, number_in, within_edge}
+use Rattle.sim_text.specs.LineForms.{fet_line, words_say, begins_with_bar, further_line_says, header_words_say}
+use Rattle.sim_text.specs.WrittenTexts.{line_saying}
 use Rattle.sim_text.specs.Writable.{AreFour, IsWritableFet}
 
 -- names, letters and numbers are words

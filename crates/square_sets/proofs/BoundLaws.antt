@@ -1,17 +1,10 @@
 -- Bounds of rectangles: what lies within them, and that they fit 64 bits with what a square reaches added.
-use Rattle.std.proofs.Common.{◌≡◌, ℤ, pos, ◌+ℤ◌, ◌-ℤ◌, ◌≤ℤ◌, ◌<ℤ◌, List, w64, to_z, of_z, refl, rules, arith}
-use Rattle.std.specs.Prelude.{neg_ℤ, All}
-use Rattle.std.proofs.lemmas.Int.{ints, to_z-of_z}
-use Rattle.geo_core.proofs.FiniteSets.Searches.{All-In, All-from_In}
-use Rattle.geo_core.specs.declared.limits.TheConstants.{PLANE_EDGE}
-use Rattle.geo_core.specs.declared.squares.Square.{Square}
-use Rattle.geo_core.specs.declared.squares.Rect.{Rect}
-use Rattle.geo_core.specs.Areas.{corner_of, LiesWithin}
-use Rattle.geo_core.specs.Covering.{Covers, IsProper}
-use Rattle.geo_core.specs.Strips.{IsInUnion}
+use Rattle.square_sets.proofs.Common.{◌≡◌, ℤ, pos, ◌+ℤ◌, ◌-ℤ◌, ◌≤ℤ◌, ◌<ℤ◌, List, w64, to_z, of_z, refl, rules, arith, All, ints, to_z-of_z, All-In}
+use Rattle.square_sets.proofs.Common.{All-from_In, PLANE_EDGE, Square, Rect, LiesWithin, Covers, IsProper, IsInUnion, SET_EDGE, IsBounded, IsReach}
+use Rattle.std.specs.Prelude.{neg_ℤ}
+use Rattle.geo_core.specs.Areas.{corner_of}
 use Rattle.geo_core.proofs.CoveringLaws.{corner_covered, within_covers, within_trans}
-use Rattle.square_sets.specs.declared.limits.TheConstants.{MOST_REACH, SET_EDGE}
-use Rattle.square_sets.specs.Reaches.{IsBounded, IsReach}
+use Rattle.square_sets.specs.declared.limits.TheConstants.{MOST_REACH}
 
 -- what covers no square but those of other rectangles lies within what these lie within
 pub union_within : (areas found : List Rect) (around : Rect) → All (λ area. LiesWithin area around) areas → All IsProper found

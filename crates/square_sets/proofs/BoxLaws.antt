@@ -1,16 +1,12 @@
 -- Boxes by sets that are grown and shrunk, and that the squares of a set alone decide which of them are too narrow, too tight or too near.
-use Rattle.std.proofs.Common.{inl, inr, ℤ, pos, ◌+ℤ◌, ◌-ℤ◌, ◌≤ℤ◌, ◌<ℤ◌, List, sym, ◌∙◌, arith}
+use Rattle.square_sets.proofs.Common.{inl, inr, ℤ, pos, ◌+ℤ◌, ◌-ℤ◌, ◌≤ℤ◌, ◌<ℤ◌, List, sym, ◌∙◌, arith, ints, Square, Rect, Covers, IsInUnion}
+use Rattle.square_sets.proofs.Common.{IsOutside, LiesInBox, LiesInNoBox, AreSameSquares, IsDilated, IsEroded, Reaches}
 use Rattle.std.specs.List.{list_any}
 use Rattle.std.proofs.lemmas.Bool.{cases_Bool, false≢true}
-use Rattle.std.proofs.lemmas.Int.{ints}
 use Rattle.geo_core.proofs.FiniteSets.Searches.{list_any-In, list_any-source}
-use Rattle.geo_core.specs.declared.squares.Square.{Square}
-use Rattle.geo_core.specs.declared.squares.Rect.{Rect}
-use Rattle.geo_core.specs.Covering.{Covers, is_covered}
-use Rattle.geo_core.specs.Strips.{IsInUnion}
+use Rattle.geo_core.specs.Covering.{is_covered}
 use Rattle.geo_core.proofs.CoveringLaws.{Covers-is_covered, is_covered-Covers}
-use Rattle.square_sets.specs.Boxes.{box_at, IsNearBy, IsOutside, IsTooNarrow, LiesInBox, LiesInNoBox}
-use Rattle.square_sets.specs.Reaches.{AreSameSquares, IsDilated, IsEroded, Reaches}
+use Rattle.square_sets.specs.Boxes.{box_at, IsNearBy, IsTooNarrow}
 
 -- ---- squares of a box, and its corner
 

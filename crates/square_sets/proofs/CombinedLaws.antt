@@ -1,21 +1,17 @@
 -- The pieces that two lists make where they lie over each other tell what both cover and what the first covers alone.
-use Rattle.std.proofs.Common.{◌≡◌, ◌⊎◌, inl, inr, ℕ, ◌+◌, ◌<◌, ◌≤◌, Bool, true, List, ◌++◌, map, length, Some, sym, ◌∙◌, subst, refl, arith}
-use Rattle.std.specs.Prelude.{filter, nat_le, nat_lt, slice_get}
+use Rattle.square_sets.proofs.Common.{◌≡◌, inl, inr, List, map, sym, ◌∙◌, subst, refl, arith, filter, In-map, In-map_source, In-filter}
+use Rattle.square_sets.proofs.Common.{In-filter_source, In-filter_passes, Square, Rect, Covers, IsInUnion, IsInBoth, IsInFirstAlone, AreSameSquares}
+use Rattle.std.proofs.Common.{◌⊎◌, ℕ, ◌+◌, ◌<◌, ◌≤◌, Bool, true, ◌++◌, length, Some}
+use Rattle.std.specs.Prelude.{nat_le, nat_lt, slice_get}
 use Rattle.std.proofs.lemmas.Bool.{and_parts}
 use Rattle.std.proofs.lemmas.Option.{slice_get_within}
 use Rattle.geo_core.specs.FiniteSets.Lists.{In}
-use Rattle.geo_core.proofs.FiniteSets.Members.{In-map, In-map_source, In-filter, In-filter_source, In-filter_passes}
 use Rattle.geo_core.proofs.FiniteSets.Places.{In-slice_get, slice_get-In, slice_get-append_cases, slice_get-append_left, slice_get-append_right}
 use Rattle.geo_core.proofs.FiniteSets.Searches.{list_all-from_In, list_all-In, list_any-passes, list_any-source}
-use Rattle.geo_core.specs.declared.squares.Square.{Square}
-use Rattle.geo_core.specs.declared.squares.Rect.{Rect}
-use Rattle.geo_core.specs.Covering.{Covers}
-use Rattle.geo_core.specs.Strips.{IsInUnion}
 use Rattle.rect_overlays.specs.declared.stacks.Stack.{Stack}
 use Rattle.rect_overlays.specs.Stacks.{AreStacks}
 use Rattle.rect_overlays.proofs.Lists.{some-In}
-use Rattle.square_sets.specs.steps.Combined.{area_of, has_first, has_second, is_lone, is_shared, IsInBoth, IsInFirstAlone}
-use Rattle.square_sets.specs.Reaches.{AreSameSquares}
+use Rattle.square_sets.specs.steps.Combined.{area_of, has_first, has_second, is_lone, is_shared}
 
 -- ---- tests of numbers
 

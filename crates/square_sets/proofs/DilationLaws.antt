@@ -1,17 +1,9 @@
 -- Rectangles that are grown cover what their squares reach.
-use Rattle.std.proofs.Common.{ℤ, pos, neg_ℤ, ◌+ℤ◌, ◌-ℤ◌, ◌≤ℤ◌, ◌<ℤ◌, List, map, sym, subst, arith}
-use Rattle.std.specs.Prelude.{All}
+use Rattle.square_sets.proofs.Common.{ℤ, pos, neg_ℤ, ◌+ℤ◌, ◌-ℤ◌, ◌≤ℤ◌, ◌<ℤ◌, List, map, sym, subst, arith, All, ints, In-map, In-map_source, All-In}
+use Rattle.square_sets.proofs.Common.{All-from_In, PLANE_EDGE, Square, Rect, Covers, IsProper, IsInUnion, SET_EDGE, grown, AreSameSquares, IsBounded}
+use Rattle.square_sets.proofs.Common.{IsDilated, IsReach, Reaches}
 use Rattle.std.specs.Int.{int_max}
-use Rattle.std.proofs.lemmas.Int.{ints, clamps}
-use Rattle.geo_core.proofs.FiniteSets.Members.{In-map, In-map_source}
-use Rattle.geo_core.proofs.FiniteSets.Searches.{All-In, All-from_In}
-use Rattle.geo_core.specs.declared.limits.TheConstants.{PLANE_EDGE}
-use Rattle.geo_core.specs.declared.squares.Square.{Square}
-use Rattle.geo_core.specs.declared.squares.Rect.{Rect}
-use Rattle.geo_core.specs.Covering.{Covers, IsProper}
-use Rattle.geo_core.specs.Strips.{IsInUnion}
-use Rattle.square_sets.specs.declared.limits.TheConstants.{SET_EDGE}
-use Rattle.square_sets.specs.Reaches.{grown, AreSameSquares, IsBounded, IsDilated, IsReach, Reaches}
+use Rattle.std.proofs.lemmas.Int.{clamps}
 
 -- some square of a rectangle reaches each square of the rectangle that is grown
 grown_reached : (low high : ℤ) (area : Rect) (square : Square) → IsReach low → IsReach high → IsProper area → Covers (grown low high area) square

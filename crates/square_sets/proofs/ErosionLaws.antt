@@ -1,21 +1,14 @@
 -- Strips that lose columns cover the squares that reach squares of their set alone along a row. Turned, the same once more does it along columns.
-use Rattle.std.proofs.Common.{◌≡◌, ℕ, ◌+◌, ◌<◌, ℤ, pos, neg_ℤ, ◌+ℤ◌, ◌-ℤ◌, ◌≤ℤ◌, ◌<ℤ◌, inl, inr, cond, List, [], ◌∷◌, ◌++◌, length, get_or, take}
-use Rattle.std.proofs.Common.{map, sym, ◌∙◌, ap, subst, arith}
-use Rattle.std.specs.Prelude.{All, filter}
-use Rattle.std.proofs.lemmas.Int.{ints}
+use Rattle.square_sets.proofs.Common.{◌≡◌, ℤ, pos, neg_ℤ, ◌+ℤ◌, ◌-ℤ◌, ◌≤ℤ◌, ◌<ℤ◌, inl, inr, List, take, map, sym, ◌∙◌, ap, subst, arith, All, filter}
+use Rattle.square_sets.proofs.Common.{ints, In-map, In-map_source, In-filter, In-filter_source, In-filter_passes, All-In, All-from_In, Square, Rect}
+use Rattle.square_sets.proofs.Common.{has_square, LiesWithin, Covers, IsProper, IsInUnion, IsStrips, strips_same, upright_core, AreSameSquares}
+use Rattle.square_sets.proofs.Common.{IsBounded, IsEroded, IsReach}
+use Rattle.std.proofs.Common.{ℕ, ◌+◌, ◌<◌, cond, [], ◌∷◌, ◌++◌, length, get_or}
 use Rattle.std.proofs.lemmas.List.{map-append, take_more}
 use Rattle.std.proofs.lemmas.List.Elements.{filter-append}
-use Rattle.geo_core.proofs.FiniteSets.Members.{In-map, In-map_source, In-filter, In-filter_source, In-filter_passes}
 use Rattle.geo_core.proofs.FiniteSets.Orders.{at_most_or_greater}
-use Rattle.geo_core.proofs.FiniteSets.Searches.{All-In, All-from_In}
-use Rattle.geo_core.specs.declared.squares.Square.{Square}
-use Rattle.geo_core.specs.declared.squares.Rect.{Rect}
-use Rattle.geo_core.specs.Areas.{has_square, LiesWithin}
-use Rattle.geo_core.specs.Covering.{Covers, IsProper}
-use Rattle.geo_core.specs.Strips.{IsInUnion, IsStrips}
 use Rattle.geo_core.proofs.CoveringLaws.{IsProper-has_square, has_square-IsProper}
-use Rattle.geo_core.proofs.StripSets.{strip_is_proper, strip_within, strips_same}
-use Rattle.square_sets.specs.Reaches.{upright_core, AreSameSquares, IsBounded, IsEroded, IsReach}
+use Rattle.geo_core.proofs.StripSets.{strip_is_proper, strip_within}
 use Rattle.square_sets.proofs.BoundLaws.{union_within}
 
 -- ---- strips of a set

@@ -1,5 +1,6 @@
 mod BoundLaws
 mod BoxLaws
 mod CombinedLaws
+mod Common
 mod DilationLaws
 pub mod ErosionLaws

@@ -1,29 +1,19 @@
 -- Elements of one child: what of its flat layout they have at a place, and the paths through them. And the elements of a grid.
-use Rattle.std.proofs.Common.{◌≡◌, ◌⊎◌, ◌∙◌, ℕ, ℤ, pos, ◌+ℤ◌, neg_ℤ, bit_or, List, [], ◌∷◌, inl, inr, refl, sym, ap, subst, arith}
-use Rattle.std.specs.Prelude.{Some}
-use Rattle.std.proofs.lemmas.Int.{ints}
-use Rattle.tech_model.specs.GeoCore.FiniteSets.Lists.{In}
+use Rattle.stack_nodes.proofs.Common.{◌≡◌, ◌∙◌, ℕ, ℤ, pos, neg_ℤ, List, [], ◌∷◌, inl, inr, refl, sym, ap, subst, arith, Some, ints, In, Square}
+use Rattle.stack_nodes.proofs.Common.{identity, RawTech, In-map, In-map_source, place_back, Place, element_transform, UseElement, array_element}
+use Rattle.stack_nodes.proofs.Common.{use_elements, named_elements_at, HasNodePath, HasNodePathBelow, NamedTree, no_more}
+use Rattle.std.proofs.Common.{◌⊎◌, ◌+ℤ◌, bit_or}
 use Rattle.tech_model.specs.GeoCore.FiniteSets.Range.{IsBetween, integer_range, pairs_of}
 use Rattle.tech_model.specs.GeoCore.declared.grids.Grid.{Grid}
-use Rattle.tech_model.specs.GeoCore.declared.squares.Square.{Square}
 use Rattle.tech_model.specs.GeoCore.declared.transforms.Transform.{Transform}
 use Rattle.tech_model.specs.GeoCore.Elements.{element_of, elements_of, indices}
-use Rattle.tech_model.specs.GeoCore.Images.{identity, inverted}
-use Rattle.tech_model.specs.declared.raw.RawTech.{RawTech}
-use Rattle.tech_model.proofs.GeoCore.FiniteSets.Members.{In-map, In-map_source}
+use Rattle.tech_model.specs.GeoCore.Images.{inverted}
 use Rattle.tech_model.proofs.GeoCore.FiniteSets.Ranges.{Lists-integer_range, Lists-pairs_of}
 use Rattle.tech_model.proofs.GeoCore.ImageLaws.{image-moved}
 use Rattle.tech_model.proofs.GeoCore.SquareLaws.{square_is}
-use Rattle.library_trees.specs.CellLibrary.LayoutModel.CellTrees.{place_back}
 use Rattle.library_trees.specs.CellLibrary.LayoutModel.FlatSets.{flat_sets, sets_below}
-use Rattle.library_trees.specs.CellLibrary.LayoutModel.Places.{Place}
-use Rattle.library_trees.specs.CellLibrary.LayoutTrees.{element_transform}
 use Rattle.ext_model.specs.Paths.{path_text}
-use Rattle.library_trees.specs.ElementNames.{UseElement, array_element, use_elements}
-use Rattle.library_trees.specs.NamedCells.{named_elements_at}
-use Rattle.library_trees.specs.TreeRecords.FlatLayouts.{HasNodePath, HasNodePathBelow}
-use Rattle.library_trees.specs.TreeRecords.NamedTrees.{NamedTree, layouts_below, layouts_of}
-use Rattle.library_trees.specs.TreeRecords.NamedTrees.NamedElements.{no_more}
+use Rattle.library_trees.specs.TreeRecords.NamedTrees.{layouts_below, layouts_of}
 use Rattle.library_trees.proofs.TreeNames.HierarchyModel.LayoutModel.SetUnions.{none_union, union_none, union_same}
 
 module _ (raw : RawTech) (tree : NamedTree) (placed : Transform) where

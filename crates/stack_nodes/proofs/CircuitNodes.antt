@@ -1,23 +1,14 @@
 -- The circuit of a stack has a node for each row and each column.
-use Rattle.std.proofs.Common.{◌≡◌, ◌<◌, ◌+◌, ℕ, List, length, refl, subst, arith, inl, inr, false}
-use Rattle.std.specs.Prelude.{Some, codes}
+use Rattle.stack_nodes.proofs.Common.{◌≡◌, ◌<◌, ◌+◌, ℕ, List, length, refl, subst, arith, inl, inr, false, Some, codes, cases_Bool, RawTech, Place}
+use Rattle.stack_nodes.proofs.Common.{LibraryView, Circuit, NodeRec, is_global, slashes_in, names_of, tile_name, HasOwnName}
 use Rattle.std.specs.List.{flat_map, list_any}
 use Rattle.std.specs.Str.{bytes_eq}
-use Rattle.std.proofs.lemmas.Bool.{cases_Bool}
 use Rattle.std.proofs.lemmas.Slice.Eq.{bytes_eq-Decides}
-use Rattle.tech_model.specs.declared.raw.RawTech.{RawTech}
 use Rattle.tech_model.specs.Types.{has_name, layer_named}
 use Rattle.tech_model.proofs.GeoCore.FiniteSets.Images.{In-flat_map, In-flat_map_source}
 use Rattle.tech_model.proofs.GeoCore.FiniteSets.Searches.{In-from_list_any, absent-from_list_any, position_from-below}
-use Rattle.library_trees.specs.CellLibrary.LayoutModel.Places.{Place}
-use Rattle.library_trees.specs.CellLibrary.Views.{LibraryView}
-use Rattle.ext_model.specs.declared.circuits.Circuit.{Circuit}
-use Rattle.ext_model.specs.declared.records.NodeRec.{NodeRec}
-use Rattle.ext_model.specs.NodeNames.{is_global, slashes_in}
-use Rattle.ext_model.specs.RecordNames.{names_of}
-use Rattle.layout_gen.specs.Generated.{diff_name, poly_name, tile_name}
+use Rattle.layout_gen.specs.Generated.{diff_name, poly_name}
 use Rattle.library_trees.specs.NamedCells.{named_tree_at}
-use Rattle.library_trees.specs.TreeRecords.FlatLayouts.{HasOwnName}
 use Rattle.library_trees.specs.TreeRecords.TreeCircuits.{IsFlatCircuit}
 use Rattle.stack_nodes.specs.StackNodes.{HasNodeOfName, IsStackCircuit, OfRowsAndColumns, StackCircuitsHaveTheirNodes}
 use Rattle.stack_nodes.proofs.StackNames.{HasFlatName, column_name_is, named_in_stack, row_name_is, tile_path}

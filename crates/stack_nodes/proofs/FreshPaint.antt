@@ -1,27 +1,19 @@
 -- Paint of a layer where there was none: the layer's images stand, and no type stands on a plane that is not its own.
-use Rattle.std.proofs.Common.{◌≡◌, ◌<◌, ◌≤◌, ◌∙◌, ℕ, true, false, Bool, List, length, refl, sym, ap, subst, arith, inl, inr}
-use Rattle.std.specs.Prelude.{◌||◌, Option, Some, None, IsTrue}
+use Rattle.stack_nodes.proofs.Common.{◌≡◌, ◌<◌, ◌≤◌, ◌∙◌, ℕ, true, false, Bool, List, length, refl, sym, ap, subst, arith, inl, inr, Option, Some}
+use Rattle.stack_nodes.proofs.Common.{None, IsTrue, cases_Bool, In, Square, is_covered, MOST_PLANES, RawTech, TypeId, HaveOwnSets, images_of}
+use Rattle.stack_nodes.proofs.Common.{plane_of, IsWellFormed, Layout, Place, place_at, with_paint}
+use Rattle.std.specs.Prelude.{◌||◌}
 use Rattle.std.specs.Option.{option_map_or}
-use Rattle.std.proofs.lemmas.Bool.{cases_Bool, cases_lt, eq-eqb, eqb-true}
-use Rattle.tech_model.specs.GeoCore.FiniteSets.Lists.{In}
+use Rattle.std.proofs.lemmas.Bool.{cases_lt, eq-eqb, eqb-true}
 use Rattle.tech_model.specs.GeoCore.declared.squares.Rect.{Rect}
-use Rattle.tech_model.specs.GeoCore.declared.squares.Square.{Square}
-use Rattle.tech_model.specs.GeoCore.Covering.{is_covered}
 use Rattle.tech_model.specs.declared.columns.Brush.TheVariants.{Paint as PaintBrush}
-use Rattle.tech_model.specs.declared.limits.TheConstants.{MOST_PLANES}
-use Rattle.tech_model.specs.declared.raw.RawTech.{RawTech}
-use Rattle.tech_model.specs.declared.raw.TypeId.{TypeId}
 use Rattle.tech_model.specs.ColumnForms.{IsColumn, IsOnPlane}
 use Rattle.tech_model.specs.Columns.{painted_column, type_on}
-use Rattle.tech_model.specs.Rules.{HaveOwnSets}
-use Rattle.tech_model.specs.Types.{image_on, images_of, is_on, is_type, layer_of, plane_of, type_number}
-use Rattle.tech_model.specs.WellFormed.{IsWellFormed}
+use Rattle.tech_model.specs.Types.{image_on, is_on, is_type, layer_of, type_number}
 use Rattle.tech_model.proofs.GeoCore.FiniteSets.Searches.{find-In, find-passes}
 use Rattle.tech_model.proofs.WellFormedLaws.{type_bounds}
 use Rattle.tech_model.proofs.WholeLaws.{brushed_column-whole}
-use Rattle.library_trees.specs.CellLibrary.LayoutModel.Layouts.{Layout}
-use Rattle.library_trees.specs.CellLibrary.LayoutModel.Places.{Place}
-use Rattle.cell_paint.specs.Painting.{column_at, place_at, with_paint}
+use Rattle.cell_paint.specs.Painting.{column_at}
 use Rattle.cell_paint.proofs.AgainLaws.{found_image, image_type}
 use Rattle.cell_paint.proofs.ColumnsLaws.{column_type}
 use Rattle.cell_paint.proofs.PaintLaws.{changed_inside, changed_outside, type_past_column}

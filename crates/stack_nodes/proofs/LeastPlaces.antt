@@ -1,10 +1,9 @@
 -- Places of a tile with a fact, of which one is the least: it can't be that there is one and none is the least.
-use Rattle.std.proofs.Common.{◌≡◌, ◌<◌, ◌+◌, ◌*◌, ◌⊎◌, ℕ, zero, suc, ℤ, ◌≤ℤ◌, pos, negsuc, arith, inl, inr, refl}
-use Rattle.std.proofs.lemmas.Bool.{cases_Bool}
-use Rattle.std.proofs.lemmas.Int.{ints}
+use Rattle.stack_nodes.proofs.Common.{◌≡◌, ◌<◌, ◌+◌, ◌*◌, ℕ, zero, suc, ℤ, ◌≤ℤ◌, pos, arith, inl, inr, refl, cases_Bool, ints, Place}
+use Rattle.std.proofs.Common.{◌⊎◌, negsuc}
 use Rattle.tech_model.specs.GeoCore.FiniteSets.Least.{IsLeast}
 use Rattle.tech_model.specs.GeoCore.FiniteSets.Range.{nonnegative_part}
-use Rattle.library_trees.specs.CellLibrary.LayoutModel.Places.{Place, IsBefore, IsNoLater}
+use Rattle.library_trees.specs.CellLibrary.LayoutModel.Places.{IsBefore, IsNoLater}
 use Rattle.library_trees.specs.Names.declared.attaching.Attachment.{Attachment}
 use Rattle.library_trees.specs.Names.steps.TakenLabels.{stands_earlier}
 use Rattle.library_trees.proofs.TreeNames.Names.PlaceOrders.{stands_earlier-false, stands_earlier-true}

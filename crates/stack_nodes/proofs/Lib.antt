@@ -1,5 +1,6 @@
 mod Arrays
 mod CircuitNodes
+mod Common
 mod FreshPaint
 mod LeastPlaces
 mod NetworkNodes

@@ -1,14 +1,11 @@
 -- The network of a circuit has a node of each name of the circuit's nodes.
-use Rattle.std.proofs.Common.{◌∙◌, ℕ, ℤ, List, [], ◌∷◌, ◌++◌, map, inl, inr, refl, sym, ap, subst, true≢false}
+use Rattle.stack_nodes.proofs.Common.{◌∙◌, ℕ, ℤ, List, [], ◌∷◌, inl, inr, refl, sym, ap, subst, cases_Bool, In, In-map, Circuit, NodeRec}
+use Rattle.std.proofs.Common.{◌++◌, map, true≢false}
 use Rattle.std.specs.List.{flat_map}
 use Rattle.std.specs.Str.{bytes_eq}
-use Rattle.std.proofs.lemmas.Bool.{cases_Bool}
 use Rattle.std.proofs.lemmas.Slice.Eq.{bytes_eq-Decides}
-use Rattle.tech_model.specs.GeoCore.FiniteSets.Lists.{In}
 use Rattle.tech_model.proofs.GeoCore.FiniteSets.Images.{In-flat_map}
-use Rattle.tech_model.proofs.GeoCore.FiniteSets.Members.{In-append_left, In-append_right, In-map}
-use Rattle.ext_model.specs.declared.circuits.Circuit.{Circuit}
-use Rattle.ext_model.specs.declared.records.NodeRec.{NodeRec}
+use Rattle.tech_model.proofs.GeoCore.FiniteSets.Members.{In-append_left, In-append_right}
 use Rattle.sim_records.specs.SimRecords.{aliases_of, cap_of, sim_of}
 use Rattle.sim_networks.specs.SimNetworks.{records_of}
 use Rattle.switch_net.specs.Names.{HasName}

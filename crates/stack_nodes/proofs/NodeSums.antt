@@ -1,34 +1,17 @@
 -- The sums that are reported of a stack fit 128 bits: its circuit has no more nodes than its layout has places, and the areas and perimeters of
 -- each node are small.
-use Rattle.std.proofs.Common.{◌≡◌, ◌<◌, ◌≤◌, ◌*◌, ◌^◌, ◌∙◌, ℕ, zero, suc, ℤ, pos, ◌≤ℤ◌, ◌*ℤ◌, List, [], ◌∷◌, length, map, get_or, inl, inr}
-use Rattle.std.proofs.Common.{refl, sym, ap, subst, arith}
-use Rattle.std.specs.Prelude.{IsTrue, Some, codes}
+use Rattle.stack_nodes.proofs.Common.{◌≡◌, ◌<◌, ◌≤◌, ◌*◌, ◌∙◌, ℕ, zero, suc, ℤ, pos, ◌≤ℤ◌, ◌*ℤ◌, List, [], ◌∷◌, length, get_or, inl, inr, refl, sym}
+use Rattle.stack_nodes.proofs.Common.{ap, subst, arith, IsTrue, Some, codes, true≢false, ints, length-map, Distinct, In, identity, RawTech, In-map}
+use Rattle.stack_nodes.proofs.Common.{IsMaterial, Place, LibraryView, Circuit, NodeRec, is_global, names_of, row_grid, stack_grid, tile_labels}
+use Rattle.stack_nodes.proofs.Common.{UseElement, use_elements, named_elements_at, flat_layout, NamedTree, no_more}
+use Rattle.std.proofs.Common.{◌^◌, map}
 use Rattle.std.specs.Int.RustNames.{unsigned_abs}
-use Rattle.std.proofs.lemmas.Bool.{true≢false}
-use Rattle.std.proofs.lemmas.Int.{ints}
-use Rattle.std.proofs.lemmas.List.{length-map}
-use Rattle.tech_model.specs.GeoCore.FiniteSets.Lists.{Distinct, In}
 use Rattle.tech_model.specs.GeoCore.FiniteSets.Total.{sum_on}
-use Rattle.tech_model.specs.GeoCore.Images.{identity}
 use Rattle.tech_model.specs.GeoCore.declared.transforms.Transform.{Transform}
-use Rattle.tech_model.specs.declared.raw.RawTech.{RawTech}
 use Rattle.tech_model.proofs.GeoCore.FiniteSets.Chains.{Chain-carries}
-use Rattle.tech_model.proofs.GeoCore.FiniteSets.Members.{In-map}
-use Rattle.library_trees.specs.CellLibrary.LayoutModel.Layouts.{IsMaterial}
-use Rattle.library_trees.specs.CellLibrary.LayoutModel.Places.{Place}
 use Rattle.library_trees.specs.CellLibrary.LayoutModel.Technologies.{class_of, rules_of}
-use Rattle.library_trees.specs.CellLibrary.Views.{LibraryView}
-use Rattle.ext_model.specs.declared.circuits.Circuit.{Circuit}
-use Rattle.ext_model.specs.declared.records.NodeRec.{NodeRec}
-use Rattle.ext_model.specs.NodeNames.{is_global}
-use Rattle.ext_model.specs.RecordNames.{names_of}
 use Rattle.layout_gen.specs.declared.limits.TheConstants.{MOST_TILES}
-use Rattle.layout_gen.specs.Generated.{row_grid, stack_grid, tile_labels}
-use Rattle.library_trees.specs.ElementNames.{UseElement, use_elements}
-use Rattle.library_trees.specs.NamedCells.{named_elements_at}
-use Rattle.library_trees.specs.TreeRecords.FlatLayouts.{AreFlatLinked, AreOneFlatNode, HasTextBelow, HasTextSomewhere, flat_layout}
-use Rattle.library_trees.specs.TreeRecords.NamedTrees.{NamedTree}
-use Rattle.library_trees.specs.TreeRecords.NamedTrees.NamedElements.{no_more}
+use Rattle.library_trees.specs.TreeRecords.FlatLayouts.{AreFlatLinked, AreOneFlatNode, HasTextBelow, HasTextSomewhere}
 use Rattle.library_trees.specs.Names.Attachments.{label_at}
 use Rattle.library_trees.specs.TreeRecords.TreeCircuits.{IsFlatNodeRecord}
 use Rattle.library_trees.proofs.NameClasses.FullNames.ListOrders.{Distinct-names, pairwise_names, same_in_order}

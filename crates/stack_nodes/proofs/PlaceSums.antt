@@ -1,20 +1,15 @@
 -- Sums over places: how many places of a region a list may have, and so what areas and perimeters there may be.
-use Rattle.std.proofs.Common.{◌≡◌, ◌<◌, ◌≤◌, ◌+◌, ◌*◌, ◌∙◌, ℕ, suc, ℤ, pos, ◌≤ℤ◌, ◌*ℤ◌, Bool, true, false, not, List, [], ◌∷◌, length, map}
-use Rattle.std.proofs.Common.{inl, inr, refl, sym, ap, subst, arith}
-use Rattle.std.proofs.lemmas.Bool.{cases_Bool}
-use Rattle.std.proofs.lemmas.Int.{ints}
-use Rattle.std.proofs.lemmas.List.{length-map}
-use Rattle.tech_model.specs.GeoCore.FiniteSets.Lists.{Distinct, In}
+use Rattle.stack_nodes.proofs.Common.{◌≡◌, ◌<◌, ◌≤◌, ◌+◌, ◌*◌, ◌∙◌, ℕ, suc, ℤ, pos, ◌≤ℤ◌, ◌*ℤ◌, Bool, true, false, List, [], ◌∷◌, length, inl, inr}
+use Rattle.stack_nodes.proofs.Common.{refl, sym, ap, subst, arith, cases_Bool, ints, length-map, Distinct, In, MOST_PLANES, In-map_source, Layout}
+use Rattle.stack_nodes.proofs.Common.{Place}
+use Rattle.std.proofs.Common.{not, map}
 use Rattle.tech_model.specs.GeoCore.FiniteSets.Range.{nonnegative_part}
 use Rattle.tech_model.specs.GeoCore.FiniteSets.Total.{Total, one_if, sum_on}
-use Rattle.tech_model.specs.declared.limits.TheConstants.{MOST_PLANES}
 use Rattle.tech_model.proofs.GeoCore.FiniteSets.Distincts.{Distinct-map}
-use Rattle.tech_model.proofs.GeoCore.FiniteSets.Members.{In-map_source}
 use Rattle.tech_model.proofs.GeoCore.FiniteSets.Sums.{sum_on-count, sum_on-le, sum_on-scale, sum_on-zero}
-use Rattle.library_trees.specs.CellLibrary.LayoutModel.Layouts.{Layout}
 use Rattle.library_trees.specs.CellLibrary.LayoutModel.Measures.{area_at, perimeter_at}
 use Rattle.library_trees.specs.CellLibrary.LayoutModel.Nodes.{AreMeasures}
-use Rattle.library_trees.specs.CellLibrary.LayoutModel.Places.{Place, neighbours}
+use Rattle.library_trees.specs.CellLibrary.LayoutModel.Places.{neighbours}
 use Rattle.library_trees.specs.CellLibrary.LayoutModel.Technologies.{Class}
 use Rattle.sim_networks.proofs.CountLaws.{few_below}
 use Rattle.stack_nodes.proofs.Arrays.{same_place}

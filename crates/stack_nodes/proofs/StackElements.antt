@@ -1,16 +1,8 @@
 -- The elements of a row and of a stack: where they have a place, and their names.
-use Rattle.std.proofs.Common.{◌≡◌, ◌<◌, ◌-◌, ◌*◌, ◌∙◌, ℕ, ℤ, pos, ◌<ℤ◌, ◌*ℤ◌, neg_ℤ, List, refl, sym, ap, arith}
-use Rattle.std.specs.Prelude.{Some, codes}
-use Rattle.std.proofs.lemmas.Int.{ints}
-use Rattle.tech_model.specs.GeoCore.FiniteSets.Lists.{In}
+use Rattle.stack_nodes.proofs.Common.{◌≡◌, ◌<◌, ◌-◌, ◌*◌, ◌∙◌, ℕ, ℤ, pos, ◌<ℤ◌, ◌*ℤ◌, neg_ℤ, List, refl, sym, ap, arith, Some, codes, ints, In}
+use Rattle.stack_nodes.proofs.Common.{identity, place_back, Place, element_transform, indexed_name, row_grid, stack_grid, UseElement, array_element}
+use Rattle.stack_nodes.proofs.Common.{use_elements}
 use Rattle.tech_model.specs.GeoCore.Elements.{element_of, indices, nth_index}
-use Rattle.tech_model.specs.GeoCore.Images.{identity}
-use Rattle.library_trees.specs.CellLibrary.LayoutModel.CellTrees.{place_back}
-use Rattle.library_trees.specs.CellLibrary.LayoutModel.Places.{Place}
-use Rattle.library_trees.specs.CellLibrary.LayoutTrees.{element_transform}
-use Rattle.ext_model.specs.ElementNames.{indexed_name}
-use Rattle.layout_gen.specs.Generated.{row_grid, stack_grid}
-use Rattle.library_trees.specs.ElementNames.{UseElement, array_element, use_elements}
 use Rattle.stack_nodes.proofs.Arrays.{IsElementAt, back_by, element_there, moved, same_place}
 
 -- a number below n is one of the indices from 0 to n - 1

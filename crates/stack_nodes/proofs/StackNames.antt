@@ -1,21 +1,12 @@
 -- A node of the tile has its name in each tile of a stack, behind the names of the row and of the tile.
-use Rattle.std.proofs.Common.{◌≡◌, ◌<◌, ◌∙◌, ℕ, pos, Bool, false, cond, List, [], ◌∷◌, ◌++◌, append_assoc, length, refl, sym, ap, subst, inl, inr}
-use Rattle.std.specs.Prelude.{Some, codes}
-use Rattle.tech_model.specs.GeoCore.FiniteSets.Chain.Chain.{stay}
-use Rattle.tech_model.specs.GeoCore.Images.{identity}
-use Rattle.tech_model.specs.declared.raw.RawTech.{RawTech}
-use Rattle.tech_model.specs.Rules.{HaveOwnSets}
-use Rattle.tech_model.specs.WellFormed.{IsWellFormed}
-use Rattle.library_trees.specs.CellLibrary.LayoutModel.Layouts.{IsMaterial}
-use Rattle.library_trees.specs.CellLibrary.LayoutModel.Places.{Place}
-use Rattle.ext_model.specs.ElementNames.{indexed_name}
-use Rattle.ext_model.specs.NodeNames.{is_global, slashes_in}
+use Rattle.stack_nodes.proofs.Common.{◌≡◌, ◌<◌, ◌∙◌, ℕ, pos, Bool, false, List, [], ◌∷◌, length, refl, sym, ap, subst, inl, inr, Some, codes, stay}
+use Rattle.stack_nodes.proofs.Common.{identity, RawTech, HaveOwnSets, IsWellFormed, IsMaterial, Place, indexed_name, is_global, slashes_in, row_grid}
+use Rattle.stack_nodes.proofs.Common.{stack_grid, tile_name, use_elements, HasNodePath, HasNodePathBelow, HasOwnName, flat_layout}
+use Rattle.std.proofs.Common.{cond, ◌++◌, append_assoc}
 use Rattle.ext_model.specs.Paths.{full_name, path_text}
 use Rattle.ext_model.specs.TextScan.Decimal.{decimal, natural_text}
 use Rattle.ext_model.proofs.PathNames.{last_name-path_text}
-use Rattle.layout_gen.specs.Generated.{row_grid, stack_grid, tile_name}
-use Rattle.library_trees.specs.ElementNames.{use_elements}
-use Rattle.library_trees.specs.TreeRecords.FlatLayouts.{HasNodePath, HasNodePathBelow, HasOwnName, IsFlatName, flat_layout}
+use Rattle.library_trees.specs.TreeRecords.FlatLayouts.{IsFlatName}
 use Rattle.library_trees.specs.TreeRecords.NamedTrees.{named_elements_in}
 use Rattle.stack_runs.specs.StackVectors.{column_name, row_name}
 use Rattle.stack_nodes.proofs.Arrays.{path_through}

@@ -1,30 +1,17 @@
 -- What a stack has at a place of one of its tiles: what the tile has there, since no other tile covers it.
-use Rattle.std.proofs.Common.{◌≡◌, ◌≢◌, ◌<◌, ◌⊎◌, ◌∙◌, ◌-◌, ◌*◌, ℕ, suc, pos, ◌≤ℤ◌, ◌<ℤ◌, ◌*ℤ◌, neg_ℤ, length, refl, sym, ap, arith, inl, inr}
-use Rattle.std.specs.Prelude.{Option, Some, None, codes}
-use Rattle.std.proofs.lemmas.Bool.{cases_Bool, true≢false}
-use Rattle.std.proofs.lemmas.Int.{ints}
-use Rattle.tech_model.specs.GeoCore.Covering.{is_covered}
-use Rattle.tech_model.specs.GeoCore.Images.{identity}
-use Rattle.tech_model.specs.declared.limits.TheConstants.{MOST_PLANES}
-use Rattle.tech_model.specs.declared.raw.RawTech.{RawTech}
+use Rattle.stack_nodes.proofs.Common.{◌≡◌, ◌<◌, ◌∙◌, ◌-◌, ◌*◌, ℕ, suc, pos, ◌≤ℤ◌, ◌<ℤ◌, ◌*ℤ◌, neg_ℤ, length, refl, sym, ap, arith, inl, inr, Option}
+use Rattle.stack_nodes.proofs.Common.{Some, None, codes, cases_Bool, true≢false, ints, is_covered, identity, MOST_PLANES, RawTech, HaveOwnSets}
+use Rattle.stack_nodes.proofs.Common.{IsWellFormed, place_back, IsMaterial, Place, element_transform, row_grid, stack_grid, tile_layout, area_to}
+use Rattle.stack_nodes.proofs.Common.{UseElement, use_elements, flat_layout}
+use Rattle.std.proofs.Common.{◌≢◌, ◌⊎◌}
 use Rattle.tech_model.specs.ColumnForms.{IsOnPlane}
-use Rattle.tech_model.specs.Rules.{HaveOwnSets}
 use Rattle.tech_model.specs.Types.{joined, parts_of}
-use Rattle.tech_model.specs.WellFormed.{IsWellFormed}
 use Rattle.tech_model.proofs.GeoCore.CoveringLaws.{Covers-is_covered, is_covered-Covers}
 use Rattle.tech_model.proofs.GeoCore.FiniteSets.Orders.{less_equal_or_greater}
 use Rattle.tech_model.proofs.JoinedLaws.{joined-found, joined-type}
 use Rattle.tech_model.proofs.SetLaws.{set_not_empty}
-use Rattle.library_trees.specs.CellLibrary.LayoutModel.CellTrees.{place_back}
 use Rattle.library_trees.specs.CellLibrary.LayoutModel.FlatSets.{flat_sets}
 use Rattle.library_trees.specs.CellLibrary.LayoutModel.LayerTypes.{or_space}
-use Rattle.library_trees.specs.CellLibrary.LayoutModel.Layouts.{IsMaterial}
-use Rattle.library_trees.specs.CellLibrary.LayoutModel.Places.{Place}
-use Rattle.library_trees.specs.CellLibrary.LayoutTrees.{element_transform}
-use Rattle.layout_gen.specs.Generated.{row_grid, stack_grid, tile_layout}
-use Rattle.layout_gen.proofs.Sizes.{area_to}
-use Rattle.library_trees.specs.ElementNames.{UseElement, use_elements}
-use Rattle.library_trees.specs.TreeRecords.FlatLayouts.{flat_layout}
 use Rattle.library_trees.specs.TreeRecords.NamedTrees.{layouts_of}
 use Rattle.library_trees.proofs.TreeNames.HierarchyModel.LayoutModel.SetUnions.{none_union, union_none}
 use Rattle.stack_nodes.proofs.Arrays.{IsElementAt, element_place, moved, same_place, sets_at, sets_either, sets_one}

@@ -1,17 +1,12 @@
 -- The named tree of a stack: its rows, and their tiles.
-use Rattle.std.proofs.Common.{◌≡◌, ◌+◌, ◌∙◌, ℕ, suc, List, [], ◌∷◌, length, ap, arith}
-use Rattle.std.specs.Prelude.{Some, codes}
+use Rattle.stack_nodes.proofs.Common.{◌≡◌, ◌+◌, ◌∙◌, ℕ, suc, List, [], ◌∷◌, length, ap, arith, Some, codes, identity, RawTech, LibraryView, row_grid}
+use Rattle.stack_nodes.proofs.Common.{stack_grid, tile_name, use_elements, named_elements_at, NamedTree, OwnBody, no_more}
 use Rattle.std.proofs.lemmas.List.{get_or-append-add}
-use Rattle.tech_model.specs.GeoCore.Images.{identity}
-use Rattle.tech_model.specs.declared.raw.RawTech.{RawTech}
 use Rattle.library_trees.specs.CellLibrary.CellTree.declared.limits.TheConstants.{MOST_DEPTH}
-use Rattle.library_trees.specs.CellLibrary.Views.{CellView, LibraryView, no_cell, view_at}
-use Rattle.layout_gen.specs.Generated.{array_cell, no_paint, row_grid, row_name, stack_grid, stack_name, tile_cell, tile_name, with_generated}
-use Rattle.library_trees.specs.ElementNames.{use_elements}
-use Rattle.library_trees.specs.NamedCells.{body_of, named_elements_at, named_elements_from, named_tree_at, named_tree_to}
-use Rattle.library_trees.specs.TreeRecords.NamedTrees.{NamedTree, OwnBody}
+use Rattle.library_trees.specs.CellLibrary.Views.{CellView, no_cell, view_at}
+use Rattle.layout_gen.specs.Generated.{array_cell, no_paint, row_name, stack_name, tile_cell, with_generated}
+use Rattle.library_trees.specs.NamedCells.{body_of, named_elements_from, named_tree_at, named_tree_to}
 use Rattle.library_trees.specs.TreeRecords.NamedTrees.NamedTree.{named_tree}
-use Rattle.library_trees.specs.TreeRecords.NamedTrees.NamedElements.{no_more}
 use Rattle.stack_nodes.proofs.TileNodes.{tile_body}
 
 -- what a cell without paint and labels has of its own

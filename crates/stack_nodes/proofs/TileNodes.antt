@@ -1,27 +1,16 @@
 -- The names that the labels of a tile give to nodes of its paint.
-use Rattle.std.proofs.Common.{◌≡◌, ◌<◌, ℕ, zero, suc, List, length, get_or, refl, sym, ap, subst, arith, inl, inr}
-use Rattle.std.specs.Prelude.{IsTrue, codes, Some, slice_index_or}
-use Rattle.std.proofs.lemmas.Int.{ints}
-use Rattle.tech_model.specs.GeoCore.FiniteSets.Chain.Chain.{stay}
-use Rattle.tech_model.specs.GeoCore.FiniteSets.Lists.{In}
-use Rattle.tech_model.specs.GeoCore.declared.squares.Square.{Square}
-use Rattle.tech_model.specs.GeoCore.Covering.{Covers}
+use Rattle.stack_nodes.proofs.Common.{◌≡◌, ◌<◌, ℕ, zero, suc, List, length, get_or, refl, sym, ap, subst, arith, inl, inr, IsTrue, codes, Some, ints}
+use Rattle.stack_nodes.proofs.Common.{stay, In, Square, Covers, RawTech, TypeId, images_of, plane_of, IsWellFormed, IsMaterial, Place, place_at}
+use Rattle.stack_nodes.proofs.Common.{tile_labels, tile_layout, HasOwnName, OwnBody}
+use Rattle.std.specs.Prelude.{slice_index_or}
 use Rattle.tech_model.specs.declared.raw.Label.{Label}
-use Rattle.tech_model.specs.declared.raw.RawTech.{RawTech}
-use Rattle.tech_model.specs.declared.raw.TypeId.{TypeId}
 use Rattle.tech_model.specs.Rules.{KeepsRules}
-use Rattle.tech_model.specs.Types.{image_on, images_of, is_within, layer_number, no_layer, plane_of, type_number}
-use Rattle.tech_model.specs.WellFormed.{IsWellFormed}
+use Rattle.tech_model.specs.Types.{image_on, is_within, layer_number, no_layer, type_number}
 use Rattle.tech_model.proofs.GeoCore.FiniteSets.Members.{In-get_or}
 use Rattle.tech_model.proofs.TypeLaws.{within_self}
-use Rattle.library_trees.specs.CellLibrary.LayoutModel.Layouts.{IsMaterial}
-use Rattle.library_trees.specs.CellLibrary.LayoutModel.Places.{Place}
-use Rattle.cell_paint.specs.Painting.{place_at}
 use Rattle.cell_paint.proofs.AgainLaws.{found_image}
 use Rattle.ext_model.specs.NodeNames.{is_naming_text}
-use Rattle.layout_gen.specs.Generated.{diff_label, poly_label, tile_labels, tile_layout}
-use Rattle.library_trees.specs.TreeRecords.FlatLayouts.{HasOwnName}
-use Rattle.library_trees.specs.TreeRecords.NamedTrees.{OwnBody}
+use Rattle.layout_gen.specs.Generated.{diff_label, poly_label}
 use Rattle.library_trees.specs.Names.Attachments.{HasText, IsFirstToAttach, Suits, label_at, touched}
 use Rattle.library_trees.specs.Names.NamedNodes.{AreOneNamedNode}
 use Rattle.library_trees.proofs.CellNodes.NodePlaces.{AreOneNamedNode-sym, material_along}

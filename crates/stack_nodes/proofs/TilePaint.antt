@@ -1,23 +1,12 @@
 -- The paint of a tile: it lies in the tile, has types of its planes alone, and beside each label the images of the label's layer.
-use Rattle.std.proofs.Common.{◌≡◌, ◌<◌, ◌∙◌, ℕ, pos, length, refl, arith, inl, inr}
-use Rattle.std.proofs.lemmas.Bool.{cases_Bool, cases_eq}
-use Rattle.std.proofs.lemmas.Int.{ints}
-use Rattle.tech_model.specs.GeoCore.FiniteSets.Lists.{In}
-use Rattle.tech_model.specs.GeoCore.declared.squares.Square.{Square}
-use Rattle.tech_model.specs.GeoCore.Covering.{Covers, is_covered}
-use Rattle.tech_model.specs.declared.raw.RawTech.{RawTech}
-use Rattle.tech_model.specs.declared.raw.TypeId.{TypeId}
+use Rattle.stack_nodes.proofs.Common.{◌≡◌, ◌<◌, ◌∙◌, ℕ, pos, length, refl, arith, inl, inr, cases_Bool, ints, In, Square, Covers, is_covered}
+use Rattle.stack_nodes.proofs.Common.{RawTech, TypeId, HaveOwnSets, images_of, plane_of, IsWellFormed, IsMaterial, Layout, Place, place_at}
+use Rattle.stack_nodes.proofs.Common.{with_paint, tile_layout, area_to}
+use Rattle.std.proofs.lemmas.Bool.{cases_eq}
 use Rattle.tech_model.specs.Columns.{painted_column}
-use Rattle.tech_model.specs.Rules.{HaveOwnSets}
-use Rattle.tech_model.specs.Types.{images_of, plane_of}
-use Rattle.tech_model.specs.WellFormed.{IsWellFormed}
 use Rattle.tech_model.proofs.GeoCore.CoveringLaws.{Covers-is_covered}
-use Rattle.library_trees.specs.CellLibrary.LayoutModel.Layouts.{IsMaterial, Layout}
-use Rattle.library_trees.specs.CellLibrary.LayoutModel.Places.{Place}
-use Rattle.cell_paint.specs.Painting.{place_at, with_paint}
 use Rattle.cell_paint.proofs.PaintLaws.{changed_outside}
-use Rattle.layout_gen.specs.Generated.{diff_area, no_paint, poly_area, tile_layout}
-use Rattle.layout_gen.proofs.Sizes.{area_to}
+use Rattle.layout_gen.specs.Generated.{diff_area, no_paint, poly_area}
 use Rattle.stack_nodes.proofs.FreshPaint.{HasPlaneTypes, fresh_paint, painted_on}
 
 -- ---- where a tile lies

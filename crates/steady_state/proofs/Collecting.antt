@@ -1,22 +1,8 @@
 -- Marks.
-use Rattle.std.proofs.Common.{◌≡◌, ℕ, ◌+◌, ◌<◌, ◌≤◌, List, [], ◌∷◌, Bool, true, inl, inr, refl, sym, ap, subst, arith, length, ◌∙◌}
-use Rattle.std.proofs.Common.{slice_index, slice_index_or}
-use Rattle.std.specs.Prelude.{Contains}
-use Rattle.std.proofs.lemmas.Bool.{cases_eq}
-use Rattle.std.proofs.lemmas.List.{get_or_default}
-use Rattle.switch_net.specs.declared.node_set.NodeSet.{NodeSet}
-use Rattle.switch_net.specs.declared.switches.Level.{Level}
-use Rattle.switch_net.specs.declared.switches.Switch.{Switch}
-use Rattle.switch_net.specs.declared.terminals.Side.{Side}
-use Rattle.switch_net.specs.declared.terminals.Side.TheVariants.{Left, Right}
-use Rattle.switch_net.specs.Network.{Network}
-use Rattle.switch_net.specs.Path.{Hop, end_of, is_closed_or_unknown}
-use Rattle.switch_net.specs.Sets.{IsInside}
-use Rattle.switch_net.specs.Terminals.{near_end, far_end}
-use Rattle.switch_net.specs.Vicinity.{IsStorage, IsChain, IsReached}
-use Rattle.switch_net.proofs.Listing.{count-le, none_inside}
-use Rattle.switch_net.proofs.Vicinities.{in_more, in_self, chain_from}
-use Rattle.steady_state.specs.Marked.{AreMarked, AddsMarks, AreReached, IsCovered, LeadsInside}
+use Rattle.steady_state.proofs.Common.{◌≡◌, ℕ, ◌+◌, ◌<◌, ◌≤◌, List, [], ◌∷◌, Bool, true, inl, inr, refl, sym, ap, subst, arith, length, ◌∙◌}
+use Rattle.steady_state.proofs.Common.{slice_index, slice_index_or, Contains, cases_eq, get_or_default, NodeSet, Level, Switch, Side, Left, Right}
+use Rattle.steady_state.proofs.Common.{Network, Hop, end_of, is_closed_or_unknown, IsInside, near_end, far_end, IsStorage, IsChain, IsReached}
+use Rattle.steady_state.proofs.Common.{count-le, none_inside, in_more, in_self, chain_from, AreMarked, AddsMarks, AreReached, IsCovered, LeadsInside}
 use Rattle.steady_state.proofs.UnderWay.{joins}
 
 pub adds_none : (marks : NodeSet) → AddsMarks marks marks

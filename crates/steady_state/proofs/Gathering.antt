@@ -1,22 +1,10 @@
 -- What paths begin with at a node, and the strengths with which a pass begins.
-use Rattle.std.proofs.Common.{◌≡◌, ◌≢◌, ℕ, ◌+◌, ◌<◌, ◌≤◌, List, [], inl, inr, ap, subst, arith, length}
-use Rattle.std.proofs.Common.{slice_index, slice_index_or, slice_set, get_or-set_same, get_or-set_other}
-use Rattle.std.proofs.lemmas.Bool.{cases_eq}
-use Rattle.switch_net.specs.declared.switches.Level.{Level}
-use Rattle.switch_net.specs.declared.switches.Level.TheVariants.{One, Zero}
-use Rattle.switch_net.specs.declared.switches.Switch.{Switch}
-use Rattle.switch_net.specs.declared.terminals.Side.{Side}
-use Rattle.switch_net.specs.declared.terminals.Side.TheVariants.{Left, Right}
-use Rattle.switch_net.specs.Network.{Network, IsSound}
-use Rattle.switch_net.specs.Sets.{IsAmong}
-use Rattle.switch_net.specs.Terminals.{near_end, far_end}
-use Rattle.switch_net.proofs.Ranges.{root_strength-pos, ends_in_range}
+use Rattle.steady_state.proofs.Common.{◌≡◌, ◌≢◌, ℕ, ◌+◌, ◌<◌, ◌≤◌, List, [], inl, inr, ap, subst, arith, length, slice_index, slice_index_or}
+use Rattle.steady_state.proofs.Common.{slice_set, get_or-set_same, get_or-set_other, cases_eq, Level, One, Zero, Switch, Side, Left, Right, Network}
+use Rattle.steady_state.proofs.Common.{IsSound, IsAmong, near_end, far_end, root_strength-pos, ends_in_range, PathKind, Definite, FromOther}
+use Rattle.steady_state.proofs.Common.{AreGathering, AreGatheredAt, AreMore, BringAtMost, IsFloor, HasPath, IsFirstStrength, IsRelaxed}
 use Rattle.steady_state.specs.declared.beginning.Begun.{Begun}
-use Rattle.steady_state.specs.declared.kinds.PathKind.{PathKind}
-use Rattle.steady_state.specs.declared.kinds.PathKind.TheVariants.{Definite, FromOther}
-use Rattle.steady_state.specs.steps.Gathering.{IsGathered, AreGathering, AreGathered, AreGatheredAt, AreMore, ArePulled, BringAtMost}
-use Rattle.steady_state.specs.steps.Kinds.{IsFloor, HasPath}
-use Rattle.steady_state.specs.steps.Spreading.{IsFirstStrength, IsRelaxed}
+use Rattle.steady_state.specs.steps.Gathering.{IsGathered, AreGathered, ArePulled}
 use Rattle.steady_state.proofs.Within.{brings_up, brought, by_itself, pulled_up}
 
 pub none_more : (b : Begun) → AreMore b b

@@ -1,3 +1,4 @@
+mod Common
 mod UnderWay
 mod Within
 mod Passes

@@ -1,21 +1,11 @@
 -- From one step to the next.
-use Rattle.std.proofs.Common.{◌≡◌, ◌≢◌, ℕ, add-one, ◌+◌, ◌<◌, ◌≤◌, List, Bool, false, inl, inr, refl, sym, subst, arith, length}
-use Rattle.std.proofs.Common.{slice_index, slice_index_or, take, get_or-take, length-take}
-use Rattle.std.proofs.lemmas.Bool.{cases_eq, cases_Bool}
-use Rattle.std.proofs.lemmas.List.{get_or_default, same_lists}
-use Rattle.switch_net.specs.declared.switches.Level.{Level}
-use Rattle.switch_net.specs.declared.switches.Level.TheVariants.{X}
-use Rattle.switch_net.specs.declared.switches.Switch.{Switch}
-use Rattle.switch_net.specs.Network.{Network, IsSound}
-use Rattle.switch_net.specs.Path.{Hop, state_of, is_input, end_of}
-use Rattle.switch_net.specs.Phase.{Steps}
-use Rattle.switch_net.specs.Steady.{IsStep, IsSteadyValue}
-use Rattle.switch_net.specs.Vicinity.{IsStorage, IsChain}
-use Rattle.switch_net.proofs.Ranges.{level_cases}
-use Rattle.switch_net.specs.Sets.{IsInside, IsAmong}
-use Rattle.steady_state.specs.Marked.{EndsInside, IsGated, IsQuiet}
-use Rattle.switch_net.proofs.Listing.{known}
-use Rattle.switch_net.proofs.Vicinities.{keeps_value, chain_from, in_self}
+use Rattle.steady_state.proofs.Common.{◌≡◌, ◌≢◌, ℕ, add-one, ◌+◌, ◌<◌, ◌≤◌, List, Bool, false, inl, inr, refl, sym, subst, arith, length}
+use Rattle.steady_state.proofs.Common.{slice_index, slice_index_or, take, get_or-take, cases_eq, cases_Bool, get_or_default, Level, X, Switch}
+use Rattle.steady_state.proofs.Common.{Network, IsSound, Hop, state_of, is_input, end_of, Steps, IsStep, IsSteadyValue, IsStorage, IsChain}
+use Rattle.steady_state.proofs.Common.{level_cases, IsInside, IsAmong, EndsInside, IsGated, IsQuiet, known, chain_from, in_self}
+use Rattle.std.proofs.Common.{length-take}
+use Rattle.std.proofs.lemmas.List.{same_lists}
+use Rattle.switch_net.proofs.Vicinities.{keeps_value}
 
 -- more marks leave the ends of a switch marked
 pub ends_grown : (net : Network) (inside new : List Bool) (w : Switch) → ((u : ℕ) → IsInside inside u → IsInside new u) → EndsInside net inside w →

@@ -1,30 +1,14 @@
 -- A kind over a part, from its start to its end.
-use Rattle.std.proofs.Common.{◌≡◌, ℕ, ◌<◌, ◌≤◌, List, [], Bool, true, ◌⊎◌, inl, inr, min, refl, ap, arith, slice_index, slice_index_or}
-use Rattle.std.specs.Prelude.{Contains, All}
-use Rattle.std.proofs.lemmas.List.{get_or_default}
-use Rattle.std.proofs.lemmas.Bool.{cases_Bool}
-use Rattle.switch_net.specs.declared.switches.Level.{Level}
-use Rattle.switch_net.specs.declared.switches.Switch.{Switch}
-use Rattle.switch_net.specs.declared.switches.Level.TheVariants.{Zero, One, X}
-use Rattle.steady_state.specs.declared.kinds.PathKind.{PathKind}
-use Rattle.steady_state.specs.declared.kinds.PathKind.TheVariants.{Definite, FromOther}
-use Rattle.steady_state.specs.steps.Strongest.{IsStrongestDefinite}
-use Rattle.steady_state.specs.Levels.{IsLevelOf}
-use Rattle.switch_net.proofs.Ranges.{level_cases, root_strength-pos, strength-pos, ends_in_range}
-use Rattle.switch_net.specs.declared.terminals.Side.{Side}
-use Rattle.switch_net.specs.declared.terminals.Side.TheVariants.{Left, Right}
-use Rattle.switch_net.specs.Network.{Network, IsSound}
-use Rattle.switch_net.specs.Path.{Joins, switch_strength, root_strength, is_input, end_of, strength, state_of, is_closed_or_unknown}
-use Rattle.switch_net.specs.Steady.{AllRootsAre, IsSteadyValue}
-use Rattle.steady_state.specs.steps.Kinds.{goes_through, BeginsAt, IsFloor, IsStrongestOfKind}
-use Rattle.switch_net.specs.Terminals.{near_end, far_end}
-use Rattle.switch_net.specs.declared.node_set.NodeSet.{NodeSet}
-use Rattle.switch_net.specs.Sets.{IsInside}
-use Rattle.steady_state.specs.steps.Spreading.{IsRelaxed, IsWorking, IsFirstStrength}
-use Rattle.switch_net.specs.Vicinity.{IsStorage}
-use Rattle.steady_state.specs.declared.part.Part.{Part}
-use Rattle.steady_state.specs.steps.Parts.{IsInPart, IsPartOf}
-use Rattle.switch_net.proofs.Listing.{none_inside}
+use Rattle.steady_state.proofs.Common.{◌≡◌, ℕ, ◌<◌, ◌≤◌, List, [], Bool, true, ◌⊎◌, inl, inr, min, refl, ap, arith, slice_index, slice_index_or}
+use Rattle.steady_state.proofs.Common.{Contains, get_or_default, cases_Bool, Level, Switch, Zero, One, X, PathKind, Definite, FromOther}
+use Rattle.steady_state.proofs.Common.{IsStrongestDefinite, IsLevelOf, level_cases, root_strength-pos, ends_in_range, Side, Left, Right, Network}
+use Rattle.steady_state.proofs.Common.{IsSound, Joins, switch_strength, root_strength, is_input, end_of, strength, state_of, is_closed_or_unknown}
+use Rattle.steady_state.proofs.Common.{IsSteadyValue, goes_through, IsFloor, near_end, far_end, NodeSet, IsInside, IsRelaxed, IsWorking}
+use Rattle.steady_state.proofs.Common.{IsFirstStrength, IsStorage, Part, IsInPart, IsPartOf, none_inside}
+use Rattle.std.specs.Prelude.{All}
+use Rattle.switch_net.proofs.Ranges.{strength-pos}
+use Rattle.switch_net.specs.Steady.{AllRootsAre}
+use Rattle.steady_state.specs.steps.Kinds.{BeginsAt, IsStrongestOfKind}
 use Rattle.steady_state.proofs.Within.{IsSpread, bound}
 
 module _ (net : Network) (s : List Level) (kind : PathKind) (Inner : ℕ → Type 0) (floor : List ℕ) where

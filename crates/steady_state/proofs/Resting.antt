@@ -1,26 +1,14 @@
 -- Networks that rest, and what an input that is set leaves at rest.
-use Rattle.std.proofs.Common.{◌≡◌, ◌≢◌, ℕ, ◌<◌, List, [], ◌∷◌, ◌++◌, Bool, true, inl, inr, sym, ap, subst, ◌∙◌, length}
-use Rattle.std.proofs.Common.{slice_index, slice_index_or, slice_set, get_or-set_other}
-use Rattle.std.specs.Prelude.{Contains}
-use Rattle.std.proofs.lemmas.Bool.{cases_Bool, cases_eq}
-use Rattle.switch_net.specs.FiniteSets.Lists.{In}
+use Rattle.steady_state.proofs.Common.{◌≡◌, ◌≢◌, ℕ, ◌<◌, List, [], ◌∷◌, ◌++◌, Bool, true, inl, inr, sym, ap, subst, ◌∙◌, length, slice_index}
+use Rattle.steady_state.proofs.Common.{slice_index_or, slice_set, get_or-set_other, Contains, cases_Bool, cases_eq, In, Level, X, Switch, Left}
+use Rattle.steady_state.proofs.Common.{Right, Terminal, Gate, End, Network, IsSound, Hop, Joins, end_of, is_closed_or_unknown, is_input, state_of}
+use Rattle.steady_state.proofs.Common.{IsInside, IsNextLevel, IsStep, IsSteadyValue, node_at, IsChain, IsInVicinity, IsStorage, ends_in_range}
+use Rattle.steady_state.proofs.Common.{in_more, in_self, EndsInside, IsRestedBut, IsTouched}
 use Rattle.switch_net.proofs.FiniteSets.Members.{In-append_left, In-index, In-push}
-use Rattle.switch_net.specs.declared.switches.Level.{Level}
-use Rattle.switch_net.specs.declared.switches.Level.TheVariants.{X}
-use Rattle.switch_net.specs.declared.switches.Switch.{Switch}
-use Rattle.switch_net.specs.declared.terminals.Side.TheVariants.{Left, Right}
-use Rattle.switch_net.specs.declared.terminals.Terminal.{Terminal}
-use Rattle.switch_net.specs.declared.terminals.Terminal.TheVariants.{Gate, End}
-use Rattle.switch_net.specs.Network.{Network, IsSound}
-use Rattle.switch_net.specs.Path.{Hop, Joins, end_of, is_closed_or_unknown, is_closed_or_unknown_at, is_input, state_of}
-use Rattle.switch_net.specs.Sets.{IsInside}
-use Rattle.switch_net.specs.Steady.{IsNextLevel, IsStep, IsSteadyValue}
-use Rattle.switch_net.specs.Terminals.{node_at}
-use Rattle.switch_net.specs.Vicinity.{IsChain, IsInVicinity, IsStorage}
+use Rattle.switch_net.specs.Path.{is_closed_or_unknown_at}
 use Rattle.switch_net.proofs.Locality.{AgreeOn, same_steady}
-use Rattle.switch_net.proofs.Ranges.{ends_in_range}
-use Rattle.switch_net.proofs.Vicinities.{chain_to, in_more, in_self, in_turn, turned}
-use Rattle.steady_state.specs.Marked.{AreMarkedAt, EndsInside, IsRestedBut, IsTouched}
+use Rattle.switch_net.proofs.Vicinities.{chain_to, in_turn, turned}
+use Rattle.steady_state.specs.Marked.{AreMarkedAt}
 use Rattle.steady_state.proofs.Moving.{ends_grown}
 
 -- ---- marks

@@ -1,28 +1,20 @@
 -- Rounds: what each takes, and what it leaves at rest.
-use Rattle.std.proofs.Common.{◌≡◌, ◌≢◌, ℕ, zero, suc, ◌+◌, ◌-◌, ◌<◌, ◌≤◌, List, [], ◌∷◌, Bool, true, false, ◌⊎◌, inl, inr, refl, sym, ap, subst, arith, length}
-use Rattle.std.proofs.Common.{slice_index, slice_index_or, slice_set, get_or-set_same, get_or-set_other, ◌∙◌, drop, take, get_or-take, replicate}
+use Rattle.steady_state.proofs.Common.{◌≡◌, ◌≢◌, ℕ, suc, ◌+◌, ◌-◌, ◌<◌, ◌≤◌, List, [], ◌∷◌, Bool, true, false, ◌⊎◌, inl, inr, refl, sym, ap, subst}
+use Rattle.steady_state.proofs.Common.{arith, length, slice_index, slice_index_or, slice_set, get_or-set_same, get_or-set_other, ◌∙◌, drop, take}
+use Rattle.steady_state.proofs.Common.{get_or-take, replicate, cases_Bool, cases_eq, cases_lt, get_or_default, length-take-le, NodeSet, Level, X}
+use Rattle.steady_state.proofs.Common.{Network, IsSound, is_input, state_of, Rounds, IsAmong, IsInside, IsNextLevel, IsStep, IsSteadyValue}
+use Rattle.steady_state.proofs.Common.{IsInVicinity, IsStorage, count-le, known, none_inside, level_cases, chain_from, AreMadeX, IsRoundDue}
+use Rattle.steady_state.proofs.Common.{AreSteady, KeepsOthers, AddsMarks, AreMarked, IsGated}
+use Rattle.std.proofs.Common.{zero}
 use Rattle.std.specs.Prelude.{cond, count_by, not}
-use Rattle.std.proofs.lemmas.Bool.{cases_Bool, cases_eq, cases_lt}
-use Rattle.std.proofs.lemmas.List.{get_or-drop, get_or_default, length-drop, length-take-le, take_all}
+use Rattle.std.proofs.lemmas.List.{get_or-drop, length-drop, take_all}
 use Rattle.std.proofs.lemmas.List.Sums.{sum_by-cons}
-use Rattle.switch_net.specs.declared.node_set.NodeSet.{NodeSet}
-use Rattle.switch_net.specs.declared.switches.Level.{Level}
-use Rattle.switch_net.specs.declared.switches.Level.TheVariants.{X}
 use Rattle.switch_net.specs.Laws.{HoldsSeeds}
-use Rattle.switch_net.specs.Network.{Network, IsSound}
-use Rattle.switch_net.specs.Path.{is_input, state_of}
-use Rattle.switch_net.specs.Phase.{AreForced, IsRound, IsTaken, Rounds, is_forced}
-use Rattle.switch_net.specs.Sets.{IsAmong, IsInside}
-use Rattle.switch_net.specs.Steady.{IsNextLevel, IsStep, IsSteadyValue}
-use Rattle.switch_net.specs.Vicinity.{IsInVicinity, IsStorage}
+use Rattle.switch_net.specs.Phase.{AreForced, IsRound, IsTaken, is_forced}
 use Rattle.switch_net.proofs.Forcing.{input_free, steady_stable}
-use Rattle.switch_net.proofs.Listing.{count-le, inside_range, known, none_inside}
-use Rattle.switch_net.proofs.Ranges.{level_cases}
+use Rattle.switch_net.proofs.Listing.{inside_range}
 use Rattle.switch_net.proofs.Unique.{one_value}
-use Rattle.switch_net.proofs.Vicinities.{chain_from, keeps_steady}
-use Rattle.steady_state.specs.steps.Rounds.{AreMadeX, IsRoundDue}
-use Rattle.steady_state.specs.Levels.{AreSteady, KeepsOthers}
-use Rattle.steady_state.specs.Marked.{AddsMarks, AreMarked, IsGated}
+use Rattle.switch_net.proofs.Vicinities.{keeps_steady}
 use Rattle.steady_state.proofs.Moving.{same_states}
 
 -- ---- sets of forced nodes

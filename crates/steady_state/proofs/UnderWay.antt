@@ -1,25 +1,16 @@
 -- Lemmas on a kind under way.
-use Rattle.std.proofs.Common.{◌≡◌, ℕ, ◌+◌, ◌*◌, ◌<◌, ◌≤◌, List, [], ◌∷◌, Bool, true, ◌⊎◌, inl, inr, min, refl, sym, ap, arith, length}
-use Rattle.std.proofs.Common.{slice_index, slice_index_or, slice_set, get_or, get_or-set_other, get_or-set_same}
-use Rattle.std.specs.Prelude.{Contains}
-use Rattle.std.proofs.lemmas.Bool.{cases_eq}
+use Rattle.steady_state.proofs.Common.{◌≡◌, ℕ, ◌+◌, ◌*◌, ◌<◌, ◌≤◌, List, [], ◌∷◌, Bool, true, ◌⊎◌, inl, inr, min, refl, sym, ap, arith, length}
+use Rattle.steady_state.proofs.Common.{slice_index, slice_index_or, slice_set, get_or-set_other, get_or-set_same, Contains, cases_eq, Level, Switch}
+use Rattle.steady_state.proofs.Common.{PathKind, Definite, FromOther, Side, Left, Right, Network, Hop, Joins, strength, switch_strength, state_of}
+use Rattle.steady_state.proofs.Common.{end_of, is_closed_or_unknown, IsRelaxed, IsWorking, IsRaised, total, goes_through, IsFloor, HasPath, near_end}
+use Rattle.steady_state.proofs.Common.{far_end, IsInside, In}
+use Rattle.std.proofs.Common.{get_or}
 use Rattle.std.proofs.lemmas.List.Sums.{sum_by-set, sum_by-le}
 use Rattle.std.proofs.lemmas.List.Elements.{All-from_get_or}
-use Rattle.switch_net.specs.declared.switches.Level.{Level}
-use Rattle.switch_net.specs.declared.switches.Switch.{Switch}
-use Rattle.steady_state.specs.declared.kinds.PathKind.{PathKind}
-use Rattle.steady_state.specs.declared.kinds.PathKind.TheVariants.{Definite, FromOther}
-use Rattle.switch_net.specs.declared.terminals.Side.{Side}
-use Rattle.switch_net.specs.declared.terminals.Side.TheVariants.{Left, Right}
-use Rattle.switch_net.specs.Network.{Network}
-use Rattle.switch_net.specs.Path.{Hop, Joins, DefiniteTo, strength, switch_strength, state_of, end_of, is_closed_or_unknown}
-use Rattle.steady_state.specs.steps.Spreading.{IsLift, IsRelaxed, IsWorking, IsRaised, total}
-use Rattle.steady_state.specs.steps.Kinds.{goes_through, IsFloor, HasPath}
-use Rattle.switch_net.specs.Terminals.{near_end, far_end}
-use Rattle.switch_net.specs.Sets.{IsInside}
+use Rattle.switch_net.specs.Path.{DefiniteTo}
+use Rattle.steady_state.specs.steps.Spreading.{IsLift}
 use Rattle.switch_net.proofs.Paths.{NotOvercome, unblocked-hop}
 use Rattle.switch_net.proofs.Ranges.{closed_or_more}
-use Rattle.switch_net.specs.FiniteSets.Lists.{In}
 
 pub joins : (side : Side) (w : Switch) → Joins w (near_end side w) (far_end side w)
 joins Left w = inl (refl, refl)

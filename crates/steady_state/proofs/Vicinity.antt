@@ -1,23 +1,10 @@
 -- A vicinity that is explored behind others.
-use Rattle.std.proofs.Common.{◌≡◌, ℕ, ◌+◌, ◌-◌, ◌<◌, ◌≤◌, List, true, false, inl, inr, refl, sym, ap, subst, arith, length, ◌∙◌}
-use Rattle.std.proofs.Common.{slice_index, slice_index_or, take, drop, get_or-take}
-use Rattle.std.specs.Prelude.{Contains}
-use Rattle.std.proofs.lemmas.Bool.{cases_lt, cases_Bool}
-use Rattle.std.proofs.lemmas.List.{get_or-drop, length-drop, length-take-le}
-use Rattle.switch_net.specs.declared.node_set.NodeSet.{NodeSet}
-use Rattle.switch_net.specs.declared.switches.Level.{Level}
-use Rattle.switch_net.specs.declared.switches.Switch.{Switch}
-use Rattle.switch_net.specs.declared.terminals.Side.{Side}
-use Rattle.switch_net.specs.declared.terminals.Side.TheVariants.{Left, Right}
-use Rattle.switch_net.specs.Network.{Network}
-use Rattle.switch_net.specs.Path.{is_closed_or_unknown}
-use Rattle.switch_net.specs.Sets.{IsAmong, IsInside}
-use Rattle.switch_net.specs.Terminals.{near_end, far_end}
-use Rattle.switch_net.specs.Vicinity.{IsStorage}
-use Rattle.switch_net.proofs.Listing.{count-le, known}
-use Rattle.steady_state.specs.declared.part.Part.{Part}
-use Rattle.steady_state.specs.Marked.{AreMarked, AddsMarks, AreClosed, IsCovered, IsLate}
-use Rattle.steady_state.specs.steps.Parts.{IsInPart, IsPartOf}
+use Rattle.steady_state.proofs.Common.{◌≡◌, ℕ, ◌+◌, ◌-◌, ◌<◌, ◌≤◌, List, true, false, inl, inr, refl, sym, ap, subst, arith, length, ◌∙◌}
+use Rattle.steady_state.proofs.Common.{slice_index, slice_index_or, take, drop, get_or-take, Contains, cases_lt, cases_Bool, length-take-le, NodeSet}
+use Rattle.steady_state.proofs.Common.{Level, Switch, Side, Left, Right, Network, is_closed_or_unknown, IsAmong, IsInside, near_end, far_end}
+use Rattle.steady_state.proofs.Common.{IsStorage, count-le, known, Part, AreMarked, AddsMarks, IsCovered, IsInPart, IsPartOf}
+use Rattle.std.proofs.lemmas.List.{get_or-drop, length-drop}
+use Rattle.steady_state.specs.Marked.{AreClosed, IsLate}
 
 -- the list from there on has those that are listed late
 module _ (marks : NodeSet) (before : ℕ) (order : List ℕ) (is_order : order ≡ drop before (take marks.count marks.order)) where

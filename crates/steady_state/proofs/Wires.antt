@@ -1,20 +1,13 @@
 -- What a wiring says of its network.
-use Rattle.std.proofs.Common.{◌≡◌, ℕ, ◌+◌, ◌-◌, ◌<◌, ◌≤◌, List, inl, inr, arith, length, slice_index, slice_index_or, drop, get_or-take, ◌∙◌}
+use Rattle.steady_state.proofs.Common.{◌≡◌, ℕ, ◌+◌, ◌-◌, ◌<◌, ◌≤◌, List, inl, inr, arith, length, slice_index, slice_index_or, drop, get_or-take}
+use Rattle.steady_state.proofs.Common.{◌∙◌, cases_eq, get_or_default, Contains-get_or, Switch, Left, Right, Terminal, Gate, End, IsSound, node_at}
+use Rattle.steady_state.proofs.Common.{no_switch, network_in, sorted_at}
 use Rattle.std.specs.Prelude.{slice_range}
-use Rattle.std.proofs.lemmas.Bool.{cases_eq}
-use Rattle.std.proofs.lemmas.List.{get_or_default, get_or-drop, length-take, length-drop}
-use Rattle.std.proofs.lemmas.List.Elements.{Contains-get_or}
+use Rattle.std.proofs.lemmas.List.{get_or-drop, length-take, length-drop}
 use Rattle.switch_net.specs.declared.adjacency.SortedSwitches.{SortedSwitches}
-use Rattle.switch_net.specs.declared.switches.Switch.{Switch}
-use Rattle.switch_net.specs.declared.terminals.Side.TheVariants.{Left, Right}
-use Rattle.switch_net.specs.declared.terminals.Terminal.{Terminal}
-use Rattle.switch_net.specs.declared.terminals.Terminal.TheVariants.{Gate, End}
-use Rattle.switch_net.specs.Network.{IsSound}
 use Rattle.switch_net.specs.Sorted.{AreSorted, earlier}
-use Rattle.switch_net.specs.Terminals.{node_at}
-use Rattle.switch_net.proofs.Counting.{no_switch}
 use Rattle.steady_state.specs.declared.wiring.Wiring.{Wiring}
-use Rattle.steady_state.specs.steps.Wired.{network_in, sorted_at, AreSwitchesAt, IsSwitchOf}
+use Rattle.steady_state.specs.steps.Wired.{AreSwitchesAt, IsSwitchOf}
 
 pub sound_of : (net : Wiring) → IsSound (network_in net)
 sound_of net = record { switches_within = net.switches_within; one_size = net.one_size; one_input = net.one_input; sizes_in_range = net.sizes_in_range }

@@ -1,16 +1,10 @@
 -- When no arc brings more, each entry of the part is the greatest strength of a path of the kind.
-use Rattle.std.proofs.Common.{◌≡◌, ℕ, ◌<◌, ◌≤◌, List, [], ◌∷◌, true, ◌⊎◌, inl, inr, min, refl, ap, subst, arith}
-use Rattle.std.proofs.Common.{slice_index, slice_index_or}
-use Rattle.std.specs.Prelude.{Contains}
-use Rattle.switch_net.specs.declared.switches.Level.{Level}
-use Rattle.switch_net.specs.declared.switches.Switch.{Switch}
-use Rattle.steady_state.specs.declared.kinds.PathKind.{PathKind}
-use Rattle.steady_state.specs.declared.kinds.PathKind.TheVariants.{Definite, FromOther}
-use Rattle.switch_net.specs.declared.terminals.Side.{Side}
-use Rattle.switch_net.specs.Network.{Network, IsSound}
-use Rattle.switch_net.specs.Path.{Hop, Joins, IsBlocked, strength, switch_strength, root_strength, is_input, end_of, is_closed_or_unknown}
-use Rattle.steady_state.specs.steps.Strongest.{IsStrongestDefinite}
-use Rattle.steady_state.specs.steps.Kinds.{IsOfKind, goes_through, BeginsAt, IsFloor, HasPath}
+use Rattle.steady_state.proofs.Common.{◌≡◌, ℕ, ◌<◌, ◌≤◌, List, [], ◌∷◌, true, ◌⊎◌, inl, inr, min, refl, ap, subst, arith, slice_index}
+use Rattle.steady_state.proofs.Common.{slice_index_or, Contains, Level, Switch, PathKind, Definite, FromOther, Side, Network, IsSound, Hop, Joins}
+use Rattle.steady_state.proofs.Common.{strength, switch_strength, root_strength, is_input, end_of, is_closed_or_unknown, IsStrongestDefinite}
+use Rattle.steady_state.proofs.Common.{goes_through, IsFloor, HasPath}
+use Rattle.switch_net.specs.Path.{IsBlocked}
+use Rattle.steady_state.specs.steps.Kinds.{IsOfKind, BeginsAt}
 use Rattle.steady_state.specs.steps.Spreading.{BringsAtMost, IsPulled}
 use Rattle.switch_net.proofs.Paths.{NotOvercome, drop_not_overcome, drop_unblocked, unblocked-root}
 use Rattle.steady_state.proofs.UnderWay.{extend}

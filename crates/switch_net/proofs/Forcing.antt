@@ -1,13 +1,8 @@
 -- Rounds in a row, of which there is one, and what they leave.
-use Rattle.std.proofs.Common.{ap, ◌≡◌, ◌≢◌, ℕ, zero, suc, ◌<◌, ◌⊎◌, List, Bool, true, false, inl, inr, refl, sym, subst, arith, length, ◌∙◌}
+use Rattle.switch_net.proofs.Common.{ap, ◌≡◌, ◌≢◌, ℕ, zero, suc, ◌<◌, ◌⊎◌, List, Bool, true, false, inl, inr, refl, sym, subst, arith, length, ◌∙◌}
+use Rattle.switch_net.proofs.Common.{cases_Bool, cases_eq, cases_lt, same_lists, get_or_default, Level, Zero, One, X, Network, is_input, state_of}
+use Rattle.switch_net.proofs.Common.{IsSteadyValue}
 use Rattle.std.specs.Prelude.{replicate, slice_index_or}
-use Rattle.std.proofs.lemmas.Bool.{cases_Bool, cases_eq, cases_lt}
-use Rattle.std.proofs.lemmas.List.{same_lists, get_or_default}
-use Rattle.switch_net.specs.declared.switches.Level.{Level}
-use Rattle.switch_net.specs.declared.switches.Level.TheVariants.{Zero, One, X}
-use Rattle.switch_net.specs.Network.{Network}
-use Rattle.switch_net.specs.Path.{is_input, state_of}
-use Rattle.switch_net.specs.Steady.{IsSteadyValue}
 use Rattle.switch_net.proofs.Ranges.{level_cases}
 use Rattle.switch_net.specs.Phase.{is_forced, IsTaken, IsRound, Rounds, AreForced, AreSteadyOrX}
 

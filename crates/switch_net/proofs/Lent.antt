@@ -1,7 +1,6 @@
 -- Lists whose items were lent to be changed in place.
-use Rattle.std.proofs.Common.{◌≡◌, ℕ, List, length, slice_set, arith}
+use Rattle.switch_net.proofs.Common.{◌≡◌, ℕ, List, length, slice_set, arith, length-set}
 use Rattle.std.specs.List.{refill}
-use Rattle.std.proofs.Math.ListN.{length-set}
 use Rattle.std.proofs.lemmas.Grind.{common_steps}
 
 -- as many items as before are the list

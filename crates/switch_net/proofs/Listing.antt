@@ -1,10 +1,9 @@
 -- Sets of nodes.
-use Rattle.std.proofs.Common.{◌≡◌, ◌≢◌, ℕ, zero, suc, ◌+◌, ◌-◌, ◌<◌, ◌≤◌, List, Bool, true, false, inl, inr, sym, ap, subst, arith, length}
-use Rattle.std.proofs.Common.{slice_index, slice_index_or, slice_set, get_or-set_same, get_or-set_other, ◌∙◌}
-use Rattle.std.specs.Prelude.{count_by, cond}
-use Rattle.std.proofs.lemmas.Bool.{cases_eq, cases_lt}
+use Rattle.switch_net.proofs.Common.{◌≡◌, ◌≢◌, ℕ, zero, suc, ◌+◌, ◌-◌, ◌<◌, ◌≤◌, List, Bool, true, false, inl, inr, sym, ap, subst, arith, length}
+use Rattle.switch_net.proofs.Common.{slice_index, slice_index_or, slice_set, get_or-set_same, get_or-set_other, ◌∙◌, cond, cases_eq, cases_lt}
+use Rattle.switch_net.proofs.Common.{length-set, get_or-eq_default}
+use Rattle.std.specs.Prelude.{count_by}
 use Rattle.std.proofs.lemmas.List.Sums.{count_by-le-length, sum_by-set}
-use Rattle.std.proofs.Math.ListN.{length-set, get_or-eq_default}
 use Rattle.switch_net.specs.Sets.{IsInside, IsAmong, AreListed}
 
 -- one more is marked

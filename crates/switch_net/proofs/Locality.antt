@@ -1,13 +1,10 @@
 -- The steady value of a node depends on its part of the network alone.
-use Rattle.std.proofs.Common.{◌≡◌, ℕ, ◌<◌, ◌≤◌, List, [], ◌∷◌, true, ◌⊎◌, inl, inr, min, refl, sym, ap, subst, arith, ◌∙◌}
-use Rattle.std.specs.Prelude.{Contains}
-use Rattle.switch_net.specs.declared.switches.Level.{Level}
-use Rattle.switch_net.specs.declared.switches.Level.TheVariants.{Zero, One, X}
-use Rattle.switch_net.specs.declared.switches.Switch.{Switch}
-use Rattle.switch_net.specs.Network.{Network, IsSound}
-use Rattle.switch_net.specs.Path.{Hop, Joins, IsPath, IsDefinite, IsBlocked, DefiniteTo, strength, switch_strength, root_strength, is_input, state_of}
-use Rattle.switch_net.specs.Path.{end_of, is_closed, is_closed_or_unknown}
-use Rattle.switch_net.specs.Steady.{AllRootsAre, IsSteadyValue}
+use Rattle.switch_net.proofs.Common.{◌≡◌, ℕ, ◌<◌, ◌≤◌, List, [], ◌∷◌, true, ◌⊎◌, inl, inr, refl, sym, ap, subst, arith, ◌∙◌, Contains, Level, Zero}
+use Rattle.switch_net.proofs.Common.{One, X, Switch, Network, IsSound, Hop, Joins, IsPath, IsDefinite, IsBlocked, DefiniteTo, strength}
+use Rattle.switch_net.proofs.Common.{switch_strength, root_strength, is_input, state_of, end_of, is_closed_or_unknown, IsSteadyValue}
+use Rattle.std.proofs.Common.{min}
+use Rattle.switch_net.specs.Path.{is_closed}
+use Rattle.switch_net.specs.Steady.{AllRootsAre}
 use Rattle.switch_net.proofs.Paths.{NotOvercome, drop_not_overcome, drop_unblocked, unblocked-hop, unblocked-root}
 use Rattle.switch_net.proofs.Ranges.{strength_low, at_input, end_in_range, input_strength, input_stands}
 

@@ -1,9 +1,8 @@
 -- Lemmas on paths, over the definitions alone.
-use Rattle.std.proofs.Common.{◌≡◌, ℕ, ◌<◌, ◌≤◌, List, [], ◌∷◌, ◌++◌, ◌⊎◌, inl, inr, refl, sym, ◌∙◌, ap, subst, arith}
-use Rattle.std.proofs.lemmas.Bool.{cases_lt, cases_eq}
-use Rattle.switch_net.specs.declared.switches.Level.{Level}
-use Rattle.switch_net.specs.Network.{Network}
-use Rattle.switch_net.specs.Path.{Hop, IsPath, IsDefinite, IsBlocked, IsPrefix, DefiniteTo, strength, end_of, nodes_of}
+use Rattle.switch_net.proofs.Common.{◌≡◌, ℕ, ◌<◌, ◌≤◌, List, [], ◌∷◌, ◌⊎◌, inl, inr, refl, sym, ◌∙◌, ap, subst, arith, cases_lt, cases_eq, Level}
+use Rattle.switch_net.proofs.Common.{Network, Hop, IsPath, IsDefinite, IsBlocked, DefiniteTo, strength, end_of}
+use Rattle.std.proofs.Common.{◌++◌}
+use Rattle.switch_net.specs.Path.{IsPrefix, nodes_of}
 use Rattle.finite_sets.specs.Lists.{In, Distinct}
 use Rattle.switch_net.specs.Laws.{HasSimplePath, EachHasSimplePath}
 

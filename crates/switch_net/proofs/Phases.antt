@@ -1,9 +1,6 @@
 -- Steps in a row, of which there is one.
-use Rattle.std.proofs.Common.{◌≡◌, ◌≢◌, ℕ, zero, suc, ◌<◌, List, Bool, true, false, inl, inr, refl, sym, ap, subst, arith, length, ◌∙◌}
-use Rattle.std.proofs.lemmas.Bool.{cases_eq, cases_lt}
-use Rattle.switch_net.specs.declared.switches.Level.{Level}
-use Rattle.switch_net.specs.Network.{Network, IsSound}
-use Rattle.switch_net.specs.Steady.{IsStep}
+use Rattle.switch_net.proofs.Common.{◌≡◌, ◌≢◌, ℕ, zero, suc, ◌<◌, List, Bool, true, false, inl, inr, refl, sym, ap, subst, arith, length, ◌∙◌}
+use Rattle.switch_net.proofs.Common.{cases_eq, cases_lt, Level, Network, IsSound, IsStep}
 use Rattle.switch_net.specs.Phase.{AreForced, HasRounds, IsPhase, IsUnsettled, NoneRests, SettlesAfter, Steps}
 use Rattle.switch_net.proofs.Forcing.{one_forcing}
 use Rattle.switch_net.proofs.Unique.{one_step}

@@ -1,16 +1,11 @@
 -- The ranges of nodes and of strengths.
-use Rattle.std.proofs.Common.{◌≡◌, ◌≢◌, ℕ, ◌<◌, ◌≤◌, List, [], ◌∷◌, Bool, true, false, ◌⊎◌, inl, inr, refl, arith, length, slice_index}
-use Rattle.std.specs.Prelude.{Contains, cond}
-use Rattle.std.proofs.lemmas.Bool.{cases_lt}
+use Rattle.switch_net.proofs.Common.{◌≡◌, ◌≢◌, ℕ, ◌<◌, ◌≤◌, List, [], ◌∷◌, Bool, true, false, ◌⊎◌, inl, inr, refl, arith, length, slice_index}
+use Rattle.switch_net.proofs.Common.{Contains, cond, cases_lt, get_or-eq_default, Level, Zero, One, X, Switch, Network, IsSound, IsWithin, Hop}
+use Rattle.switch_net.proofs.Common.{Joins, IsPath, IsBlocked, DefiniteTo, strength, switch_strength, root_strength, is_input, end_of}
 use Rattle.std.proofs.lemmas.List.Elements.{All-contains}
-use Rattle.std.proofs.Math.ListN.{get_or-eq_default}
-use Rattle.switch_net.specs.declared.switches.Level.{Level}
-use Rattle.switch_net.specs.declared.switches.Level.TheVariants.{Zero, One, X}
-use Rattle.switch_net.specs.declared.switches.Switch.{Switch}
 use Rattle.switch_net.specs.declared.switches.SwitchKind.{SwitchKind}
 use Rattle.switch_net.specs.declared.switches.SwitchKind.TheVariants.{N, P, D}
-use Rattle.switch_net.specs.Network.{Network, IsSound, IsWithin}
-use Rattle.switch_net.specs.Path.{Hop, Joins, IsPath, IsBlocked, DefiniteTo, strength, switch_strength, root_strength, is_input, end_of, is_closed_at}
+use Rattle.switch_net.specs.Path.{is_closed_at}
 use Rattle.switch_net.specs.Path.{is_closed_or_unknown_at}
 use Rattle.switch_net.proofs.Paths.{NotOvercome, drop_not_overcome}
 

@@ -1,6 +1,6 @@
 -- A network of the program is sound.
 use Rattle.switch_net.specs.declared.network.Net.{Net}
-use Rattle.switch_net.specs.Network.{IsSound}
+use Rattle.switch_net.proofs.Common.{IsSound}
 use Rattle.switch_net.specs.Net.{network_of}
 
 pub sound_of : (net : Net) → IsSound (network_of net)

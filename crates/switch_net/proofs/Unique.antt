@@ -1,14 +1,10 @@
 -- Each node has an unblocked path, so it has one steady value.
-use Rattle.std.proofs.Common.{◌≡◌, ℕ, zero, suc, ◌+◌, ◌<◌, ◌≤◌, List, [], ◌∷◌, inl, inr, refl, arith, length, ◌∙◌}
-use Rattle.std.proofs.lemmas.Bool.{cases_lt, cases_Bool}
-use Rattle.std.proofs.lemmas.List.{same_lists, get_or_default}
+use Rattle.switch_net.proofs.Common.{◌≡◌, ℕ, zero, suc, ◌+◌, ◌<◌, ◌≤◌, List, [], ◌∷◌, inl, inr, refl, arith, length, ◌∙◌, cases_lt, cases_Bool}
+use Rattle.switch_net.proofs.Common.{same_lists, get_or_default, Level, Zero, One, X, Network, IsSound, Hop, IsPath, IsDefinite, IsBlocked}
+use Rattle.switch_net.proofs.Common.{DefiniteTo, strength, is_input, state_of, end_of, IsSteadyValue, IsNextLevel, IsStep}
 use Rattle.switch_net.proofs.Ranges.{strength_low}
 use Rattle.switch_net.proofs.Paths.{NotOvercome, unblocked-hop, unblocked-root}
-use Rattle.switch_net.specs.declared.switches.Level.{Level}
-use Rattle.switch_net.specs.declared.switches.Level.TheVariants.{Zero, One, X}
-use Rattle.switch_net.specs.Network.{Network, IsSound}
-use Rattle.switch_net.specs.Path.{Hop, IsPath, IsDefinite, IsBlocked, IsUnblockedTo, DefiniteTo, strength, is_input, state_of, end_of}
-use Rattle.switch_net.specs.Steady.{IsSteadyValue, IsNextLevel, IsStep}
+use Rattle.switch_net.specs.Path.{IsUnblockedTo}
 
 -- a definite unblocked path to where a path leads, at least as strong
 record IsBetter (net : Network) (s : List Level) (root : ℕ) (path : List Hop) : Type 0 where

@@ -1,12 +1,6 @@
 -- A node outside the vicinities of the seeds keeps its value.
-use Rattle.std.proofs.Common.{◌≡◌, ℕ, List, [], ◌∷◌, true, inl, inr, refl, sym}
-use Rattle.std.specs.Prelude.{Contains}
-use Rattle.std.proofs.lemmas.Bool.{cases_Bool}
-use Rattle.switch_net.specs.declared.switches.Level.{Level}
-use Rattle.switch_net.specs.declared.switches.Switch.{Switch}
-use Rattle.switch_net.specs.Network.{Network, IsSound}
-use Rattle.switch_net.specs.Path.{Hop, Joins, is_input, state_of, end_of, is_closed_or_unknown}
-use Rattle.switch_net.specs.Steady.{IsNextLevel, IsSteadyValue, IsStep}
+use Rattle.switch_net.proofs.Common.{◌≡◌, ℕ, List, [], ◌∷◌, true, inl, inr, refl, sym, Contains, cases_Bool, Level, Switch, Network, IsSound, Hop}
+use Rattle.switch_net.proofs.Common.{Joins, is_input, state_of, end_of, is_closed_or_unknown, IsNextLevel, IsSteadyValue, IsStep}
 use Rattle.switch_net.specs.Vicinity.{IsStorage, IsChain, IsInVicinity}
 use Rattle.switch_net.specs.Laws.{HoldsSeeds}
 use Rattle.switch_net.proofs.Ranges.{level_cases, input_in_range, ends_in_range}

@@ -1,25 +1,10 @@
 -- What a line of the section `types` keeps and adds: a layer with the next type.
-use Rattle.std.proofs.Common.{◌≡◌, ◌≢◌, ◌+◌, ◌-◌, ◌<◌, ◌≤◌, ◌^◌, ℕ, List, [], ◌∷◌, ◌++◌, length, map, get_or, refl, sym, ap, subst, ◌∙◌, arith, inl, inr}
-use Rattle.std.specs.Prelude.{All, IsTrue}
-use Rattle.std.proofs.lemmas.Bool.{cases_lt}
-use Rattle.std.proofs.lemmas.List.{length_push, get_or_push, get_or_append_left, get_or_past, append-nil}
-use Rattle.std.proofs.lemmas.List.Elements.{All-push}
-use Rattle.std.proofs.lemmas.List.Quantifiers.{all_pairs_push}
-use Rattle.finite_sets.specs.Lists.{In, Distinct}
-use Rattle.finite_sets.proofs.Members.{In-get_or}
-use Rattle.tech_model.specs.declared.raw.TypeId.{TypeId}
-use Rattle.tech_model.specs.declared.raw.TypeRec.{TypeRec}
-use Rattle.tech_model.specs.declared.raw.LayerRec.{LayerRec}
-use Rattle.tech_model.specs.declared.raw.RawTech.{RawTech}
-use Rattle.tech_model.specs.declared.limits.TheConstants.{MOST_TYPES}
-use Rattle.tech_model.specs.Forms.{is_layer_name}
-use Rattle.tech_model.specs.Types.{type_number, is_type, type_at, plane_of, layer_of, images_of, no_type, no_layer}
-use Rattle.tech_model.specs.WellFormed.{IsLayer}
-use Rattle.tech_model.proofs.JoinedLaws.{parts_at}
-use Rattle.tech_draft.specs.Drafts.{Drafted}
-use Rattle.tech_draft.specs.SetLines.{next_types}
-use Rattle.tech_draft.specs.TypeLines.{atom_on, atom_layer, with_atom}
-use Rattle.tech_draft.specs.Sound.{atom, HasSoundLayers, HasSoundSets}
+use Rattle.tech_draft.proofs.Common.{◌≡◌, ◌≢◌, ◌+◌, ◌-◌, ◌<◌, ◌≤◌, ◌^◌, ℕ, List, [], ◌∷◌, ◌++◌, length, map, get_or, refl, sym, ap, subst, ◌∙◌}
+use Rattle.tech_draft.proofs.Common.{arith, inl, inr, All, IsTrue, cases_lt, length_push, append-nil, All-push, all_pairs_push, In, Distinct}
+use Rattle.tech_draft.proofs.Common.{In-get_or, TypeId, TypeRec, LayerRec, RawTech, MOST_TYPES, is_layer_name, type_number, is_type, type_at}
+use Rattle.tech_draft.proofs.Common.{plane_of, layer_of, images_of, no_type, no_layer, IsLayer, parts_at, Drafted, next_types, atom_on, atom_layer}
+use Rattle.tech_draft.proofs.Common.{with_atom, atom, HasSoundLayers, HasSoundSets}
+use Rattle.std.proofs.lemmas.List.{get_or_push, get_or_append_left, get_or_past}
 use Rattle.tech_draft.proofs.Growths.{IsGrown, grown_at, grown-keeps, grown_cases, grown_layer, grown_layers, grown_step}
 use Rattle.tech_draft.proofs.Keeps.{kept_layers}
 use Rattle.tech_draft.proofs.Steps.{IsStep}

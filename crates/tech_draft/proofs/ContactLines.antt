@@ -1,29 +1,21 @@
 -- What is known of a line of the section `contact` that breaks no rule.
-use Rattle.std.proofs.Common.{◌≡◌, ◌≢◌, ◌+◌, ◌<◌, ◌==◌, ℕ, Bool, true, false, List, [], ◌∷◌, ◌++◌, length, map, filter, refl}
-use Rattle.std.proofs.Common.{sym, ap, subst, ◌∙◌, arith, inl, inr}
-use Rattle.std.specs.Prelude.{IsTrue, Ok, not, nat_lt}
-use Rattle.std.specs.List.{list_any}
-use Rattle.std.proofs.lemmas.Bool.{cases_Bool, cases_eq, or_parts, not-false, not-true, ltb-false, eqb-true, eqb-false, ne_eqb, true≢false}
-use Rattle.std.proofs.lemmas.List.{length-map}
+use Rattle.tech_draft.proofs.Common.{◌≡◌, ◌≢◌, ◌+◌, ◌<◌, ◌==◌, ℕ, Bool, true, false, List, [], ◌∷◌, ◌++◌, length, map, refl, sym, ap, subst, ◌∙◌}
+use Rattle.tech_draft.proofs.Common.{arith, inl, inr, IsTrue, Ok, not, nat_lt, list_any, cases_Bool, cases_eq, or_parts, not-false, not-true}
+use Rattle.tech_draft.proofs.Common.{ltb-false, eqb-true, eqb-false, ne_eqb, true≢false, length-map, In, Distinct, In-append_left, In-map}
+use Rattle.tech_draft.proofs.Common.{In-map_source, list_any-In, LayerId, TypeId, RawTech, BadForm, Twice, MOST_TYPES, type_number, layer_number}
+use Rattle.tech_draft.proofs.Common.{is_type, plane_of, Drafted, has_type, type_of_word, plane_of_word, layer_of_word, has_repeat, other_residues}
+use Rattle.tech_draft.proofs.Common.{residues_of_layer, with_contact, IsPart}
+use Rattle.std.proofs.Common.{filter}
 use Rattle.std.proofs.lemmas.Simd.{map-map}
-use Rattle.finite_sets.specs.Lists.{In, Distinct}
-use Rattle.finite_sets.proofs.Members.{In-push, In-append_left, In-map, In-map_source, In-filter, In-filter_source, In-filter_passes}
-use Rattle.finite_sets.proofs.Searches.{list_any-In}
+use Rattle.finite_sets.proofs.Members.{In-push, In-filter, In-filter_source, In-filter_passes}
 use Rattle.finite_sets.proofs.Images.{Distinct-map_filter}
-use Rattle.tech_model.specs.declared.raw.LayerId.{LayerId}
-use Rattle.tech_model.specs.declared.raw.TypeId.{TypeId}
-use Rattle.tech_model.specs.declared.raw.RawTech.{RawTech}
-use Rattle.tech_model.specs.declared.faults.TechFault.TheVariants.{BadForm, Twice, ContactPart, TooMany}
+use Rattle.tech_model.specs.declared.faults.TechFault.TheVariants.{ContactPart, TooMany}
 use Rattle.tech_model.specs.declared.faults.LimitedList.TheVariants as lists
-use Rattle.tech_model.specs.declared.limits.TheConstants.{MOST_TYPES}
-use Rattle.tech_model.specs.Types.{type_number, layer_number, is_type, plane_of}
-use Rattle.tech_draft.specs.Drafts.{Drafted}
-use Rattle.tech_draft.specs.Lookups.{has_type, type_of_word, plane_of_word, layer_of_word, is_contact}
-use Rattle.tech_draft.specs.SetLines.{has_number, has_repeat, are_misplaced, is_part, other_residues, residues_of_layer, with_contact}
+use Rattle.tech_draft.specs.Lookups.{is_contact}
+use Rattle.tech_draft.specs.SetLines.{has_number, are_misplaced, is_part}
 use Rattle.tech_draft.specs.SetLines.{new_contact}
 use Rattle.tech_draft.specs.WordRules.{refuse}
 use Rattle.tech_draft.specs.declared.draft.word_rules.WordRule.TheVariants as rule
-use Rattle.tech_draft.specs.Sound.{IsPart}
 use Rattle.tech_draft.proofs.LookupLaws.{IsNamed, part_word, single_word}
 use Rattle.tech_draft.proofs.ContactSteps.{IsContactPlan, IsContactLine}
 use Rattle.tech_draft.proofs.Refusals.{right, and_then-ok, rule-ok, none_breaks}

@@ -1,23 +1,11 @@
 -- What a line of the section `contact` keeps and adds: the images of a layer.
-use Rattle.std.proofs.Common.{◌≡◌, ◌≢◌, ◌+◌, ◌<◌, ◌≤◌, ℕ, List, [], ◌∷◌, ◌++◌, length, map, get_or, refl, sym, ap, subst, ◌∙◌, arith}
-use Rattle.std.proofs.Common.{inl, inr, length-append}
-use Rattle.std.specs.Prelude.{IsTrue}
-use Rattle.std.proofs.lemmas.List.{length-map, length-set, get_or-map, get_or-set_same, get_or-set_other}
-use Rattle.std.proofs.lemmas.List.FromFn.{length-map-range_with_len}
-use Rattle.std.proofs.lemmas.List.Elements.{All-set}
-use Rattle.finite_sets.specs.Lists.{In, Distinct}
-use Rattle.finite_sets.proofs.Members.{In-append_right, In-get_or}
-use Rattle.tech_model.specs.declared.raw.LayerId.{LayerId}
-use Rattle.tech_model.specs.declared.raw.TypeId.{TypeId}
-use Rattle.tech_model.specs.declared.raw.TypeRec.{TypeRec}
-use Rattle.tech_model.specs.declared.raw.LayerRec.{LayerRec}
-use Rattle.tech_model.specs.declared.raw.RawTech.{RawTech}
-use Rattle.tech_model.specs.declared.limits.TheConstants.{MOST_TYPES}
-use Rattle.tech_model.specs.Types.{type_number, layer_number, is_type, layer_at, plane_of, layer_of, images_of, no_type, no_layer}
-use Rattle.tech_model.specs.WellFormed.{IsLayer}
-use Rattle.tech_draft.specs.Drafts.{Drafted}
-use Rattle.tech_draft.specs.SetLines.{image_record, next_types, with_images}
-use Rattle.tech_draft.specs.Sound.{HasImages, IsPart, IsImage, HasSoundLayers, HasSoundSets}
+use Rattle.tech_draft.proofs.Common.{◌≡◌, ◌≢◌, ◌+◌, ◌<◌, ◌≤◌, ℕ, List, [], ◌∷◌, ◌++◌, length, map, get_or, refl, sym, ap, subst, ◌∙◌, arith, inl}
+use Rattle.tech_draft.proofs.Common.{inr, length-append, IsTrue, length-map, length-set, get_or-map, get_or-set_same, get_or-set_other}
+use Rattle.tech_draft.proofs.Common.{length-map-range_with_len, All-set, In, Distinct, In-append_right, In-get_or, LayerId, TypeId, TypeRec}
+use Rattle.tech_draft.proofs.Common.{LayerRec, RawTech, MOST_TYPES, type_number, layer_number, is_type, plane_of, layer_of, images_of, no_type}
+use Rattle.tech_draft.proofs.Common.{no_layer, IsLayer, Drafted, next_types, HasImages, IsPart, IsImage, HasSoundLayers, HasSoundSets}
+use Rattle.tech_model.specs.Types.{layer_at}
+use Rattle.tech_draft.specs.SetLines.{image_record, with_images}
 use Rattle.tech_draft.proofs.Growths.{IsGrown, planes_of, grown, grown_at, grown-keeps, grown_cases, grown_layer, grown_layers, grown_step}
 use Rattle.tech_draft.proofs.Keeps.{kept_layers, apart_set}
 use Rattle.tech_draft.proofs.Steps.{IsStep}

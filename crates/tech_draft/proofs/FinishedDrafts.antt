@@ -1,29 +1,20 @@
 -- The technology of a sound draft is well formed once it has a name.
-use Rattle.std.proofs.Common.{◌≡◌, ◌≢◌, ◌<◌, ◌≤◌, ◌-◌, ◌*◌, ◌^◌, ◌+◌, ◌==◌, ◌&&◌, ℕ, zero, suc, Bool, true, List, [], ◌∷◌, length, map}
-use Rattle.std.proofs.Common.{get_or, bit_or, refl, sym, ap, subst, ◌∙◌, arith, inl, inr}
-use Rattle.std.specs.Prelude.{IsTrue, Option, Some, None, find}
+use Rattle.tech_draft.proofs.Common.{◌≡◌, ◌≢◌, ◌<◌, ◌≤◌, ◌-◌, ◌^◌, ◌+◌, ◌==◌, ℕ, Bool, true, List, [], ◌∷◌, length, map, get_or, bit_or, refl, sym}
+use Rattle.tech_draft.proofs.Common.{ap, subst, ◌∙◌, arith, inl, inr, IsTrue, Option, Some, None, find, cases_eq, eq-eqb, ne_eqb, eqb-true}
+use Rattle.tech_draft.proofs.Common.{and_parts, true≢false, length-map, get_or-map, In-get_or, find-none, is_plain_name, LayerId, TypeId, TypeRec}
+use Rattle.tech_draft.proofs.Common.{RawTech, MOST_TYPES, is_type, type_at, no_type, no_layer, plane_of, layer_of, parts_of, images_of, layer_number}
+use Rattle.tech_draft.proofs.Common.{IsSimple, IsWellFormed, parts_at, type_bounds, Drafted, IsMadeOf, atom, composed, HasImages, IsPart, IsImage}
+use Rattle.tech_draft.proofs.Common.{HasSoundLayers, HasSoundSets, IsSound}
+use Rattle.std.proofs.Common.{◌*◌, ◌&&◌, zero, suc}
 use Rattle.std.specs.Int.{bit_at}
-use Rattle.std.proofs.lemmas.Bool.{cases_eq, eq-eqb, ne_eqb, eqb-true, and_parts, true≢false}
-use Rattle.std.proofs.lemmas.List.{length-map, get_or-map}
 use Rattle.std.proofs.lemmas.Nat.{or_comm}
 use Rattle.std.proofs.lemmas.Nat.Bits.{bit_at-pow_other, and_pow}
-use Rattle.finite_sets.proofs.Members.{In-get_or}
-use Rattle.finite_sets.proofs.Searches.{find-In, find-none, find-passes, none_found}
-use Rattle.text_scan.specs.PlainNames.{is_plain_name}
-use Rattle.tech_model.specs.declared.raw.LayerId.{LayerId}
-use Rattle.tech_model.specs.declared.raw.TypeId.{TypeId}
-use Rattle.tech_model.specs.declared.raw.TypeRec.{TypeRec}
-use Rattle.tech_model.specs.declared.raw.RawTech.{RawTech}
-use Rattle.tech_model.specs.declared.limits.TheConstants.{MOST_TYPES, FIRST_MARK}
-use Rattle.tech_model.specs.Types.{is_type, type_at, no_type, no_layer, plane_of, layer_of, parts_of, images_of, layer_number}
-use Rattle.tech_model.specs.WellFormed.{IsSimple, IsMarked, IsContact, HasSet, HasSets, IsWellFormed}
+use Rattle.finite_sets.proofs.Searches.{find-In, find-passes, none_found}
+use Rattle.tech_model.specs.declared.limits.TheConstants.{FIRST_MARK}
+use Rattle.tech_model.specs.WellFormed.{IsMarked, IsContact, HasSet, HasSets}
 use Rattle.tech_model.specs.WellFormed as well
-use Rattle.tech_model.proofs.JoinedLaws.{parts_at}
-use Rattle.tech_model.proofs.WellFormedLaws.{type_bounds}
 use Rattle.tech_model.proofs.SetLaws.{or_bit_cases, bit_cases}
-use Rattle.tech_draft.specs.Drafts.{Drafted}
 use Rattle.tech_draft.specs.Finished.{is_residue_of, mark_bit, set_with, finished_type, finished}
-use Rattle.tech_draft.specs.Sound.{IsMadeOf, atom, composed, HasImages, IsPart, IsImage, HasSoundLayers, HasSoundSets, IsSound}
 use Rattle.tech_draft.proofs.Keeps.{Keeps, kept_type, kept_rules, HasSamePlaces, places-keep, same_type, places-layers}
 use Rattle.tech_draft.proofs.Steps.{IsSame, same_part, union_same}
 

@@ -1,28 +1,13 @@
 -- Technologies with more types, all of one layer: their layers stay sound, and a line that adds them keeps the sets.
-use Rattle.std.proofs.Common.{◌≡◌, ◌≢◌, ◌⊎◌, ◌+◌, ◌-◌, ◌<◌, ◌≤◌, ℕ, suc, List, [], ◌∷◌, ◌++◌, length, map, get_or, refl, sym, ap, subst, ◌∙◌}
-use Rattle.std.proofs.Common.{arith, inl, inr, length-append}
-use Rattle.std.specs.Prelude.{All, IsTrue}
-use Rattle.std.specs.List.{range_with_len}
-use Rattle.std.proofs.lemmas.Bool.{cases_eq, cases_lt}
-use Rattle.std.proofs.lemmas.List.{append-nil, get_or_past, get_or_append_left, get_or-append-add, map-append}
-use Rattle.std.proofs.lemmas.List.FromFn.{length-map-range_with_len}
-use Rattle.finite_sets.specs.Lists.{In, Distinct}
-use Rattle.finite_sets.proofs.Members.{In-append_cases, In-append_left, In-append_right, In-map, In-map_source}
-use Rattle.finite_sets.proofs.Searches.{All-from_In}
-use Rattle.tech_model.specs.declared.raw.LayerId.{LayerId}
-use Rattle.tech_model.specs.declared.raw.TypeId.{TypeId}
-use Rattle.tech_model.specs.declared.raw.TypeRec.{TypeRec}
-use Rattle.tech_model.specs.declared.raw.LayerRec.{LayerRec}
-use Rattle.tech_model.specs.declared.raw.RawTech.{RawTech}
-use Rattle.tech_model.specs.declared.limits.TheConstants.{MOST_TYPES}
-use Rattle.tech_model.specs.Forms.{is_layer_name}
-use Rattle.tech_model.specs.Types.{type_number, is_type, type_at, plane_of, layer_of, images_of, no_type, no_layer}
-use Rattle.tech_model.specs.WellFormed.{IsLayer, AreApart}
-use Rattle.tech_model.proofs.JoinedLaws.{parts_at}
-use Rattle.tech_model.proofs.WellFormedLaws.{type_bounds, type_from_bounds, In-range_with_len, range_bounds}
-use Rattle.tech_draft.specs.Drafts.{Drafted}
-use Rattle.tech_draft.specs.SetLines.{next_types}
-use Rattle.tech_draft.specs.Sound.{HasImages, IsPart, HasSoundLayers, HasSoundSets}
+use Rattle.tech_draft.proofs.Common.{◌≡◌, ◌≢◌, ◌⊎◌, ◌+◌, ◌-◌, ◌<◌, ◌≤◌, ℕ, List, [], ◌∷◌, ◌++◌, length, map, get_or, refl, sym, ap, subst, ◌∙◌}
+use Rattle.tech_draft.proofs.Common.{arith, inl, inr, length-append, All, IsTrue, range_with_len, cases_eq, cases_lt, append-nil}
+use Rattle.tech_draft.proofs.Common.{length-map-range_with_len, In, Distinct, In-append_cases, In-append_left, In-append_right, In-map}
+use Rattle.tech_draft.proofs.Common.{In-map_source, All-from_In, LayerId, TypeId, TypeRec, LayerRec, RawTech, MOST_TYPES, is_layer_name, type_number}
+use Rattle.tech_draft.proofs.Common.{is_type, type_at, plane_of, layer_of, images_of, no_type, no_layer, IsLayer, AreApart, parts_at, type_bounds}
+use Rattle.tech_draft.proofs.Common.{type_from_bounds, Drafted, next_types, HasImages, IsPart, HasSoundLayers, HasSoundSets}
+use Rattle.std.proofs.Common.{suc}
+use Rattle.std.proofs.lemmas.List.{get_or_past, get_or_append_left, get_or-append-add, map-append}
+use Rattle.tech_model.proofs.WellFormedLaws.{In-range_with_len, range_bounds}
 use Rattle.tech_draft.proofs.Keeps.{Keeps, kept_type, kept_planes}
 use Rattle.tech_draft.proofs.LookupLaws.{image_type}
 use Rattle.tech_draft.proofs.Steps.{IsSame, IsSoundType, IsStep, same_images, same_part}

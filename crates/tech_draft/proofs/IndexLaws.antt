@@ -1,27 +1,17 @@
 -- What a line leaves: the index has the names of the layers, and the tables keep their limits.
-use Rattle.std.specs.Prelude.{◌≡◌, ◌+◌, ◌<◌, ◌≤◌, ◌||◌, ℕ, Bool, true, false, cond, zero, suc, is_some, if◌then◌else◌, List, [], ◌∷◌, ◌++◌}
-use Rattle.std.specs.Prelude.{length, All, slice_set, slice_index_or, unwrap_or, Option, Some, None, Ok}
-use Rattle.std.specs.List.{position_from, list_any}
-use Rattle.std.specs.Str.{bytes_eq}
-use Rattle.std.proofs.Common.{refl, ap, subst, ◌∙◌, sym, arith, length-append, inl, inr}
-use Rattle.std.proofs.lemmas.Bool.{cases_Bool, or_cases}
-use Rattle.std.proofs.lemmas.List.{length_push, length-map, length-set}
-use Rattle.std.proofs.lemmas.Slice.Eq.{bytes_eq-Decides}
-use Rattle.finite_sets.proofs.Members.{In-append_cases, In-map_source}
-use Rattle.finite_sets.proofs.Searches.{All-from_In, position_from-below, position_from-push_fails, position_from-push_passes, All-In}
-use Rattle.tech_model.specs.declared.raw.LayerId.{LayerId}
-use Rattle.tech_model.specs.declared.raw.TypeId.{TypeId}
-use Rattle.tech_model.specs.declared.raw.LayerRec.{LayerRec}
-use Rattle.tech_model.specs.declared.raw.RawTech.{RawTech}
-use Rattle.tech_model.specs.declared.faults.TechFault.TheVariants.{Twice}
-use Rattle.tech_model.specs.declared.limits.TheConstants.{MOST_TYPES}
-use Rattle.tech_model.specs.LayerWords.{layer_in}
-use Rattle.tech_model.specs.Types.{layer_named, layer_number, has_name, no_layer}
+use Rattle.tech_draft.proofs.Common.{is_some, if◌then◌else◌, All, unwrap_or, Option, Some, None, Ok, list_any, bytes_eq, refl, ap, subst, ◌∙◌, sym}
+use Rattle.tech_draft.proofs.Common.{arith, length-append, inl, inr, cases_Bool, length_push, length-map, length-set, bytes_eq-Decides}
+use Rattle.tech_draft.proofs.Common.{In-append_cases, In-map_source, All-from_In, LayerId, TypeId, LayerRec, RawTech, Twice, MOST_TYPES, layer_in}
+use Rattle.tech_draft.proofs.Common.{layer_named, layer_number, has_name, no_layer, layer_of_word, type_of_word, new_names, with_atom, atom_on}
+use Rattle.tech_draft.proofs.Common.{atom_layer, next_types, residues_of_layer}
+use Rattle.std.specs.Prelude.{◌≡◌, ◌+◌, ◌<◌, ◌≤◌, ◌||◌, ℕ, Bool, true, false, cond, zero, suc, List, [], ◌∷◌, ◌++◌}
+use Rattle.std.specs.Prelude.{length, slice_set, slice_index_or}
+use Rattle.std.specs.List.{position_from}
+use Rattle.std.proofs.lemmas.Bool.{or_cases}
+use Rattle.finite_sets.proofs.Searches.{position_from-below, position_from-push_fails, position_from-push_passes, All-In}
 use Rattle.tech_draft.specs.declared.draft.Draft.TheInside.{Inside}
 use Rattle.tech_draft.specs.Kept.{draft_of, HasRoom, IsKept}
-use Rattle.tech_draft.specs.Lookups.{layer_of_word, type_of_word}
-use Rattle.tech_draft.specs.TypeLines.{new_names, with_atom, atom_on, atom_layer}
-use Rattle.tech_draft.specs.SetLines.{with_images, next_types, residues_of_layer}
+use Rattle.tech_draft.specs.SetLines.{with_images}
 use Rattle.tech_draft.proofs.Refusals.{rule-ok}
 
 below_or_zero : (o : Option ℕ) (n : ℕ) → 0 < n → ((k : ℕ) → o ≡ Some k → k < n) → unwrap_or o 0 < n

@@ -1,22 +1,11 @@
 -- Technologies that keep the types of another: what holds of the other's lists still holds.
-use Rattle.std.proofs.Common.{◌≡◌, ◌-◌, ◌≤◌, ℕ, List, [], ◌∷◌, length, map, get_or, set, refl, sym, ap, subst, ◌∙◌, arith, inl, inr}
-use Rattle.std.specs.Prelude.{All, IsTrue}
-use Rattle.std.proofs.lemmas.Bool.{cases_eq, cases_lt}
-use Rattle.std.proofs.lemmas.List.{length-set, get_or-set_same, get_or-set_other, set_past, get_or_default}
+use Rattle.tech_draft.proofs.Common.{◌≡◌, ◌-◌, ◌≤◌, ℕ, List, [], ◌∷◌, length, map, get_or, set, refl, sym, ap, subst, ◌∙◌, arith, inl, inr, All}
+use Rattle.tech_draft.proofs.Common.{IsTrue, cases_eq, cases_lt, length-set, get_or-set_same, get_or-set_other, In, Distinct, TypeId, TypeRec}
+use Rattle.tech_draft.proofs.Common.{LayerRec, ClassRec, FetRule, RawTech, MOST_CLASSES, MOST_FETS, is_type, type_at, plane_of, layer_of, images_of}
+use Rattle.tech_draft.proofs.Common.{no_type, no_layer, IsLayer, IsClass, IsFet, IsPair, AreApart, type_bounds, type_from_bounds, with_set}
+use Rattle.tech_draft.proofs.Common.{HasSoundLayers, HasSoundRules}
+use Rattle.std.proofs.lemmas.List.{set_past, get_or_default}
 use Rattle.std.proofs.lemmas.List.Elements.{All-weaker, All-head, All-tail}
-use Rattle.finite_sets.specs.Lists.{In, Distinct}
-use Rattle.tech_model.specs.declared.raw.TypeId.{TypeId}
-use Rattle.tech_model.specs.declared.raw.TypeRec.{TypeRec}
-use Rattle.tech_model.specs.declared.raw.LayerRec.{LayerRec}
-use Rattle.tech_model.specs.declared.raw.ClassRec.{ClassRec}
-use Rattle.tech_model.specs.declared.raw.FetRule.{FetRule}
-use Rattle.tech_model.specs.declared.raw.RawTech.{RawTech}
-use Rattle.tech_model.specs.declared.limits.TheConstants.{MOST_CLASSES, MOST_FETS}
-use Rattle.tech_model.specs.Types.{is_type, type_at, plane_of, layer_of, images_of, no_type, no_layer}
-use Rattle.tech_model.specs.WellFormed.{IsLayer, IsClass, IsFet, IsPair, AreApart}
-use Rattle.tech_model.proofs.WellFormedLaws.{type_bounds, type_from_bounds}
-use Rattle.tech_draft.specs.SetLines.{with_set}
-use Rattle.tech_draft.specs.Sound.{HasSoundLayers, HasSoundRules}
 
 -- the other has all types, on their planes and of their layers
 pub record Keeps (raw next : RawTech) : Type 0 where

@@ -1,4 +1,5 @@
 mod AtomSteps
+mod Common
 mod ContactLines
 mod ContactSteps
 mod FinishedDrafts

@@ -1,19 +1,16 @@
 -- What words mean in a sound technology.
-use Rattle.std.proofs.Common.{◌≡◌, ◌≢◌, ◌⊎◌, ◌<◌, ◌==◌, ℕ, Bool, false, cond, List, [], ◌∷◌, length, refl, sym, ap, subst, ◌∙◌, arith, inl}
-use Rattle.std.proofs.Common.{inr}
-use Rattle.std.specs.Prelude.{All, IsTrue, Option, Some, None, fold, unwrap_or}
+use Rattle.tech_draft.proofs.Common.{◌≡◌, ◌≢◌, ◌⊎◌, ◌<◌, ◌==◌, ℕ, Bool, false, List, [], ◌∷◌, length, refl, sym, ap, subst, ◌∙◌, arith, inl, inr}
+use Rattle.tech_draft.proofs.Common.{All, IsTrue, Option, Some, None, fold, unwrap_or, cases_Bool, eqb-false, ltb-false, In, In-get_or, All-from_In}
+use Rattle.tech_draft.proofs.Common.{TypeId, RawTech, type_number, is_type, plane_of, layer_of, images_of, layer_named, no_layer, has_name}
+use Rattle.tech_draft.proofs.Common.{name_part, pieces_of, first_on, entry_types, has_type, with_type_once, types_of_list, type_of_word}
+use Rattle.tech_draft.proofs.Common.{layer_of_word, HasSoundLayers, IsPart}
+use Rattle.std.proofs.Common.{cond}
 use Rattle.std.specs.Option.{option_map_or}
-use Rattle.std.proofs.lemmas.Bool.{cases_Bool, eqb-false, ltb-false}
-use Rattle.finite_sets.specs.Lists.{In}
-use Rattle.finite_sets.proofs.Members.{In-get_or, In-push_cases}
-use Rattle.finite_sets.proofs.Searches.{All-from_In, position_from-below, one_thing, All-In}
-use Rattle.tech_model.specs.declared.raw.TypeId.{TypeId}
-use Rattle.tech_model.specs.declared.raw.RawTech.{RawTech}
-use Rattle.tech_model.specs.Types.{type_number, is_type, plane_of, layer_of, images_of, layer_named, no_layer, has_name}
-use Rattle.tech_draft.specs.Words.{has_slash, name_part, plane_part, pieces_of}
-use Rattle.tech_draft.specs.Lookups.{plane_named, named_types, first_on, type_on, entry_types, has_type, with_type_once, types_of_list}
-use Rattle.tech_draft.specs.Lookups.{type_of_word, layer_of_word, is_contact}
-use Rattle.tech_draft.specs.Sound.{HasSoundLayers, IsPart}
+use Rattle.finite_sets.proofs.Members.{In-push_cases}
+use Rattle.finite_sets.proofs.Searches.{position_from-below, one_thing, All-In}
+use Rattle.tech_draft.specs.Words.{has_slash, plane_part}
+use Rattle.tech_draft.specs.Lookups.{plane_named, named_types, type_on}
+use Rattle.tech_draft.specs.Lookups.{is_contact}
 
 -- a layer that a word names is one of the list
 pub layer_named-below : (raw : RawTech) (word : List ℕ) (layer : ℕ) → layer_named raw word ≡ Some layer → layer < length raw.layers

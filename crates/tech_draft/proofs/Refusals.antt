@@ -1,13 +1,6 @@
 -- Rules that are kept, one after another.
-use Rattle.std.specs.Prelude.{◌≡◌, ℕ, Bool, true, false, cond, List, find, Option, Some, None, Result, Ok, Err}
-use Rattle.std.proofs.Common.{refl}
-use Rattle.std.proofs.lemmas.Bool.{or_parts}
-use Rattle.finite_sets.specs.Lists.{In}
-use Rattle.finite_sets.proofs.Searches.{find-none}
-use Rattle.text_form.specs.SaidLines.{and_then}
-use Rattle.tech_model.specs.declared.raw.RawTech.{RawTech}
-use Rattle.tech_model.specs.declared.faults.TechFault.{TechFault}
-use Rattle.tech_draft.specs.Drafts.{Drafted}
+use Rattle.tech_draft.proofs.Common.{find, Option, Some, None, Result, Ok, Err, refl, or_parts, In, find-none, and_then, RawTech, TechFault, Drafted}
+use Rattle.std.specs.Prelude.{◌≡◌, ℕ, Bool, true, false, cond, List}
 use Rattle.tech_draft.specs.declared.draft.word_rules.WordRule.{WordRule}
 use Rattle.tech_draft.specs.declared.draft.word_rules.WordRule.TheVariants.{Operator, OperatorOrSlash, UnknownPlane, Meaningless}
 use Rattle.tech_draft.specs.Words.{has_operator, has_slash}

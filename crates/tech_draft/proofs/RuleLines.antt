@@ -1,37 +1,25 @@
 -- Pairs, classes and transistors that a line adds fit the lists.
-use Rattle.std.proofs.Common.{◌≡◌, ◌<◌, ◌≤◌, ◌==◌, ◌&&◌, ℕ, ℤ, pos, negsuc, Bool, true, false, List, [], ◌∷◌, ◌++◌, length, map, get_or}
-use Rattle.std.proofs.Common.{set, refl, sym, ap, subst, ◌∙◌, arith, inl, inr}
-use Rattle.std.specs.Prelude.{All, IsTrue, Option, Some, None, Result, Ok, Err, fold, not, nat_le, is_some, if◌then◌else◌}
-use Rattle.std.specs.Option.{ok_or}
-use Rattle.std.proofs.lemmas.Bool.{cases_Bool, cases_lt, and_parts, leb-true, eq-eqb, eqb-true, eqb-false, true≢false}
+use Rattle.tech_draft.proofs.Common.{◌≡◌, ◌<◌, ◌≤◌, ◌==◌, ℕ, Bool, true, false, List, [], ◌∷◌, ◌++◌, length, map, get_or, set, refl, sym, ap, subst}
+use Rattle.tech_draft.proofs.Common.{◌∙◌, arith, inl, inr, All, IsTrue, Option, Some, None, Result, Ok, Err, fold, not, nat_le, is_some}
+use Rattle.tech_draft.proofs.Common.{if◌then◌else◌, ok_or, cases_Bool, cases_lt, and_parts, eq-eqb, eqb-true, eqb-false, true≢false, length_push}
+use Rattle.tech_draft.proofs.Common.{length-set, All-push, All-set, All-nil, all_pairs_push, In, Distinct, Distinct-push, In-get_or, In-map_source}
+use Rattle.tech_draft.proofs.Common.{list_any-In, position_from-none, is_plain_name, TypeId, ClassRec, FetRule, RawTech, TechFault, BadForm}
+use Rattle.tech_draft.proofs.Common.{MOST_CLASSES, MOST_FETS, is_type, plane_of, IsPair, IsClass, IsFet, AreApart, is_entry_list, pieces_of}
+use Rattle.tech_draft.proofs.Common.{measure_in, entry_types, has_type, types_of_list, type_of_word, with_pair, with_partners, with_pairs, fet_with}
+use Rattle.tech_draft.proofs.Common.{HasSoundLayers, HasSoundRules}
+use Rattle.std.proofs.Common.{◌&&◌, ℤ, pos, negsuc}
+use Rattle.std.proofs.lemmas.Bool.{leb-true}
 use Rattle.std.proofs.lemmas.Iterator.Adapters.{position_from-zero}
-use Rattle.std.proofs.lemmas.List.{length_push, map_push, length-set, get_or_past}
-use Rattle.std.proofs.lemmas.List.Elements.{All-push, All-set, All-nil}
-use Rattle.std.proofs.lemmas.List.Quantifiers.{all_pairs_push}
-use Rattle.finite_sets.specs.Lists.{In, Distinct}
-use Rattle.finite_sets.proofs.Distincts.{Distinct-push}
-use Rattle.finite_sets.proofs.Members.{In-get_or, In-map_source}
-use Rattle.finite_sets.proofs.Searches.{list_any-In, position_from-none}
+use Rattle.std.proofs.lemmas.List.{map_push, get_or_past}
 use Rattle.text_scan.specs.Numbers.{number_of}
-use Rattle.text_scan.specs.PlainNames.{is_plain_name}
 use Rattle.text_scan.specs.declared.numeral.NumFault.{NumFault}
-use Rattle.tech_model.specs.declared.raw.TypeId.{TypeId}
-use Rattle.tech_model.specs.declared.raw.ClassRec.{ClassRec}
-use Rattle.tech_model.specs.declared.raw.FetRule.{FetRule}
-use Rattle.tech_model.specs.declared.raw.RawTech.{RawTech}
-use Rattle.tech_model.specs.declared.faults.TechFault.{TechFault}
-use Rattle.tech_model.specs.declared.faults.TechFault.TheVariants.{BadForm}
-use Rattle.tech_model.specs.declared.limits.TheConstants.{MOST_CLASSES, MOST_FETS, LARGEST_MEASURE}
+use Rattle.tech_model.specs.declared.limits.TheConstants.{LARGEST_MEASURE}
 use Rattle.tech_model.specs.Forms.{is_naming_label}
-use Rattle.tech_model.specs.Types.{is_type, plane_of}
-use Rattle.tech_model.specs.WellFormed.{IsPair, IsClass, IsFet, AreApart}
-use Rattle.tech_draft.specs.Words.{is_entry, is_entry_list, pieces_of, within_largest, measure_in}
+use Rattle.tech_draft.specs.Words.{is_entry, within_largest}
 use Rattle.tech_draft.specs.WordRules.{breaks, refuse}
 use Rattle.tech_draft.specs.declared.draft.word_rules.WordRule.TheVariants.{Meaningless, Classed}
-use Rattle.tech_draft.specs.Lookups.{entry_types, has_type, types_of_list, type_of_word, class_of, is_classed}
-use Rattle.tech_draft.specs.ListLines.{has_pair, with_pair, with_partners, with_pairs, class_with, no_class, class_at, is_fet_form, has_fet}
-use Rattle.tech_draft.specs.ListLines.{fet_with}
-use Rattle.tech_draft.specs.Sound.{HasSoundLayers, HasSoundRules}
+use Rattle.tech_draft.specs.Lookups.{class_of, is_classed}
+use Rattle.tech_draft.specs.ListLines.{has_pair, class_with, no_class, class_at, is_fet_form, has_fet}
 use Rattle.tech_draft.proofs.Keeps.{rules_in, apart_set, places-keep, same_places}
 use Rattle.tech_draft.proofs.LookupLaws.{word_type, list_source, list_type, list_types}
 use Rattle.tech_draft.proofs.Refusals.{none_breaks}

@@ -1,13 +1,7 @@
 -- A draft of which no line was read is sound.
-use Rattle.std.proofs.Common.{◌≤◌, ℕ, List, refl, arith, inl}
-use Rattle.std.specs.Prelude.{IsTrue}
-use Rattle.std.proofs.lemmas.List.Elements.{All-nil}
-use Rattle.text_scan.specs.PlainNames.{is_plain_name}
-use Rattle.tech_model.specs.Types.{is_type}
-use Rattle.tech_model.specs.WellFormed.{IsLayer, IsPair, IsClass, IsFet}
-use Rattle.tech_model.proofs.WellFormedLaws.{type_bounds}
+use Rattle.tech_draft.proofs.Common.{◌≤◌, ℕ, List, refl, arith, inl, IsTrue, All-nil, is_plain_name, is_type, IsLayer, IsPair, IsClass, IsFet}
+use Rattle.tech_draft.proofs.Common.{type_bounds, IsSound}
 use Rattle.tech_draft.specs.Drafts.{empty_raw, empty_draft}
-use Rattle.tech_draft.specs.Sound.{IsSound}
 
 -- there is no type yet
 no_type_yet : {X : Type 0} (t : ℕ) → IsTrue (is_type empty_raw t) → X

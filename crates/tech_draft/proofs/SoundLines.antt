@@ -1,50 +1,39 @@
 -- Each line that is taken keeps a draft sound.
-use Rattle.std.proofs.Common.{◌≡◌, ◌<◌, ◌≤◌, ◌==◌, ◌||◌, ℕ, true, false, List, [], ◌∷◌, ◌++◌, length, refl, ap, subst, arith}
-use Rattle.std.proofs.Common.{inl, inr}
-use Rattle.std.specs.Prelude.{IsTrue, Option, Some, None, Ok, not, nat_lt, nat_le, codes}
-use Rattle.std.specs.List.{list_any, list_all}
-use Rattle.std.specs.Option.{ok_or}
-use Rattle.std.specs.Str.{bytes_eq}
-use Rattle.std.proofs.lemmas.Bool.{cases_Bool, or_parts, and_parts, not-false, not-true, leb-false, eqb-true, eqb-false}
-use Rattle.std.proofs.lemmas.List.{length_push}
-use Rattle.std.proofs.lemmas.List.Elements.{All-push}
+use Rattle.tech_draft.proofs.Common.{◌≡◌, ◌<◌, ◌≤◌, ◌==◌, ℕ, true, false, List, [], ◌∷◌, ◌++◌, length, refl, ap, subst, arith, inl, inr, IsTrue}
+use Rattle.tech_draft.proofs.Common.{Option, Some, None, Ok, not, nat_lt, nat_le, list_any, ok_or, bytes_eq, cases_Bool, or_parts, and_parts}
+use Rattle.tech_draft.proofs.Common.{not-false, not-true, eqb-true, eqb-false, length_push, All-push, bytes_eq-Decides, In, Distinct-push}
+use Rattle.tech_draft.proofs.Common.{All-from_In, list_any-In, position_from-none, is_plain_name, and_then, TypeId, ClassRec, FetRule, TechFault}
+use Rattle.tech_draft.proofs.Common.{BadForm, Twice, MOST_TYPES, MOST_CLASSES, MOST_FETS, is_layer_name, plane_of, has_name, Drafted, is_comma}
+use Rattle.tech_draft.proofs.Common.{pieces_of, is_entry_list, measure_in, name_part, entry_types, has_type, types_of_list, type_of_word}
+use Rattle.tech_draft.proofs.Common.{layer_of_word, new_names, with_atom, other_residues, residues_of_layer, with_contact, with_union, with_pairs}
+use Rattle.tech_draft.proofs.Common.{with_pair_list, fet_with, HasSoundRules, IsPart, IsSound}
+use Rattle.std.proofs.Common.{◌||◌}
+use Rattle.std.specs.Prelude.{codes}
+use Rattle.std.specs.List.{list_all}
+use Rattle.std.proofs.lemmas.Bool.{leb-false}
 use Rattle.std.proofs.lemmas.List.Splits.{length-slice_split}
 use Rattle.std.proofs.lemmas.List.Quantifiers.{position-Some}
-use Rattle.std.proofs.lemmas.Slice.Eq.{bytes_eq-Decides}
-use Rattle.finite_sets.specs.Lists.{In}
-use Rattle.finite_sets.proofs.Distincts.{Distinct-push}
-use Rattle.finite_sets.proofs.Searches.{All-from_In, list_all-In, list_any-In, position_from-none, absent-from_list_any}
-use Rattle.text_scan.specs.PlainNames.{is_plain_name}
-use Rattle.text_form.specs.SaidLines.{and_then}
-use Rattle.tech_model.specs.declared.raw.TypeId.{TypeId}
-use Rattle.tech_model.specs.declared.raw.ClassRec.{ClassRec}
-use Rattle.tech_model.specs.declared.raw.FetRule.{FetRule}
+use Rattle.finite_sets.proofs.Searches.{list_all-In, absent-from_list_any}
 use Rattle.tech_model.specs.declared.faults.Section.{Section}
 use Rattle.tech_model.specs.declared.faults.Section.TheVariants.{Tech, Planes, Types, Contact, Compose, Connect, Extract}
-use Rattle.tech_model.specs.declared.faults.TechFault.{TechFault}
-use Rattle.tech_model.specs.declared.faults.TechFault.TheVariants.{BadForm, NoPlane, Twice, TooMany}
+use Rattle.tech_model.specs.declared.faults.TechFault.TheVariants.{NoPlane, TooMany}
 use Rattle.tech_model.specs.declared.faults.LimitedList.TheVariants as lists
-use Rattle.tech_model.specs.declared.limits.TheConstants.{MOST_PLANES, MOST_TYPES, MOST_CLASSES, MOST_FETS}
-use Rattle.tech_model.specs.Forms.{is_layer_name}
-use Rattle.tech_model.specs.Types.{plane_of, has_name}
-use Rattle.tech_draft.specs.Drafts.{Drafted}
-use Rattle.tech_draft.specs.Words.{has_form, is_comma, pieces_of}
-use Rattle.tech_draft.specs.Words.{is_entry_list, measure_in, name_part}
+use Rattle.tech_model.specs.declared.limits.TheConstants.{MOST_PLANES}
+use Rattle.tech_draft.specs.Words.{has_form}
 use Rattle.tech_draft.specs.declared.words.WordForm.TheVariants.{LayerName, LayerTerm}
 use Rattle.tech_draft.specs.declared.draft.word_rules.WordRule.TheVariants as rule
 use Rattle.tech_draft.specs.WordRules.{refuse, check_entries, check_layers}
-use Rattle.tech_draft.specs.Lookups.{plane_named, entry_types, has_type, types_of_list, type_of_word, layer_of_word}
-use Rattle.tech_draft.specs.TypeLines.{with_name, name_line, with_plane, plane_line, new_names, with_atom, new_atom}
+use Rattle.tech_draft.specs.Lookups.{plane_named}
+use Rattle.tech_draft.specs.TypeLines.{with_name, name_line, with_plane, plane_line, new_atom}
 use Rattle.tech_draft.specs.TypeLines.{type_line}
-use Rattle.tech_draft.specs.SetLines.{other_residues, residues_of_layer, with_contact}
 use Rattle.tech_draft.specs.SetLines.{contact_line}
-use Rattle.tech_draft.specs.SetLines.{are_composable, is_settled, with_union, compose_line}
-use Rattle.tech_draft.specs.ListLines.{with_pairs, with_pair_list, connect_line, with_class, new_class, resist_line}
+use Rattle.tech_draft.specs.SetLines.{are_composable, is_settled, compose_line}
+use Rattle.tech_draft.specs.ListLines.{connect_line, with_class, new_class, resist_line}
 use Rattle.tech_draft.specs.ListLines.{shared_class, uncapped}
-use Rattle.tech_draft.specs.ListLines.{with_capacitance, new_capacitance, cap_line, is_fet_form, has_fet, with_rule, fet_with, check_fet}
+use Rattle.tech_draft.specs.ListLines.{with_capacitance, new_capacitance, cap_line, is_fet_form, has_fet, with_rule, check_fet}
 use Rattle.tech_draft.specs.ListLines.{fet_line, extract_line}
 use Rattle.tech_draft.specs.Lines.{line_in}
-use Rattle.tech_draft.specs.Sound.{HasSoundNames, HasSoundRules, IsPart, IsSound}
+use Rattle.tech_draft.specs.Sound.{HasSoundNames}
 use Rattle.tech_draft.proofs.AtomSteps.{IsNewLayer, atom_growth, atom_layers, atom_step}
 use Rattle.tech_draft.proofs.ContactLines.{new_contact-keeps}
 use Rattle.tech_draft.proofs.ContactSteps.{images_growth, images_layers, contact_step}

@@ -1,18 +1,8 @@
 -- What a line keeps and adds, of the types and their sets.
-use Rattle.std.proofs.Common.{◌≡◌, ◌⊎◌, ℕ, List, [], ◌++◌, length, bit_or, refl, sym, ap, subst, ◌∙◌, arith, inl, inr}
-use Rattle.std.specs.Prelude.{IsTrue}
-use Rattle.std.proofs.lemmas.List.{append-nil}
-use Rattle.finite_sets.specs.Lists.{In}
-use Rattle.finite_sets.proofs.Members.{In-append_cases, In-append_left}
-use Rattle.tech_model.specs.declared.raw.LayerId.{LayerId}
-use Rattle.tech_model.specs.declared.raw.TypeId.{TypeId}
-use Rattle.tech_model.specs.declared.raw.ClassRec.{ClassRec}
-use Rattle.tech_model.specs.declared.raw.FetRule.{FetRule}
-use Rattle.tech_model.specs.declared.raw.RawTech.{RawTech}
-use Rattle.tech_model.specs.Types.{is_type, layer_of, parts_of, images_of, type_number, layer_number}
-use Rattle.tech_model.specs.WellFormed.{IsSimple, IsUnion}
-use Rattle.tech_draft.specs.Drafts.{Drafted}
-use Rattle.tech_draft.specs.Sound.{IsMadeOf, atom, composed, HasImages, IsPart, IsImage, HasSoundSets}
+use Rattle.tech_draft.proofs.Common.{◌≡◌, ◌⊎◌, ℕ, List, [], ◌++◌, length, bit_or, refl, sym, ap, subst, ◌∙◌, arith, inl, inr, IsTrue, append-nil, In}
+use Rattle.tech_draft.proofs.Common.{In-append_cases, In-append_left, LayerId, TypeId, ClassRec, FetRule, RawTech, is_type, layer_of, parts_of}
+use Rattle.tech_draft.proofs.Common.{images_of, type_number, layer_number, IsSimple, IsUnion, Drafted, IsMadeOf, atom, composed, HasImages, IsPart}
+use Rattle.tech_draft.proofs.Common.{IsImage, HasSoundSets}
 use Rattle.tech_draft.proofs.Keeps.{Keeps, kept_type, places-keep, same_places}
 
 -- The type was there before, and as it is: its layer has as many images, and its set is the same.

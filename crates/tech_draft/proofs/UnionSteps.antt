@@ -1,20 +1,8 @@
 -- What a line of the section `compose` keeps and adds: the set of one type.
-use Rattle.std.proofs.Common.{◌≡◌, ◌≢◌, ◌-◌, ℕ, [], ◌∷◌, ◌++◌, length, bit_or, refl, sym, ap, subst, ◌∙◌, arith, inl, inr}
-use Rattle.std.specs.Prelude.{IsTrue}
-use Rattle.std.proofs.lemmas.Bool.{cases_eq}
-use Rattle.std.proofs.lemmas.List.{append-nil, get_or-set_same, get_or-set_other}
-use Rattle.finite_sets.specs.Lists.{In}
-use Rattle.finite_sets.proofs.Members.{In-append_right}
-use Rattle.tech_model.specs.declared.raw.TypeId.{TypeId}
-use Rattle.tech_model.specs.declared.raw.TypeRec.{TypeRec}
-use Rattle.tech_model.specs.declared.raw.RawTech.{RawTech}
-use Rattle.tech_model.specs.Types.{type_number, is_type, type_at, plane_of, parts_of, images_of, no_type}
-use Rattle.tech_model.specs.WellFormed.{IsUnion, IsSimple}
-use Rattle.tech_model.proofs.JoinedLaws.{parts_at}
-use Rattle.tech_model.proofs.WellFormedLaws.{type_bounds}
-use Rattle.tech_draft.specs.Drafts.{Drafted}
-use Rattle.tech_draft.specs.SetLines.{with_set, with_union}
-use Rattle.tech_draft.specs.Sound.{IsMadeOf, composed, IsPart, HasSoundSets}
+use Rattle.tech_draft.proofs.Common.{◌≡◌, ◌≢◌, ◌-◌, ℕ, [], ◌∷◌, ◌++◌, length, bit_or, refl, sym, ap, subst, ◌∙◌, arith, inl, inr, IsTrue, cases_eq}
+use Rattle.tech_draft.proofs.Common.{append-nil, get_or-set_same, get_or-set_other, In, In-append_right, TypeId, TypeRec, RawTech, type_number}
+use Rattle.tech_draft.proofs.Common.{is_type, type_at, plane_of, parts_of, images_of, no_type, IsUnion, IsSimple, parts_at, type_bounds, Drafted}
+use Rattle.tech_draft.proofs.Common.{with_set, with_union, IsMadeOf, composed, IsPart, HasSoundSets}
 use Rattle.tech_draft.proofs.Keeps.{Keeps, kept_type, with_set-places, places-keep, same_type}
 use Rattle.tech_draft.proofs.Steps.{IsSame, IsStep, made_same}
 

@@ -1,12 +1,11 @@
 -- The pieces of a comma list, and the last byte of a text.
-use Rattle.std.specs.Prelude.{◌≡◌, ◌==◌, ◌+◌, ℕ, Bool, cond, suc, zero, List, [], ◌∷◌, length, take, drop, Some, None, position}
+use Rattle.tech_draft.proofs.Common.{Some, None, position, refl, ap, get_or, arith, inl, inr, cases_lt, is_comma, pieces_of}
+use Rattle.std.specs.Prelude.{◌≡◌, ◌==◌, ◌+◌, ℕ, Bool, cond, suc, zero, List, [], ◌∷◌, length, take, drop}
 use Rattle.std.specs.List.{position_or_len}
-use Rattle.std.proofs.Common.{refl, ap, get_or, arith, inl, inr}
-use Rattle.std.proofs.lemmas.Bool.{cases_lt, lt-ltb, le-ltb}
+use Rattle.std.proofs.lemmas.Bool.{lt-ltb, le-ltb}
 use Rattle.std.proofs.lemmas.List.Splits.{slice_split_first, slice_split_none}
 use Rattle.std.proofs.lemmas.List.Sums.{fails_before_first}
 use Rattle.tech_model.specs.Forms.{ends_in_hash}
-use Rattle.tech_draft.specs.Words.{is_comma, pieces_of}
 
 -- a text ends in a hash where its last byte is one
 pub ends_in_hash-last : (text : List ℕ) (i d : ℕ) → i + 1 ≡ length text → ends_in_hash text ≡ (get_or text i d == 35)

@@ -1,24 +1,20 @@
 -- The first headings of each section, among all lines where a section begins.
-use Rattle.std.proofs.Common.{◌≡◌, ◌≢◌, ◌<◌, ◌≤◌, ◌+◌, ◌==◌, ◌&&◌, ℕ, Bool, true, false, List, [], ◌∷◌, ◌++◌, refl, sym, ap, subst}
-use Rattle.std.proofs.Common.{◌∙◌, arith, inl, inr, map}
-use Rattle.std.specs.Prelude.{nat_lt, is_some, is_none, find, if◌then◌else◌, Option, Some, None}
+use Rattle.tech_file.proofs.Common.{◌≡◌, ◌≢◌, ◌+◌, ◌==◌, ◌&&◌, ℕ, Bool, true, false, List, [], ◌∷◌, ◌++◌, refl, sym, ap, subst, ◌∙◌, arith, inl, inr}
+use Rattle.tech_file.proofs.Common.{Option, Some, None, option_map, option_map_or, cases_Bool, In, Section, Place, Between, Heading, content_of}
+use Rattle.tech_file.proofs.Common.{after, section_at, headings_from, headings_of}
+use Rattle.std.proofs.Common.{◌<◌, ◌≤◌}
+use Rattle.std.proofs.Common.{map}
+use Rattle.std.specs.Prelude.{nat_lt, is_some, is_none, find, if◌then◌else◌}
 use Rattle.std.specs.List.{list_any}
-use Rattle.std.specs.Option.{option_map, option_map_or}
-use Rattle.std.proofs.lemmas.Bool.{cases_Bool, cases_lt, cases_eq, eqb-true, eqb-false, and_parts, ltb-true, ltb-false, lt-ltb}
+use Rattle.std.proofs.lemmas.Bool.{cases_lt, cases_eq, eqb-true, eqb-false, and_parts, ltb-true, ltb-false, lt-ltb}
 use Rattle.std.proofs.lemmas.Bool.{le-ltb, true≢false}
 use Rattle.std.proofs.lemmas.List.{append-nil}
 use Rattle.std.proofs.Common.{append_assoc}
-use Rattle.finite_sets.specs.Lists.{In}
 use Rattle.finite_sets.proofs.Members.{In-append_left, In-push, In-push_cases, In-map, In-map_source}
 use Rattle.finite_sets.proofs.Searches.{find-In, find-none, find-passes, list_any-In, list_any-source}
-use Rattle.tech_model.specs.declared.faults.Section.{Section}
 use Rattle.tech_model.specs.declared.faults.Section.TheVariants.{Tech, Planes, Types, Contact, Compose, Connect, Extract}
-use Rattle.tech_file.specs.declared.places.Place.{Place}
-use Rattle.tech_file.specs.declared.places.Place.TheVariants.{Between}
-use Rattle.tech_file.specs.declared.outline.Heading.{Heading}
 use Rattle.tech_file.specs.Sections.{rank}
-use Rattle.tech_file.specs.Places.{content_of, after}
-use Rattle.tech_file.specs.Outlines.{line_of, with_heading, section_at, headings_from, headings_of, is_too_early, is_second}
+use Rattle.tech_file.specs.Outlines.{line_of, with_heading, is_too_early, is_second}
 use Rattle.tech_file.specs.Texts.{AreInOrder}
 
 -- a heading at this line, where a section begins there

@@ -1,3 +1,4 @@
+mod Common
 mod HeadingLaws
 mod ReadTexts
 mod SectionTexts

@@ -1,29 +1,16 @@
 -- A text that is read is one of sections.
-use Rattle.std.proofs.Common.{◌≡◌, ◌⊎◌, ◌+◌, ◌==◌, ◌&&◌, ℕ, Bool, cond, List, [], ◌∷◌, refl}
-use Rattle.std.proofs.Common.{sym, ap, subst, ◌∙◌, inl, inr}
-use Rattle.std.specs.Prelude.{not, Option, Some, None, Result, Ok, Err, if◌then◌else◌}
-use Rattle.std.specs.Option.{option_and_then, option_map_or}
-use Rattle.std.proofs.lemmas.Bool.{cases_Bool}
-use Rattle.finite_sets.specs.Lists.{In}
-use Rattle.text_form.specs.declared.reading.At.{At}
-use Rattle.text_form.specs.Folds.{first_fault_or}
-use Rattle.text_form.specs.SaidLines.{and_then}
+use Rattle.tech_file.proofs.Common.{◌≡◌, ◌⊎◌, ◌+◌, ◌==◌, ◌&&◌, ℕ, Bool, cond, List, [], ◌∷◌, refl, sym, ap, subst, ◌∙◌, inl, inr, Option, Some, None}
+use Rattle.tech_file.proofs.Common.{Result, Ok, option_and_then, option_map_or, cases_Bool, In, At, first_fault_or, and_then, Section, TechFault}
+use Rattle.tech_file.proofs.Common.{Drafted, right, and_then-ok, rule-ok, Place, Between, Skipped, Within, Heading, Reading, section_named}
+use Rattle.tech_file.proofs.Common.{content_of, is_end, name_alone, opened, after, section_at, standing, draft_after, read_line, words_in}
+use Rattle.tech_file.proofs.Common.{with_known, lines_in, section_in}
+use Rattle.std.specs.Prelude.{not, Err, if◌then◌else◌}
 use Rattle.text_form.proofs.FoldLaws.{passed}
-use Rattle.tech_model.specs.declared.faults.Section.{Section}
-use Rattle.tech_model.specs.declared.faults.TechFault.{TechFault}
 use Rattle.tech_model.specs.declared.faults.TechFault.TheVariants.{BadForm, Twice}
-use Rattle.tech_draft.specs.Drafts.{Drafted}
 use Rattle.tech_draft.specs.Lines.{line_in}
-use Rattle.tech_draft.proofs.Refusals.{right, and_then-ok, rule-ok}
-use Rattle.tech_file.specs.declared.places.Place.{Place}
-use Rattle.tech_file.specs.declared.places.Place.TheVariants.{Between, Skipped, Within}
-use Rattle.tech_file.specs.declared.outline.Heading.{Heading}
-use Rattle.tech_file.specs.declared.reading.Reading.{Reading}
-use Rattle.tech_file.specs.Sections.{section_named}
-use Rattle.tech_file.specs.Places.{content_of, says_nothing, is_end, name_alone, opened, after}
-use Rattle.tech_file.specs.Outlines.{section_at, is_too_early, is_second}
-use Rattle.tech_file.specs.Reading.{standing, begun, read_between, end_of, read_within, draft_after, read_line, line_step}
-use Rattle.tech_file.specs.Texts.{words_in, with_known, lines_in, section_in}
+use Rattle.tech_file.specs.Places.{says_nothing}
+use Rattle.tech_file.specs.Outlines.{is_too_early, is_second}
+use Rattle.tech_file.specs.Reading.{begun, read_between, end_of, read_within, line_step}
 use Rattle.tech_file.proofs.HeadingLaws.{opened_by, openings, sections_of, IsInPlace}
 use Rattle.tech_file.proofs.TextRests.{Words, line-taken, AreSections, IsRest, Remains, end_word, name_word, with_section, with_end, with_line}
 

@@ -1,25 +1,12 @@
 -- A text of sections is read.
-use Rattle.std.proofs.Common.{◌≡◌, ◌⊎◌, ◌+◌, ℕ, true, false, List, [], ◌∷◌, ◌++◌, refl}
-use Rattle.std.proofs.Common.{sym, ap, subst, ◌∙◌, inl, inr}
-use Rattle.std.specs.Prelude.{Option, Some, None, Result, Ok, codes}
-use Rattle.std.specs.Option.{option_and_then, option_map_or}
-use Rattle.finite_sets.specs.Lists.{In}
-use Rattle.text_form.specs.Folds.{unless_faulty, first_fault_or}
-use Rattle.text_form.specs.SaidLines.{and_then}
-use Rattle.tech_model.specs.declared.faults.Section.{Section}
-use Rattle.tech_model.specs.declared.faults.TechFault.{TechFault}
-use Rattle.tech_draft.specs.Drafts.{Drafted}
+use Rattle.tech_file.proofs.Common.{◌≡◌, ◌⊎◌, ◌+◌, ℕ, true, false, List, [], ◌∷◌, ◌++◌, refl, sym, ap, subst, ◌∙◌, inl, inr, Option, Some, None}
+use Rattle.tech_file.proofs.Common.{Result, Ok, codes, option_and_then, option_map_or, In, first_fault_or, and_then, Section, TechFault, Drafted}
+use Rattle.tech_file.proofs.Common.{right, and_then-ok, Place, Between, Skipped, Within, Heading, section_named, content_of, is_end, name_alone}
+use Rattle.tech_file.proofs.Common.{opened, after, section_at, place_after, standing, draft_after, TextSection, IsSection, words_of_all, words_in}
+use Rattle.tech_file.proofs.Common.{with_known, known_sections, lines_in, section_in, sections_in}
+use Rattle.text_form.specs.Folds.{unless_faulty}
 use Rattle.tech_draft.specs.Lines.{line_in}
-use Rattle.tech_draft.proofs.Refusals.{right, and_then-ok}
-use Rattle.tech_file.specs.declared.places.Place.{Place}
-use Rattle.tech_file.specs.declared.places.Place.TheVariants.{Between, Skipped, Within}
-use Rattle.tech_file.specs.declared.outline.Heading.{Heading}
-use Rattle.tech_file.specs.Sections.{section_named}
-use Rattle.tech_file.specs.Places.{content_of, is_end, name_alone, opened, after}
-use Rattle.tech_file.specs.Outlines.{section_at, place_after}
-use Rattle.tech_file.specs.Reading.{standing, begun, read_between, end_of, draft_after, line_step}
-use Rattle.tech_file.specs.Texts.{TextSection, IsSection, words_of_all, words_in, with_known, known_sections, lines_in, section_in}
-use Rattle.tech_file.specs.Texts.{sections_in}
+use Rattle.tech_file.specs.Reading.{begun, read_between, end_of, line_step}
 use Rattle.tech_file.proofs.HeadingLaws.{opened_by, openings, sections_of, IsInPlace}
 use Rattle.tech_file.proofs.TextRests.{Words, AreSections, IsRest, Remains}
 use Rattle.tech_file.proofs.ReadTexts.{opened_sections, in_front, no_section}

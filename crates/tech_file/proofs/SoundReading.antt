@@ -1,23 +1,16 @@
 -- A text whose lines are without fault gives a sound draft.
-use Rattle.std.proofs.Common.{◌≡◌, ◌==◌, ◌&&◌, ℕ, List, [], ◌∷◌, Ok, subst, inl, inr}
-use Rattle.std.proofs.lemmas.Bool.{cases_Bool}
-use Rattle.text_form.specs.Folds.{last_number}
+use Rattle.tech_file.proofs.Common.{◌≡◌, ◌==◌, ◌&&◌, ℕ, List, [], ◌∷◌, subst, inl, inr, cases_Bool, last_number, Section, Drafted, empty_draft}
+use Rattle.tech_file.proofs.Common.{and_then-ok, rule-ok, Place, Between, Skipped, Within, Heading, Reading, content_of, is_end, name_alone}
+use Rattle.tech_file.proofs.Common.{headings_of, standing, draft_after, read_line}
+use Rattle.std.proofs.Common.{Ok}
 use Rattle.text_form.proofs.FoldLaws.{first_fault_or-keeps}
-use Rattle.tech_model.specs.declared.faults.Section.{Section}
 use Rattle.tech_model.specs.declared.faults.Section.TheVariants.{Tech}
 use Rattle.tech_model.specs.declared.faults.TechFault.TheVariants.{BadForm}
-use Rattle.tech_draft.specs.Drafts.{Drafted, empty_draft}
 use Rattle.tech_draft.specs.Sound.{IsSound}
 use Rattle.tech_draft.proofs.SoundDrafts.{IsSound-empty}
 use Rattle.tech_draft.proofs.SoundLines.{made, IsSound-line}
-use Rattle.tech_draft.proofs.Refusals.{and_then-ok, rule-ok}
-use Rattle.tech_file.specs.declared.places.Place.{Place}
-use Rattle.tech_file.specs.declared.places.Place.TheVariants.{Between, Skipped, Within}
-use Rattle.tech_file.specs.declared.outline.Heading.{Heading}
-use Rattle.tech_file.specs.declared.reading.Reading.{Reading}
-use Rattle.tech_file.specs.Places.{content_of, is_end, name_alone}
-use Rattle.tech_file.specs.Outlines.{headings_of, ends_open}
-use Rattle.tech_file.specs.Reading.{standing, read_between, end_of, draft_after, read_line, step_in, EndsWell}
+use Rattle.tech_file.specs.Outlines.{ends_open}
+use Rattle.tech_file.specs.Reading.{read_between, end_of, step_in, EndsWell}
 use Rattle.tech_file.proofs.TextRests.{line-taken}
 
 end-sound : (section : Section) (name : List ℕ) (draft next : Drafted) → IsSound draft → end_of section name draft ≡ Ok next → IsSound next

@@ -1,24 +1,10 @@
 -- What is left of a text of sections, from where its first line stands.
-use Rattle.std.proofs.Common.{◌≡◌, ℕ, Bool, true, false, cond, List, [], ◌∷◌, ◌++◌, refl}
-use Rattle.std.proofs.Common.{sym, ap, subst, ◌∙◌, inl, inr}
-use Rattle.std.specs.Prelude.{Option, Some, None, Result, Ok, codes}
+use Rattle.tech_file.proofs.Common.{◌≡◌, ℕ, Bool, true, false, cond, List, [], ◌∷◌, ◌++◌, refl, sym, ap, subst, ◌∙◌, inl, inr, Option, Some, None}
+use Rattle.tech_file.proofs.Common.{Result, Ok, codes, cases_Bool, In, Section, TechFault, Drafted, and_then-ok, Heading, Place, Between, Skipped}
+use Rattle.tech_file.proofs.Common.{Within, Reading, section_named, is_end, name_alone, after, standing, draft_after, read_line, TextSection}
+use Rattle.tech_file.proofs.Common.{IsSection, words_of_all, with_known, known_sections, section_in, sections_in}
 use Rattle.std.specs.Str.{bytes_eq}
-use Rattle.std.proofs.lemmas.Bool.{cases_Bool}
 use Rattle.std.proofs.lemmas.Slice.Eq.{bytes_eq-Decides}
-use Rattle.finite_sets.specs.Lists.{In}
-use Rattle.tech_model.specs.declared.faults.Section.{Section}
-use Rattle.tech_model.specs.declared.faults.TechFault.{TechFault}
-use Rattle.tech_draft.specs.Drafts.{Drafted}
-use Rattle.tech_draft.proofs.Refusals.{and_then-ok}
-use Rattle.tech_file.specs.declared.outline.Heading.{Heading}
-use Rattle.tech_file.specs.declared.places.Place.{Place}
-use Rattle.tech_file.specs.declared.places.Place.TheVariants.{Between, Skipped, Within}
-use Rattle.tech_file.specs.declared.reading.Reading.{Reading}
-use Rattle.tech_file.specs.Sections.{section_named}
-use Rattle.tech_file.specs.Places.{is_end, name_alone, after}
-use Rattle.tech_file.specs.Reading.{standing, draft_after, read_line}
-use Rattle.tech_file.specs.Texts.{TextSection, IsSection, words_of_all, with_known, known_sections, section_in}
-use Rattle.tech_file.specs.Texts.{sections_in}
 
 -- the words of a line
 abbrev pub Words : Type 0

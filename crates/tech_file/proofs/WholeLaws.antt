@@ -1,8 +1,7 @@
 -- The name of a draft's technology.
-use Rattle.std.proofs.Common.{◌≡◌, ◌≢◌, ◌⊎◌, inl, inr, ℕ, List, [], refl}
-use Rattle.std.specs.Prelude.{IsTrue, IsNone, Option, Some, None}
+use Rattle.tech_file.proofs.Common.{◌≡◌, ◌≢◌, ◌⊎◌, inl, inr, ℕ, List, [], refl, Option, Some, None, Drafted}
+use Rattle.std.specs.Prelude.{IsTrue, IsNone}
 use Rattle.text_scan.specs.PlainNames.{is_plain_name}
-use Rattle.tech_draft.specs.Drafts.{Drafted}
 use Rattle.tech_draft.specs.Finished.{finished}
 
 -- putting the sets in keeps the name

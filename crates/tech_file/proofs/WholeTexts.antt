@@ -1,34 +1,23 @@
 -- What a text gives: the technology of its sections, or its first fault.
-use Rattle.std.proofs.Common.{◌≡◌, ◌≢◌, ◌+◌, ◌==◌, ◌&&◌, ℕ, Bool, true, false, List, [], ◌∷◌, length, refl, sym, ap, subst, ◌∙◌, arith}
-use Rattle.std.proofs.Common.{inl, inr}
-use Rattle.std.specs.Prelude.{is_none, Option, Some, None, Result, Ok, Err, ◌↔◌}
-use Rattle.std.specs.Option.{option_map, option_or}
-use Rattle.std.proofs.lemmas.Bool.{cases_Bool, eq-eqb, true≢false}
-use Rattle.finite_sets.specs.Lists.{In}
+use Rattle.tech_file.proofs.Common.{◌≡◌, ◌≢◌, ◌+◌, ◌==◌, ◌&&◌, ℕ, Bool, true, false, List, [], ◌∷◌, length, refl, sym, ap, subst, ◌∙◌, arith, inl}
+use Rattle.tech_file.proofs.Common.{inr, Option, Some, None, Result, Ok, option_map, cases_Bool, In, lines_of, At, first_fault_or, last_number}
+use Rattle.tech_file.proofs.Common.{Section, TechFault, Drafted, empty_draft, rule-ok, Place, Between, Skipped, Within, Heading, Reading, content_of}
+use Rattle.tech_file.proofs.Common.{after, headings_of, place_after, standing, read_line, known_sections, words_in}
+use Rattle.std.specs.Prelude.{is_none, Err, ◌↔◌}
+use Rattle.std.specs.Option.{option_or}
+use Rattle.std.proofs.lemmas.Bool.{eq-eqb, true≢false}
 use Rattle.finite_sets.proofs.Searches.{find-none, none_found, option_map-none, option_or-none}
-use Rattle.text_scan.specs.Lines.{lines_of}
-use Rattle.text_form.specs.declared.reading.At.{At}
-use Rattle.text_form.specs.Folds.{first_fault_or, last_number}
 use Rattle.text_form.proofs.FoldLaws.{passed, first_fault_or-refused, first_fault_or-first}
 use Rattle.tech_model.specs.declared.raw.RawTech.{RawTech}
-use Rattle.tech_model.specs.declared.faults.Section.{Section}
-use Rattle.tech_model.specs.declared.faults.TechFault.{TechFault}
 use Rattle.tech_model.specs.declared.faults.TechFault.TheVariants.{NoSection, BadForm}
 use Rattle.tech_model.specs.Rules.{rule_fault}
-use Rattle.tech_draft.specs.Drafts.{Drafted, empty_draft}
 use Rattle.tech_draft.specs.Finished.{finished}
-use Rattle.tech_draft.proofs.Refusals.{rule-ok}
-use Rattle.tech_file.specs.declared.places.Place.{Place}
-use Rattle.tech_file.specs.declared.places.Place.TheVariants.{Between, Skipped, Within}
-use Rattle.tech_file.specs.declared.outline.Heading.{Heading}
-use Rattle.tech_file.specs.declared.reading.Reading.{Reading}
 use Rattle.tech_file.specs.declared.reading.TechAt.{TechAt}
 use Rattle.tech_file.specs.Sections.{required}
-use Rattle.tech_file.specs.Places.{content_of, after}
-use Rattle.tech_file.specs.Outlines.{line_of, headings_of, place_after, is_in_section, ends_open, missing}
-use Rattle.tech_file.specs.Reading.{standing, read_line, line_step, step_in, text_reading, fault_at, told, whole_fault, unless_broken}
+use Rattle.tech_file.specs.Outlines.{line_of, is_in_section, ends_open, missing}
+use Rattle.tech_file.specs.Reading.{line_step, step_in, text_reading, fault_at, told, whole_fault, unless_broken}
 use Rattle.tech_file.specs.Reading.{checked_reading, technology_of}
-use Rattle.tech_file.specs.Texts.{known_sections, words_in, AreInOrder, IsTechText, IsTechnologyOf, IsRefusedAt}
+use Rattle.tech_file.specs.Texts.{AreInOrder, IsTechText, IsTechnologyOf, IsRefusedAt}
 use Rattle.tech_file.proofs.HeadingLaws.{openings, sections_of, in_place-order, order-in_place, begins-somewhere, is-heading}
 use Rattle.tech_file.proofs.TextRests.{line-taken, AreSections}
 use Rattle.tech_file.proofs.ReadTexts.{remains-read}

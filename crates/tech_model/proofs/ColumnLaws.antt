@@ -1,19 +1,11 @@
 -- Columns: paint and erasing leave types of their planes, and contacts that stand whole.
-use Rattle.std.proofs.Common.{◌≡◌, ◌⊎◌, ◌+◌, ◌<◌, ◌≤◌, ℕ, zero, suc, true, Option, List, [], ◌∷◌, length, bit_or, refl, sym, ap, subst, ◌∙◌, arith, inl, inr}
-use Rattle.std.proofs.Common.{add-zero}
-use Rattle.std.specs.Prelude.{Some, None, IsTrue, nat_lt, unwrap_or}
-use Rattle.std.specs.Int.{bit_at}
-use Rattle.std.proofs.lemmas.Bool.{cases_Bool, eqb-true, ltb-true, ltb-false}
-use Rattle.std.proofs.lemmas.Nat.Bits.{bit_at-zero}
-use Rattle.geo_core.proofs.FiniteSets.Searches.{find-In, find-passes, All-In}
-use Rattle.tech_model.specs.declared.raw.TypeId.{TypeId}
-use Rattle.tech_model.specs.declared.raw.RawTech.{RawTech}
-use Rattle.tech_model.specs.Types.{is_type, plane_of, parts_of, images_of, is_on, image_on, joined, is_subset}
-use Rattle.tech_model.specs.WellFormed.{IsWellFormed}
-use Rattle.tech_model.specs.declared.columns.Brush.{Brush}
-use Rattle.tech_model.specs.declared.columns.Brush.TheVariants.{Paint, Erase}
-use Rattle.tech_model.specs.Columns.{brushed_by, where_image, on_planes_from, mark_of, type_on, has_mark_everywhere, without_parts, layer_mark_kept}
-use Rattle.tech_model.specs.ColumnForms.{IsOnPlane, IsColumn}
+use Rattle.tech_model.proofs.Common.{◌≡◌, ◌⊎◌, ◌+◌, ◌<◌, ◌≤◌, ℕ, zero, suc, true, Option, List, [], ◌∷◌, length, bit_or, refl, sym, ap, subst, ◌∙◌}
+use Rattle.tech_model.proofs.Common.{arith, inl, inr, add-zero, Some, None, IsTrue, nat_lt, unwrap_or, bit_at, cases_Bool, eqb-true, bit_at-zero}
+use Rattle.tech_model.proofs.Common.{find-In, All-In, TypeId, RawTech, is_type, plane_of, parts_of, images_of, is_on, image_on, joined, is_subset}
+use Rattle.tech_model.proofs.Common.{IsWellFormed, Brush, Paint, Erase, mark_of, layer_mark_kept, IsOnPlane, IsColumn}
+use Rattle.std.proofs.lemmas.Bool.{ltb-true, ltb-false}
+use Rattle.geo_core.proofs.FiniteSets.Searches.{find-passes}
+use Rattle.tech_model.specs.Columns.{brushed_by, where_image, on_planes_from, type_on, has_mark_everywhere, without_parts}
 use Rattle.tech_model.proofs.WellFormedLaws.{layer_well_formed}
 use Rattle.tech_model.proofs.JoinedLaws.{joined-found}
 

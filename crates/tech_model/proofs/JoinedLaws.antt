@@ -1,14 +1,9 @@
 -- The type of a plane that has a set.
-use Rattle.std.proofs.Common.{◌≡◌, ◌≢◌, ◌⊎◌, ◌+◌, ◌-◌, ◌<◌, ◌≤◌, ◌==◌, ℕ, Bool, true, false, Option, if◌then◌else◌, length, get_or}
-use Rattle.std.proofs.Common.{refl, sym, ap, ◌∙◌, arith, inl, inr}
-use Rattle.std.specs.Prelude.{Some, None, IsTrue, slice_index_or}
-use Rattle.std.specs.List.{position_from}
-use Rattle.std.specs.Option.{option_map}
-use Rattle.std.proofs.lemmas.Bool.{cases_Bool, cases_eq, and_parts, and_from, eq-eqb, eqb-true, ne_eqb}
+use Rattle.tech_model.proofs.Common.{◌≡◌, ◌≢◌, ◌⊎◌, ◌+◌, ◌-◌, ◌<◌, ◌≤◌, ◌==◌, ℕ, Bool, true, false, Option, if◌then◌else◌, length, get_or, refl, sym}
+use Rattle.tech_model.proofs.Common.{ap, ◌∙◌, arith, inl, inr, Some, None, IsTrue, slice_index_or, position_from, option_map, cases_Bool, cases_eq}
+use Rattle.tech_model.proofs.Common.{and_parts, and_from, eq-eqb, eqb-true, ne_eqb, RawTech, is_type, plane_of, parts_of, joined, HaveOwnSets}
 use Rattle.tech_model.specs.declared.raw.TypeRec.{TypeRec}
-use Rattle.tech_model.specs.declared.raw.RawTech.{RawTech}
-use Rattle.tech_model.specs.Types.{is_type, type_at, no_type, plane_of, parts_of, is_kind, joined}
-use Rattle.tech_model.specs.Rules.{HaveOwnSets}
+use Rattle.tech_model.specs.Types.{type_at, no_type, is_kind}
 use Rattle.tech_model.proofs.WellFormedLaws.{type_bounds, type_from_bounds}
 use Rattle.geo_core.proofs.FiniteSets.FirstPlaces.{position_at, position_found}
 

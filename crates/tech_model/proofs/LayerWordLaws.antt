@@ -1,25 +1,19 @@
 -- Words and their layers: what a map of words has after a word was put in.
-use Rattle.std.proofs.Common.{◌≡◌, ◌≢◌, ◌||◌, ◌+◌, ◌<◌, ℕ, suc, take, get_or, inl, inr, List, [], ◌∷◌, ◌++◌, length, map, Option, Bool, true, false, cond}
-use Rattle.std.proofs.Common.{if◌then◌else◌, refl, sym, ap, ◌∙◌, arith, add-zero, zero-add}
-use Rattle.std.specs.Prelude.{Some, None, is_none}
-use Rattle.std.specs.Option.{option_or}
-use Rattle.std.specs.List.{position_from, list_any}
+use Rattle.tech_model.proofs.Common.{◌≡◌, ◌≢◌, ◌||◌, ◌+◌, ◌<◌, ℕ, suc, take, get_or, inl, inr, List, [], ◌∷◌, ◌++◌, length, map, Option, Bool, true}
+use Rattle.tech_model.proofs.Common.{false, cond, if◌then◌else◌, refl, sym, ap, ◌∙◌, arith, add-zero, Some, None, is_none, option_or, position_from}
+use Rattle.tech_model.proofs.Common.{list_any, cases_Bool, bytes_eq, list_any_more, common_steps, layer_in}
+use Rattle.std.proofs.Common.{zero-add}
 use Rattle.std.proofs.Math.Bool.{or-false}
-use Rattle.std.proofs.lemmas.Bool.{cases_Bool}
 use Rattle.std.specs.Ordering.{nat_cmp, is_eq, match_ordering}
 use Rattle.std.specs.declared.cmp.Ordering.{Ordering}
 use Rattle.std.specs.declared.cmp.Ordering.TheVariants.{Less, Equal, Greater}
 use Rattle.std.specs.Cmp.Lexicographic.{slice_cmp}
 use Rattle.std.specs.BTreeMap.{is_at, insert_entry}
 use Rattle.std.specs.Map.{lookup}
-use Rattle.std.specs.Str.{bytes_eq}
 use Rattle.std.proofs.lemmas.Map.Text.{is_eq-slice_cmp}
 use Rattle.std.proofs.lemmas.Map.Lookups.{exact_bytes}
 use Rattle.std.proofs.lemmas.Slice.Eq.{bytes_eq-Decides}
 use Rattle.std.proofs.lemmas.List.{take_more, length-take-le}
-use Rattle.std.proofs.lemmas.List.Folds.{list_any_more}
-use Rattle.std.proofs.lemmas.Grind.{common_steps}
-use Rattle.tech_model.specs.LayerWords.{layer_in}
 
 -- the entries of a map, with the bytes of each key
 abbrev pub layer_entries : {K : Type 0} → (K → List ℕ) → List (K × ℕ) → List (List ℕ × ℕ)

@@ -1,6 +1,7 @@
 -- what crates above name of those below
 pub use Rattle.geo_core.proofs.FiniteSets as FiniteSets
 pub use Rattle.geo_core.proofs as GeoCore
+mod Common
 mod LayerWordLaws
 mod PairTableLaws
 pub mod WellFormedLaws

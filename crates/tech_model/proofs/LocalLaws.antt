@@ -1,25 +1,14 @@
 -- What paint and erasing leave on a plane depends on that plane alone, where contacts stand whole.
-use Rattle.std.proofs.Common.{◌≡◌, ◌≢◌, ◌⊎◌, ◌+◌, ◌^◌, ◌<◌, ◌≤◌, ℕ, zero, suc, Bool, Option, List, [], ◌∷◌, length, take, fold, bit_or, refl, sym, ap, subst}
-use Rattle.std.proofs.Common.{◌∙◌, arith, inl, inr, add-zero}
-use Rattle.std.specs.Prelude.{Some, None, IsTrue, ◌&&◌, nat_lt, unwrap_or}
-use Rattle.std.specs.List.{list_all}
-use Rattle.std.specs.Int.{bit_at}
-use Rattle.std.proofs.Math.Seq.{take-length}
-use Rattle.std.proofs.lemmas.Bool.{cases_Bool, cases_eq, ltb-true, true≢false, eq-eqb}
-use Rattle.std.proofs.lemmas.List.Sums.{fold_more}
-use Rattle.std.proofs.lemmas.Nat.Bits.{bit_at-zero}
-use Rattle.geo_core.specs.FiniteSets.Lists.{In}
-use Rattle.geo_core.proofs.FiniteSets.Searches.{find-In, find-none, All-In}
-use Rattle.tech_model.specs.declared.raw.TypeId.{TypeId}
-use Rattle.tech_model.specs.declared.raw.LayerRec.{LayerRec}
-use Rattle.tech_model.specs.declared.raw.RawTech.{RawTech}
-use Rattle.tech_model.specs.Types.{is_type, type_number, plane_of, layer_of, parts_of, images_of, no_layer, is_on, image_on, joined, is_subset, without}
-use Rattle.tech_model.specs.WellFormed.{IsWellFormed, IsContact}
-use Rattle.tech_model.specs.declared.columns.Brush.{Brush}
-use Rattle.tech_model.specs.declared.columns.Brush.TheVariants.{Paint, Erase}
-use Rattle.tech_model.specs.Columns.{painted_by, erased_by, brushed_by, where_image, on_planes_from, mark_of, type_on, has_mark_everywhere, without_parts, layer_mark_kept}
+use Rattle.tech_model.proofs.Common.{◌≡◌, ◌≢◌, ◌⊎◌, ◌+◌, ◌^◌, ◌<◌, ◌≤◌, ℕ, zero, suc, Bool, Option, List, [], ◌∷◌, length, take, fold, bit_or, refl}
+use Rattle.tech_model.proofs.Common.{sym, ap, subst, ◌∙◌, arith, inl, inr, add-zero, Some, None, IsTrue, nat_lt, unwrap_or, list_all, bit_at}
+use Rattle.tech_model.proofs.Common.{take-length, cases_Bool, cases_eq, true≢false, eq-eqb, fold_more, bit_at-zero, In, find-In, find-none, All-In}
+use Rattle.tech_model.proofs.Common.{TypeId, LayerRec, RawTech, is_type, type_number, plane_of, layer_of, parts_of, images_of, no_layer, is_on}
+use Rattle.tech_model.proofs.Common.{image_on, joined, is_subset, without, IsWellFormed, IsContact, Brush, Paint, Erase, mark_of, layer_mark_kept}
+use Rattle.tech_model.proofs.Common.{IsOnPlane, IsColumn, HasWholeContacts}
+use Rattle.std.specs.Prelude.{◌&&◌}
+use Rattle.std.proofs.lemmas.Bool.{ltb-true}
+use Rattle.tech_model.specs.Columns.{painted_by, erased_by, brushed_by, where_image, on_planes_from, type_on, has_mark_everywhere, without_parts}
 use Rattle.tech_model.specs.Columns.{marks_kept, brushed_column}
-use Rattle.tech_model.specs.ColumnForms.{IsOnPlane, IsColumn, HasWholeContacts}
 use Rattle.tech_model.proofs.JoinedLaws.{joined-found}
 use Rattle.tech_model.proofs.WellFormedLaws.{layer_well_formed}
 use Rattle.tech_model.proofs.SetLaws.{bit_cases, without_bit_source, or_bit_cases, or_bit_right, mark_part, mark_part_bit, image_mark, mark_layer}

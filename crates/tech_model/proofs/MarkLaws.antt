@@ -1,17 +1,10 @@
 -- Marks of contacts: what the images of a contact have in common is its mark alone.
-use Rattle.std.proofs.Common.{◌≡◌, ◌≢◌, ◌+◌, ◌^◌, ◌%◌, ◌<◌, ℕ, List, [], ◌∷◌, length, map, get_or, fold, bit_and, max, min, refl, sym, ap, ◌∙◌, arith, inl, inr}
-use Rattle.std.specs.Int.{bit_at}
-use Rattle.std.proofs.lemmas.Bool.{cases_eq}
-use Rattle.std.proofs.lemmas.List.{get_or-map, length-map}
-use Rattle.std.proofs.lemmas.Nat.Bits.{bit_at_and, bit_at_or, bit_at_xor, bit_at-lt, bit_at-pow_same, bit_at-pow_other, bit_at_ones, same_from_bits}
-use Rattle.geo_core.specs.FiniteSets.Lists.{In}
-use Rattle.geo_core.proofs.FiniteSets.Members.{In-get_or}
+use Rattle.tech_model.proofs.Common.{◌≡◌, ◌≢◌, ◌+◌, ◌^◌, ◌%◌, ◌<◌, ℕ, List, [], ◌∷◌, length, map, get_or, fold, bit_and, max, min, refl, sym, ap}
+use Rattle.tech_model.proofs.Common.{◌∙◌, arith, inl, inr, bit_at, cases_eq, get_or-map, length-map, bit_at-pow_same, In, In-get_or, TypeId, RawTech}
+use Rattle.tech_model.proofs.Common.{plane_of, parts_of, images_of, type_number, without, IsWellFormed, IsMarked, IsContact, mark_of}
+use Rattle.std.proofs.lemmas.Nat.Bits.{bit_at_and, bit_at_or, bit_at_xor, bit_at-lt, bit_at-pow_other, bit_at_ones, same_from_bits}
 use Rattle.geo_core.proofs.FiniteSets.Distincts.{Distinct-places}
-use Rattle.tech_model.specs.declared.raw.TypeId.{TypeId}
-use Rattle.tech_model.specs.declared.raw.RawTech.{RawTech}
-use Rattle.tech_model.specs.Types.{plane_of, parts_of, images_of, type_number, without}
-use Rattle.tech_model.specs.WellFormed.{IsWellFormed, IsMarked, IsContact}
-use Rattle.tech_model.specs.Columns.{all_parts, mark_of}
+use Rattle.tech_model.specs.Columns.{all_parts}
 use Rattle.tech_model.proofs.WellFormedLaws.{layer_well_formed}
 use Rattle.tech_model.proofs.SetLaws.{bit_cases, or_bit_cases, set_bits, image_mark, mark_layer, xor_of_min}
 use Rattle.tech_model.specs.declared.limits.TheConstants.{PART_BITS}

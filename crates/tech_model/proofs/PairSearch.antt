@@ -1,14 +1,10 @@
 -- Searches over pairs: the pairs of the first thing, and then those of the rest.
-use Rattle.std.proofs.Common.{◌≡◌, ◌+◌, ◌<◌, ℕ, zero, suc, Bool, true, false, cond, Option, List, [], ◌∷◌, ◌++◌, length, map, filter, get_or, drop, refl, sym}
-use Rattle.std.proofs.Common.{ap, ◌∙◌, arith, inl, inr, add-one, drop-cons, append_assoc}
+use Rattle.tech_model.proofs.Common.{◌≡◌, ◌+◌, ◌<◌, ℕ, zero, suc, Bool, true, false, cond, Option, List, [], ◌∷◌, ◌++◌, length, map, filter, get_or}
+use Rattle.tech_model.proofs.Common.{drop, refl, sym, ap, ◌∙◌, arith, inl, inr, Some, None, find, range_with_len, flat_map, option_map, option_or}
+use Rattle.tech_model.proofs.Common.{cases_Bool, In, pairs_of}
+use Rattle.std.proofs.Common.{add-one, drop-cons, append_assoc}
 use Rattle.std.proofs.lemmas.List.Elements.{filter-append}
-use Rattle.std.specs.Prelude.{Some, None, find}
-use Rattle.std.specs.List.{range_with_len, flat_map}
-use Rattle.std.specs.Option.{option_map, option_or}
-use Rattle.std.proofs.lemmas.Bool.{cases_Bool}
 use Rattle.std.proofs.lemmas.List.Folds.{find-append}
-use Rattle.geo_core.specs.FiniteSets.Lists.{In}
-use Rattle.geo_core.specs.FiniteSets.Range.{pairs_of}
 use Rattle.geo_core.proofs.FiniteSets.Searches.{find-map}
 
 -- the pairs of the first thing come first

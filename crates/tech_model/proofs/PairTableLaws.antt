@@ -1,14 +1,12 @@
 -- Tables of pairs: what a row has after one bit was set, and what pairs that follow each other add.
-use Rattle.std.proofs.Common.{◌≡◌, ◌*◌, ◌%◌, ◌^◌, ◌<◌, ◌&&◌, ◌||◌, ◌==◌, ℕ, Bool, true, false, List, length, slice_index_or, slice_set, bit_or, refl, sym}
-use Rattle.std.proofs.Common.{◌∙◌, arith, inl, inr}
-use Rattle.std.specs.Int.{bit_at, w128}
+use Rattle.tech_model.proofs.Common.{◌≡◌, ◌*◌, ◌%◌, ◌^◌, ◌<◌, ◌&&◌, ◌||◌, ◌==◌, ℕ, Bool, true, false, List, length, bit_or, refl, sym, ◌∙◌, arith}
+use Rattle.tech_model.proofs.Common.{inl, inr, bit_at, cases_eq, eq-eqb, ne_eqb, common_steps, TypeId, is_of}
+use Rattle.std.proofs.Common.{slice_index_or, slice_set}
+use Rattle.std.specs.Int.{w128}
 use Rattle.std.proofs.lemmas.Nat.Bits.{bit_at_set_same, bit_at_set_other}
 use Rattle.std.proofs.lemmas.List.{get_or-set_other}
-use Rattle.std.proofs.lemmas.Bool.{cases_eq, eq-eqb, ne_eqb}
-use Rattle.std.proofs.lemmas.Grind.{common_steps, get_or_default_zero, get_or-set_at}
-use Rattle.tech_model.specs.declared.raw.TypeId.{TypeId}
+use Rattle.std.proofs.lemmas.Grind.{get_or_default_zero, get_or-set_at}
 use Rattle.tech_model.specs.PairTables.{row_has}
-use Rattle.tech_model.specs.Types.{is_of}
 
 bit_set : (row t y : ℕ) → t < 128 → y < 128 → (bit_at (bit_or row (1 * 2 ^ t % 2 ^ 128)) y == 1) ≡ (bit_at row y == 1 || y == t)
 bit_set row t y t_below y_below = elim (cases_eq y t) [

@@ -1,25 +1,18 @@
 -- The rules of a technology: what is found of them names types, and where nothing is found they hold.
-use Rattle.std.proofs.Common.{◌≡◌, ◌<◌, ◌&&◌, ◌==◌, ℕ, true, false, Option, List, [], ◌∷◌, length, map, get_or, refl, sym, ap, subst, ◌∙◌, arith, inl, inr}
-use Rattle.std.specs.Prelude.{Some, None, All, IsTrue, find, not, nat_lt}
-use Rattle.std.specs.List.{flat_map}
-use Rattle.std.specs.Option.{option_map, option_or}
-use Rattle.std.proofs.lemmas.Bool.{cases_Bool, cases_order, and_parts, and_from, ltb-true, eqb-true, not-true, eq-eqb, lt-ltb, not-false, true≢false}
-use Rattle.geo_core.specs.FiniteSets.Lists.{In}
-use Rattle.geo_core.specs.FiniteSets.Range.{pairs_of}
-use Rattle.geo_core.proofs.FiniteSets.Members.{In-append_left, In-append_right, In-append_cases, In-map, In-map_source, In-filter, In-filter_source, In-filter_passes}
-use Rattle.geo_core.proofs.FiniteSets.Members.{In-get_or}
+use Rattle.tech_model.proofs.Common.{◌≡◌, ◌<◌, ◌&&◌, ◌==◌, ℕ, true, false, Option, List, [], ◌∷◌, length, map, get_or, refl, sym, ap, subst, ◌∙◌}
+use Rattle.tech_model.proofs.Common.{arith, inl, inr, Some, None, All, IsTrue, find, not, nat_lt, flat_map, option_map, option_or, cases_Bool}
+use Rattle.tech_model.proofs.Common.{and_parts, and_from, eqb-true, eq-eqb, true≢false, In, pairs_of, In-map, In-get_or, find-In, find-none, All-In}
+use Rattle.tech_model.proofs.Common.{TypeId, FetRule, RawTech, is_type, plane_of, parts_of, is_fet_name, IsWellFormed, IsFet, HaveOwnSets, types_of}
+use Rattle.tech_model.proofs.Common.{have_one_set, is_bad_terminal, are_within, widenings, breaks_law}
+use Rattle.std.proofs.lemmas.Bool.{cases_order, ltb-true, not-true, lt-ltb, not-false}
+use Rattle.geo_core.proofs.FiniteSets.Members.{In-append_left, In-append_right, In-append_cases, In-map_source, In-filter, In-filter_source, In-filter_passes}
 use Rattle.geo_core.proofs.FiniteSets.Ranges.{In-pairs_of, In-pairs_of_first, In-pairs_of_second}
-use Rattle.geo_core.proofs.FiniteSets.Searches.{find-In, find-none, none_found, option_or-none, option_map-none, All-In}
+use Rattle.geo_core.proofs.FiniteSets.Searches.{none_found, option_or-none, option_map-none}
 use Rattle.geo_core.proofs.FiniteSets.Images.{In-flat_map, In-flat_map_source}
-use Rattle.tech_model.specs.declared.raw.TypeId.{TypeId}
-use Rattle.tech_model.specs.declared.raw.FetRule.{FetRule}
-use Rattle.tech_model.specs.declared.raw.RawTech.{RawTech}
 use Rattle.tech_model.specs.declared.faults.TechFault.{TechFault}
-use Rattle.tech_model.specs.Types.{is_type, plane_of, parts_of, connects, is_within}
-use Rattle.tech_model.specs.Forms.{is_fet_name}
-use Rattle.tech_model.specs.WellFormed.{IsWellFormed, IsFet}
-use Rattle.tech_model.specs.Rules.{HaveOwnSets, FetsAreApart, FetsAreNamed, IsMonotone, KeepsRules, types_of, have_one_set, fet_terminals, is_bad_terminal}
-use Rattle.tech_model.specs.Rules.{are_within, widenings, breaks_law, same_set_fault, fet_terminal_fault, fet_name_fault, monotone_fault, rule_fault}
+use Rattle.tech_model.specs.Types.{connects, is_within}
+use Rattle.tech_model.specs.Rules.{FetsAreApart, FetsAreNamed, IsMonotone, KeepsRules, fet_terminals}
+use Rattle.tech_model.specs.Rules.{same_set_fault, fet_terminal_fault, fet_name_fault, monotone_fault, rule_fault}
 use Rattle.tech_model.proofs.TypeLaws.{connects_types, within_type}
 use Rattle.tech_model.proofs.WellFormedLaws.{In-range_with_len, range_bounds, type_bounds, type_from_bounds}
 

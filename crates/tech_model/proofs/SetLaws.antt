@@ -1,19 +1,14 @@
 -- Sets of parts as numbers: subsets, and the bits of the sets of types.
-use Rattle.std.proofs.Common.{◌≡◌, ◌≢◌, ◌⊎◌, ◌+◌, ◌-◌, ◌*◌, ◌^◌, ◌%◌, ◌<◌, ◌==◌, ℕ, true, length, bit_and, bit_or, min, max, sym, ap, subst, ◌∙◌, arith, inl}
-use Rattle.std.proofs.Common.{inr}
-use Rattle.std.specs.Prelude.{IsTrue, not}
-use Rattle.std.specs.Int.{bit_at}
+use Rattle.tech_model.proofs.Common.{◌≡◌, ◌≢◌, ◌⊎◌, ◌+◌, ◌-◌, ◌*◌, ◌^◌, ◌%◌, ◌<◌, ◌==◌, ℕ, true, length, bit_and, bit_or, min, max, sym, ap, subst}
+use Rattle.tech_model.proofs.Common.{◌∙◌, arith, inl, inr, IsTrue, not, bit_at, bit_at-zero, bit_at-pow_same, cases_eq, and_parts, and_from, eq-eqb}
+use Rattle.tech_model.proofs.Common.{eqb-true, ne_eqb, In, All-In, TypeId, RawTech, is_type, plane_of, layer_of, parts_of, images_of, is_subset}
+use Rattle.tech_model.proofs.Common.{without, IsWellFormed, IsMarked, IsContact, MOST_TYPES}
 use Rattle.std.proofs.lemmas.Nat.{and_comm, and_assoc}
-use Rattle.std.proofs.lemmas.Nat.Bits.{bit_at-zero, bit_at_and, bit_at_or, bit_at_xor, bit_at-pow_same, bit_at-pow_other, bit_at-lt, and_pow}
-use Rattle.std.proofs.lemmas.Bool.{cases_eq, and_parts, and_from, eq-eqb, eqb-true, eqb-false, ne_eqb, not-true}
-use Rattle.geo_core.specs.FiniteSets.Lists.{In}
-use Rattle.geo_core.proofs.FiniteSets.Searches.{All-In}
-use Rattle.tech_model.specs.declared.raw.TypeId.{TypeId}
-use Rattle.tech_model.specs.declared.raw.RawTech.{RawTech}
-use Rattle.tech_model.specs.Types.{is_type, plane_of, layer_of, parts_of, images_of, is_subset, is_proper_subset, without}
-use Rattle.tech_model.specs.WellFormed.{IsWellFormed, IsSimple, HasSet, atom, composed, IsMarked, IsContact}
+use Rattle.std.proofs.lemmas.Nat.Bits.{bit_at_and, bit_at_or, bit_at_xor, bit_at-pow_other, bit_at-lt, and_pow}
+use Rattle.std.proofs.lemmas.Bool.{eqb-false, not-true}
+use Rattle.tech_model.specs.Types.{is_proper_subset}
+use Rattle.tech_model.specs.WellFormed.{IsSimple, HasSet, atom, composed}
 use Rattle.tech_model.proofs.WellFormedLaws.{type_bounds, layer_well_formed}
-use Rattle.tech_model.specs.declared.limits.TheConstants.{MOST_TYPES}
 
 subset_is : (a b : ℕ) → is_subset a b ≡ true → bit_and a b ≡ a
 subset_is a b is = eqb-true (bit_and a b) a is

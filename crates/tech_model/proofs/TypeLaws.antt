@@ -1,11 +1,8 @@
 -- Types: which connect and which are within which.
-use Rattle.std.proofs.Common.{◌≡◌, ◌⊎◌, ◌==◌, ◌&&◌, ◌||◌, ℕ, Bool, true, false, List, [], ◌∷◌, refl, ap, subst, ◌∙◌, inl, inr}
-use Rattle.std.specs.Prelude.{IsTrue}
-use Rattle.std.specs.List.{list_any}
-use Rattle.std.proofs.lemmas.Bool.{and_parts, and_from, or_cases, eq-eqb, eqb-true}
-use Rattle.tech_model.specs.declared.raw.TypeId.{TypeId}
-use Rattle.tech_model.specs.declared.raw.RawTech.{RawTech}
-use Rattle.tech_model.specs.Types.{is_type, layer_of, parts_of, is_of, is_pair, connects, is_proper_subset, is_within}
+use Rattle.tech_model.proofs.Common.{◌≡◌, ◌⊎◌, ◌==◌, ◌&&◌, ◌||◌, ℕ, Bool, true, false, List, [], ◌∷◌, refl, ap, subst, ◌∙◌, inl, inr, IsTrue}
+use Rattle.tech_model.proofs.Common.{list_any, and_parts, and_from, eq-eqb, eqb-true, TypeId, RawTech, is_type, layer_of, parts_of, is_of}
+use Rattle.std.proofs.lemmas.Bool.{or_cases}
+use Rattle.tech_model.specs.Types.{is_pair, connects, is_proper_subset, is_within}
 use Rattle.tech_model.proofs.PairTableLaws.{eq_comm}
 
 -- one of two is enough: the first

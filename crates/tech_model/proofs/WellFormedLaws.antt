@@ -1,18 +1,14 @@
 -- What follows of lists of a technology that fit together: numbers in range, and how many layers there are.
-use Rattle.std.proofs.Common.{◌≡◌, ◌≢◌, ◌+◌, ◌<◌, ◌≤◌, ℕ, zero, suc, List, length, map, get_or, sym, ap, subst, ◌∙◌, arith, inl, inr}
-use Rattle.std.specs.Prelude.{All, IsTrue, nat_le, slice_index_or}
-use Rattle.std.specs.List.{range_with_len}
-use Rattle.std.proofs.lemmas.Bool.{cases_eq, and_parts, and_from, leb-true, le-leb}
-use Rattle.std.proofs.lemmas.List.{get_or-map, length-map}
+use Rattle.tech_model.proofs.Common.{◌≡◌, ◌≢◌, ◌+◌, ◌<◌, ◌≤◌, ℕ, zero, suc, List, length, map, get_or, sym, ap, subst, ◌∙◌, arith, inl, inr, All}
+use Rattle.tech_model.proofs.Common.{IsTrue, slice_index_or, range_with_len, cases_eq, and_parts, and_from, get_or-map, length-map, In, In-get_or}
+use Rattle.tech_model.proofs.Common.{LayerRec, RawTech, is_type, layer_of, images_of, no_layer, type_number, IsWellFormed, MOST_TYPES}
+use Rattle.std.specs.Prelude.{nat_le}
+use Rattle.std.proofs.lemmas.Bool.{leb-true, le-leb}
 use Rattle.std.proofs.lemmas.List.FromFn.{length-range_with_len}
-use Rattle.geo_core.specs.FiniteSets.Lists.{In}
-use Rattle.geo_core.proofs.FiniteSets.Members.{In-get_or, In-index}
+use Rattle.geo_core.proofs.FiniteSets.Members.{In-index}
 use Rattle.geo_core.proofs.FiniteSets.Distincts.{Distinct-from_places, length-distinct}
-use Rattle.tech_model.specs.declared.raw.LayerRec.{LayerRec}
-use Rattle.tech_model.specs.declared.raw.RawTech.{RawTech}
-use Rattle.tech_model.specs.Types.{is_type, layer_of, layer_at, images_of, no_layer, type_number}
-use Rattle.tech_model.specs.WellFormed.{IsWellFormed, IsLayer}
-use Rattle.tech_model.specs.declared.limits.TheConstants.{MOST_TYPES}
+use Rattle.tech_model.specs.Types.{layer_at}
+use Rattle.tech_model.specs.WellFormed.{IsLayer}
 use Rattle.tech_model.specs.declared.pair_table.TheConstants.{ROWS}
 
 -- the numbers of a range are those between its ends

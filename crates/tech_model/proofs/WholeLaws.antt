@@ -1,23 +1,11 @@
 -- Contacts stand whole after each contact's mark was looked at.
-use Rattle.std.proofs.Common.{◌≡◌, ◌≢◌, ◌⊎◌, ◌+◌, ◌^◌, ◌<◌, ◌≤◌, ℕ, zero, suc, Bool, true, Option, List, [], ◌∷◌, length, take, fold, refl, sym, ap, subst}
-use Rattle.std.proofs.Common.{◌∙◌, arith, inl, inr}
-use Rattle.std.specs.Prelude.{Some, None, IsTrue, unwrap_or}
-use Rattle.std.specs.List.{list_all}
-use Rattle.std.specs.Int.{bit_at}
-use Rattle.std.proofs.Math.Seq.{take-length}
-use Rattle.std.proofs.lemmas.Bool.{cases_Bool, cases_eq, and_parts, true≢false}
-use Rattle.std.proofs.lemmas.List.Sums.{fold_more}
-use Rattle.std.proofs.lemmas.Nat.Bits.{bit_at-zero, bit_at-pow_same}
-use Rattle.geo_core.specs.FiniteSets.Lists.{In}
+use Rattle.tech_model.proofs.Common.{◌≡◌, ◌≢◌, ◌⊎◌, ◌+◌, ◌^◌, ◌<◌, ◌≤◌, ℕ, zero, suc, Bool, true, Option, List, [], ◌∷◌, length, take, fold, refl}
+use Rattle.tech_model.proofs.Common.{sym, ap, subst, ◌∙◌, arith, inl, inr, Some, None, IsTrue, unwrap_or, list_all, bit_at, take-length, cases_Bool}
+use Rattle.tech_model.proofs.Common.{cases_eq, and_parts, true≢false, fold_more, bit_at-zero, bit_at-pow_same, In, TypeId, LayerRec, RawTech}
+use Rattle.tech_model.proofs.Common.{is_type, plane_of, layer_of, parts_of, images_of, no_layer, joined, is_subset, without, IsWellFormed, IsContact}
+use Rattle.tech_model.proofs.Common.{Brush, mark_of, layer_mark_kept, IsOnPlane, IsColumn, HasWholeContacts}
 use Rattle.geo_core.proofs.FiniteSets.Searches.{list_all-In}
-use Rattle.tech_model.specs.declared.raw.TypeId.{TypeId}
-use Rattle.tech_model.specs.declared.raw.LayerRec.{LayerRec}
-use Rattle.tech_model.specs.declared.raw.RawTech.{RawTech}
-use Rattle.tech_model.specs.Types.{is_type, plane_of, layer_of, parts_of, images_of, no_layer, joined, is_subset, without}
-use Rattle.tech_model.specs.WellFormed.{IsWellFormed, IsContact}
-use Rattle.tech_model.specs.declared.columns.Brush.{Brush}
-use Rattle.tech_model.specs.Columns.{on_planes_from, mark_of, type_on, without_parts, layer_mark_kept, marks_kept, brushed_column}
-use Rattle.tech_model.specs.ColumnForms.{IsOnPlane, IsColumn, HasWholeContacts}
+use Rattle.tech_model.specs.Columns.{on_planes_from, type_on, without_parts, marks_kept, brushed_column}
 use Rattle.tech_model.proofs.JoinedLaws.{joined-found}
 use Rattle.tech_model.proofs.WithinLaws.{one_image}
 use Rattle.tech_model.proofs.SetLaws.{bit_cases, without_bit, without_bit_source, mark_part, mark_part_bit, image_mark, mark_layer, type_cases}

@@ -1,16 +1,9 @@
 -- Being within is an order, space stands alone in it, and what one layer's types and transistors keep.
-use Rattle.std.proofs.Common.{◌≡◌, ◌≢◌, ◌≤◌, ℕ, false, List, [], ◌∷◌, map, sym, ap, subst, ◌∙◌, arith, inl, inr}
-use Rattle.std.specs.Prelude.{IsTrue, All}
-use Rattle.std.proofs.lemmas.Bool.{true≢false}
-use Rattle.geo_core.specs.FiniteSets.Lists.{In, Distinct}
-use Rattle.geo_core.proofs.FiniteSets.Members.{In-map}
+use Rattle.tech_model.proofs.Common.{◌≡◌, ◌≢◌, ◌≤◌, ℕ, false, List, [], ◌∷◌, map, sym, ap, subst, ◌∙◌, arith, inl, inr, IsTrue, All, true≢false, In}
+use Rattle.tech_model.proofs.Common.{In-map, All-In, TypeId, FetRule, RawTech, is_type, plane_of, layer_of, parts_of, images_of, IsWellFormed, IsFet}
+use Rattle.geo_core.specs.FiniteSets.Lists.{Distinct}
 use Rattle.geo_core.proofs.FiniteSets.Images.{one_from_Distinct}
-use Rattle.geo_core.proofs.FiniteSets.Searches.{All-In}
-use Rattle.tech_model.specs.declared.raw.TypeId.{TypeId}
-use Rattle.tech_model.specs.declared.raw.FetRule.{FetRule}
-use Rattle.tech_model.specs.declared.raw.RawTech.{RawTech}
-use Rattle.tech_model.specs.Types.{is_type, plane_of, layer_of, parts_of, images_of, connects, is_within}
-use Rattle.tech_model.specs.WellFormed.{IsWellFormed, IsFet}
+use Rattle.tech_model.specs.Types.{connects, is_within}
 use Rattle.tech_model.specs.Rules.{IsMonotone, KeepsRules}
 use Rattle.tech_model.proofs.WellFormedLaws.{type_bounds, layer_well_formed}
 use Rattle.tech_model.proofs.TypeLaws.{connects_types, connects_self, within_self, within_part, within_cases}

@@ -1,7 +1,7 @@
 -- Places of which the first hold items, as a list of items.
-use Rattle.std.proofs.Common.{◌≡◌, ℕ, zero, suc, ◌<◌, ◌≤◌, List, [], ◌∷◌, ◌++◌, length, get_or, set, replicate, Some, None, slice_get, refl, ap}
-use Rattle.std.proofs.Common.{arith}
-use Rattle.std.proofs.lemmas.List.{length-replicate}
+use Rattle.tile_arena.proofs.Common.{◌≡◌, ℕ, zero, suc, ◌<◌, ◌≤◌, List, [], ◌∷◌, ◌++◌, length, get_or, set, replicate, Some, slice_get, refl, ap}
+use Rattle.tile_arena.proofs.Common.{arith, length-replicate}
+use Rattle.std.proofs.Common.{None}
 use Rattle.tile_arena.specs.Places.{items_in, begun_with}
 
 module _ {X : Type 0} where

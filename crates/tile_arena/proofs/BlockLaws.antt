@@ -1,12 +1,11 @@
 -- What a block is after each change of one of its places.
-use Rattle.std.proofs.Common.{◌≡◌, ℕ, zero, suc, ◌+◌, ◌<◌, ◌≤◌, List, [], ◌∷◌, ◌++◌, length, get_or, set, Some, None, slice_get, refl, sym}
-use Rattle.std.proofs.Common.{ap, ◌∙◌, arith, length-set, take, take-suc, add-one}
-use Rattle.std.proofs.lemmas.List.{length_push}
-use Rattle.std.proofs.lemmas.Option.{slice_get_within, get_or_from_slice_get}
+use Rattle.tile_arena.proofs.Common.{◌≡◌, ℕ, zero, suc, ◌+◌, ◌<◌, ◌≤◌, List, [], ◌∷◌, ◌++◌, length, get_or, set, Some, slice_get, refl, sym, ap, ◌∙◌}
+use Rattle.tile_arena.proofs.Common.{arith, length-set, take, length_push, slice_get_within, get_or_from_slice_get, BLOCK_SIZE, HasItem}
+use Rattle.std.proofs.Common.{None}
+use Rattle.std.proofs.Common.{take-suc, add-one}
 use Rattle.tile_arena.specs.declared.blocks.Block.TheInside.{Inside}
-use Rattle.tile_arena.specs.declared.limits.TheConstants.{BLOCK_SIZE}
 use Rattle.tile_arena.specs.declared.places.Places.{Places}
-use Rattle.tile_arena.specs.Places.{HasItem, items_in, begun_with}
+use Rattle.tile_arena.specs.Places.{items_in, begun_with}
 use Rattle.tile_arena.specs.steps.PlaceLending.{with_held}
 use Rattle.tile_arena.specs.Blocks.{block_items, IsBlock}
 use Rattle.tile_arena.proofs.BegunLaws.{length-begun_with, get_or-begun_with, begun_with-push, begun_with-set, items_in-begun_with}

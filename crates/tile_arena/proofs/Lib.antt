@@ -1,3 +1,4 @@
+mod Common
 mod ListLaws
 pub mod LiveLaws
 mod SlotLaws

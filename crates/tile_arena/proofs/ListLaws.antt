@@ -1,11 +1,10 @@
 -- Where the items of a list in blocks lie: the item of number k * BLOCK_SIZE + r is the one of number r in block k.
-use Rattle.std.proofs.Common.{◌≡◌, ℕ, zero, suc, ◌+◌, ◌-◌, ◌*◌, ◌/◌, ◌%◌, ◌<◌, ◌≤◌, List, [], ◌∷◌, ◌++◌, length, get_or, set, min, Some, slice_get, replicate}
-use Rattle.std.proofs.Common.{refl, sym, ap, ◌∙◌, arith, length-append, length-set}
-use Rattle.std.proofs.lemmas.List.{append-nil, append_assoc, length_push, get_or_append_left, get_or-append_right, set-append_left}
+use Rattle.tile_arena.proofs.Common.{◌≡◌, ℕ, zero, suc, ◌+◌, ◌-◌, ◌%◌, ◌<◌, ◌≤◌, List, [], ◌∷◌, ◌++◌, length, get_or, set, Some, slice_get}
+use Rattle.tile_arena.proofs.Common.{replicate, refl, sym, ap, ◌∙◌, arith, length-append, length-set, length_push, slice_get-get_or, BLOCK_SIZE}
+use Rattle.std.proofs.Common.{◌*◌, ◌/◌, min}
+use Rattle.std.proofs.lemmas.List.{append-nil, append_assoc, get_or_append_left, get_or-append_right, set-append_left}
 use Rattle.std.proofs.lemmas.List.{set-append_right}
-use Rattle.std.proofs.lemmas.Option.{slice_get-get_or}
 use Rattle.tile_arena.specs.BlockLists.{items_of, AreFilled}
-use Rattle.tile_arena.specs.declared.limits.TheConstants.{BLOCK_SIZE}
 
 module _ {X : Type 0} where
   pub length-items_of : (bs : List (List X)) (n : ℕ) → AreFilled bs n → length (items_of bs) ≡ n

@@ -1,17 +1,17 @@
 -- The finite map of the values that the slots hold, and what one slot does to it.
-use Rattle.std.proofs.Common.{◌≡◌, ◌≢◌, ℕ, zero, suc, ◌+◌, ◌<◌, Bool, true, false, List, [], ◌∷◌, ◌++◌, map, length, get_or, set, Option, Some, None}
-use Rattle.std.proofs.Common.{is_some, IsSome, count_by, slice_get, cond, refl, sym, ap, ◌∙◌, inl, inr, add-zero, zero-add, arith}
+use Rattle.tile_arena.proofs.Common.{◌≡◌, ℕ, zero, suc, ◌+◌, ◌<◌, List, [], ◌∷◌, ◌++◌, map, length, get_or, set, Some, slice_get, refl, sym, ap, ◌∙◌}
+use Rattle.tile_arena.proofs.Common.{arith, map_push, length-map, get_or-set_same, Slot, Live, Empty, value_of}
+use Rattle.std.proofs.Common.{◌≢◌, Bool, true, false, Option, None}
+use Rattle.std.proofs.Common.{is_some, IsSome, count_by, cond, inl, inr, add-zero, zero-add}
 use Rattle.std.proofs.lemmas.Bool.{cases_eq}
 use Rattle.std.proofs.lemmas.Bool.Decides.{nat_tests}
-use Rattle.std.proofs.lemmas.List.{map-set, map_push, length-map, get_or-set_same, get_or-set_other}
+use Rattle.std.proofs.lemmas.List.{map-set, get_or-set_other}
 use Rattle.std.proofs.lemmas.List.Sums.{sum_by-cons}
 use Rattle.std.specs.Ordering.{nat_cmp, eq_by_cmp}
 use Rattle.std.specs.Cmp.{nat_cmp_total, unsigned_tied}
 use Rattle.std.specs.FinMap as fin_map
 use Rattle.std.specs.FinMap.{FinMap}
-use Rattle.tile_arena.specs.declared.slots.Slot.{Slot}
-use Rattle.tile_arena.specs.declared.slots.Slot.TheVariants.{Live, Empty}
-use Rattle.tile_arena.specs.Slots.{value_of, live_from}
+use Rattle.tile_arena.specs.Slots.{live_from}
 use Rattle.tile_arena.proofs.SlotLaws.{live_at, value_at_slot}
 
 tied_same : (k : ℕ) → eq_by_cmp nat_cmp k k ≡ true

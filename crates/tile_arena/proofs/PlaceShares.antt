@@ -1,7 +1,7 @@
 -- What an owner of places lends obeys the laws of lending wherever its items do.
 use Prim.Native.Nat.{ℕ, ◌+◌}
-use Rattle.std.specs.Prelude.{List, [], ◌∷◌, Option, Some, None}
-use Rattle.std.specs.Mem.{type_size}
+use Rattle.tile_arena.proofs.Common.{None, type_size, place, row_of, place_lent, row_lent, places_own, places_lend}
+use Rattle.std.specs.Prelude.{List, [], ◌∷◌, Option, Some}
 use seplogic.Ra.Ura.{Ura}
 use base.Fml.{Lft, Incl, ftrue, ffalse}
 use types.Logic.{Logic}
@@ -12,7 +12,7 @@ use denote.Sharing.{ShrLaws, said}
 use denote.SharingLaws.{beside_shr_laws, nothing_shr_laws, said_shr_laws}
 use denote.Shares.{Shares-less}
 use denote.Struct.Lending.{Lends, Lends-both, Lends-nothing, Lends-said, Lends-false}
-use Rattle.tile_arena.specs.PlaceOwnership.{place, row_of, place_lent, row_lent, fit, places_own, places_lend}
+use Rattle.tile_arena.specs.PlaceOwnership.{fit}
 
 module _ (R : RattleType) (rows : RowLaws R) where
   place_is_shared : (block offset : ℕ) (held : Option R.Denot) → ShrLaws (place_lent R block offset held)

@@ -31,11 +31,8 @@ use denote.Struct.Owning.{shape}
 use denote.Struct.Declared as Declared
 use denote.Struct.Tuple.{Tuple, tuple_type}
 use borrow.Table.OneValue.{part_in, part_out}
-use Rattle.std.specs.Prelude.{Option, Some, None}
-use Rattle.std.specs.Mem.{type_size}
-use Rattle.std.proofs.mem.Param.{El, R, el_x, elτ}
-use Rattle.std.proofs.RcSteps.{Good, word}
-use Rattle.tile_arena.specs.PlaceOwnership.{place, row_of, place_lent, row_lent}
+use Rattle.tile_arena.proofs.Common.{None, type_size, El, R, el_x, elτ, Good, word, place, row_of, place_lent, row_lent}
+use Rattle.std.specs.Prelude.{Option, Some}
 use Rattle.tile_arena.specs.contracts.places.Places as Owner
 use Rattle.tile_arena.specs.contracts.places.Start as Begin
 

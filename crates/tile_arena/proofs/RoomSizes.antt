@@ -12,7 +12,7 @@ use prog.Capped.{capped_is}
 use prog.RawLaws.{size-raw, align-raw}
 use denote.RattleType.{RattleType}
 use denote.Param.{param, bounded}
-use Rattle.std.proofs.mem.Param.{El, elτ}
+use Rattle.tile_arena.proofs.Common.{El, elτ}
 use Rattle.std.proofs.alloc.Calls.{Al}
 use Rattle.tile_arena.proofs.PlaceSteps.{size}
 

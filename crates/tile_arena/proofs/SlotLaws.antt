@@ -1,13 +1,13 @@
 -- What a change of one slot does to the count of the values and to the chain of the empty slots.
-use Rattle.std.proofs.Common.{◌≡◌, ◌≢◌, ◌⊎◌, ℕ, zero, suc, ◌+◌, ◌-◌, ◌*◌, ◌<◌, ◌≤◌, List, [], ◌∷◌, ◌++◌, map, length, get_or, set, Some, None}
-use Rattle.std.proofs.Common.{is_some, IsSome, count_by, cond, slice_get, refl, sym, ap, subst, ◌∙◌, inl, inr, arith, length-set, true≢false}
-use Rattle.std.proofs.lemmas.List.{map-set, map_push, length-map, length_push, get_or-map, get_or-set_same, get_or-set_other, get_or_past}
+use Rattle.tile_arena.proofs.Common.{◌≡◌, ℕ, zero, suc, ◌+◌, ◌-◌, ◌<◌, ◌≤◌, List, [], ◌∷◌, ◌++◌, map, length, get_or, set, Some, slice_get, refl}
+use Rattle.tile_arena.proofs.Common.{sym, ap, ◌∙◌, arith, length-set, map_push, length-map, length_push, get_or-set_same, get_or_past}
+use Rattle.tile_arena.proofs.Common.{slice_get_within, slice_get-get_or, get_or_from_slice_get, Slot, Live, Empty, value_of, BLOCK_SIZE}
+use Rattle.std.proofs.Common.{◌≢◌, ◌⊎◌, ◌*◌, None}
+use Rattle.std.proofs.Common.{is_some, IsSome, count_by, cond, subst, inl, inr, true≢false}
+use Rattle.std.proofs.lemmas.List.{map-set, get_or-map, get_or-set_other}
 use Rattle.std.proofs.lemmas.List.Sums.{sum_by-set, sum_by_push}
-use Rattle.std.proofs.lemmas.Option.{slice_get_within, slice_get-get_or, get_or_from_slice_get}
-use Rattle.tile_arena.specs.declared.slots.Slot.{Slot}
-use Rattle.tile_arena.specs.declared.slots.Slot.TheVariants.{Live, Empty}
-use Rattle.tile_arena.specs.Slots.{value_of, IsEmptyChain, IsSound}
-use Rattle.tile_arena.specs.declared.limits.TheConstants.{BLOCK_SIZE, MOST_VALUES}
+use Rattle.tile_arena.specs.Slots.{IsEmptyChain, IsSound}
+use Rattle.tile_arena.specs.declared.limits.TheConstants.{MOST_VALUES}
 
 module _ {T : Type 0} where
   -- from a number there is one chain of empty slots at most

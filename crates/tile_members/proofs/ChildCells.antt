@@ -1,26 +1,18 @@
 -- The cells of the elements of a cell of a library.
-use Rattle.std.proofs.Common.{◌≡◌, ◌⊎◌, ◌<◌, ℕ, zero, suc, List, [], ◌∷◌, length, inl, inr, refl, sym, ap, subst, ◌∙◌}
+use Rattle.tile_members.proofs.Common.{◌≡◌, ◌⊎◌, ◌<◌, ℕ, zero, suc, List, [], ◌∷◌, length, inl, inr, refl, sym, ap, subst, ◌∙◌, Transform, RawTech}
+use Rattle.tile_members.proofs.Common.{Place, place_back, path_text, MOST_DEPTH, LibraryParts, IsLawfulLibrary, seen, LibraryView, view_at}
+use Rattle.tile_members.proofs.Common.{IsGroupName, IsMemberOfPart, UsesWithIds, named_tree_unfolds}
 use Rattle.std.specs.Prelude.{Some}
-use Rattle.geo_core.specs.declared.transforms.Transform.{Transform}
-use Rattle.tech_model.specs.declared.raw.RawTech.{RawTech}
-use Rattle.layout_model.specs.Places.{Place}
-use Rattle.layout_model.specs.CellTrees.{place_back}
-use Rattle.ext_model.specs.Paths.{path_text}
-use Rattle.element_paths.specs.CellTree.declared.limits.TheConstants.{MOST_DEPTH}
 use Rattle.element_paths.specs.CellTree.Uses.{HasChild}
-use Rattle.element_paths.specs.CellLibrary.Libraries.{LibraryParts, IsLawfulLibrary, seen}
-use Rattle.element_paths.specs.CellLibrary.Views.{LibraryView, view_at}
 use Rattle.element_paths.proofs.CellLibrary.LayoutTreeLaws.{children_are_cells}
-use Rattle.element_paths.specs.LibraryTrees.TreeRecords.MemberGroups.{IsGroupName}
 use Rattle.element_paths.specs.LibraryTrees.TreeRecords.NamedTrees.{NamedTree, NamedElements, named_elements_in, own_body}
 use Rattle.element_paths.specs.LibraryTrees.TreeRecords.NamedTrees.NamedTree.{named_tree}
 use Rattle.element_paths.specs.LibraryTrees.TreeRecords.NamedTrees.NamedElements.{no_more, element_then}
-use Rattle.tile_members.specs.GroupMeetings.Members.{IsMemberOfElement, IsMemberOfPart}
+use Rattle.tile_members.specs.GroupMeetings.Members.{IsMemberOfElement}
 use Rattle.element_paths.specs.LibraryTrees.TreeNames.CleanTrees.{IsCleanTree}
 use Rattle.element_paths.proofs.LibraryTrees.TreeNames.CleanTrees.{AreCleanTrees, clean_below, clean_first, clean_rest}
 use Rattle.element_paths.specs.LibraryTrees.ElementNames.{UseElement, use_elements}
 use Rattle.element_paths.specs.LibraryTrees.NamedCells.{named_elements_at, named_elements_from, named_tree_at, named_tree_to}
-use Rattle.element_paths.proofs.LibraryTrees.WholeTrees.{UsesWithIds, named_tree_unfolds}
 use Rattle.element_paths.specs.ElementPaths.{NamedElement, element_at}
 
 -- ---- elements of trees

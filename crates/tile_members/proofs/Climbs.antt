@@ -1,37 +1,19 @@
 -- Climbing from a node to the member that it is of, step by step.
-use Rattle.std.proofs.Common.{◌≡◌, ℕ, suc, List, [], ◌∷◌, inl, inr, refl, sym, ap, subst}
-use Rattle.std.specs.Prelude.{All, IsSome, Some, slice_get}
+use Rattle.tile_members.proofs.Common.{◌≡◌, ℕ, suc, List, [], ◌∷◌, inl, inr, refl, sym, ap, subst, All, IsSome, slice_get, In, slice_get-one}
+use Rattle.tile_members.proofs.Common.{Transform, composed, identity, ArrayExt, path_text, plain, Table, ext_of, CellTree, Standing, place_back}
+use Rattle.tile_members.proofs.Common.{standings, under, LibraryParts, IsLawfulLibrary, seen, view_at, back_on, identity_back, IsOfNode, IsGroupName}
+use Rattle.tile_members.proofs.Common.{IsMemberOfPart, layouts_of_cell, named_tree_unfolds, Step, AreStepsTo, RecordsTellGroups, first_member}
+use Rattle.tile_members.proofs.Common.{HasMembers, LeadsToMember, kept_in}
+use Rattle.std.specs.Prelude.{Some}
 use Rattle.finite_sets.specs.Chain.Chain.{stay, go}
-use Rattle.finite_sets.specs.Lists.{In}
 use Rattle.finite_sets.proofs.Searches.{All-from_In}
-use Rattle.finite_sets.proofs.Places.{slice_get-one}
-use Rattle.geo_core.specs.declared.transforms.Transform.{Transform}
-use Rattle.geo_core.specs.Images.{composed, identity}
-use Rattle.ext_model.specs.declared.arrays.ArrayExt.{ArrayExt}
-use Rattle.ext_model.specs.Paths.{path_text}
-use Rattle.ext_model.specs.Plain.{plain}
-use Rattle.ext_model.specs.Tables.{Table, ext_of}
-use Rattle.layout_model.specs.CellTrees.{CellTree, Standing, place_back, standings, under}
 use Rattle.element_paths.specs.CellLibrary.LayoutTrees.{own_cell, tree_at}
-use Rattle.element_paths.specs.CellLibrary.Libraries.{LibraryParts, IsLawfulLibrary, seen}
-use Rattle.element_paths.specs.CellLibrary.Views.{view_at}
 use Rattle.element_paths.proofs.CellLibrary.LayoutTreeLaws.{tree_unfolds}
-use Rattle.element_paths.proofs.CellLibrary.PlacedRects.{back_on, identity_back}
-use Rattle.element_paths.specs.LibraryTrees.TreeRecords.FetRecords.{IsOfNode}
-use Rattle.element_paths.specs.LibraryTrees.TreeRecords.MemberGroups.{IsGroupName}
 use Rattle.element_paths.specs.LibraryTrees.TreeRecords.NamedTrees.{NamedTree}
-use Rattle.tile_members.specs.GroupMeetings.Members.{IsMemberOfPart}
 use Rattle.tile_members.proofs.GroupMeetings.PartMembers.{member_at_part}
 use Rattle.element_paths.specs.LibraryTrees.NamedCells.{named_tree_at}
-use Rattle.element_paths.proofs.LibraryTrees.LayoutLaws.{layouts_of_cell}
-use Rattle.element_paths.proofs.LibraryTrees.WholeTrees.{named_tree_unfolds}
 use Rattle.element_paths.specs.LibraryTrees.KeptRecords.{HasKeptRecord}
-use Rattle.element_paths.specs.declared.steps.Step.{Step}
-use Rattle.element_paths.specs.ElementPaths.{AreStepsTo, LeadsDown, NamedElement}
-use Rattle.tile_members.specs.GroupLaws.{RecordsTellGroups}
-use Rattle.tile_members.specs.MergedMembers.{first_member}
-use Rattle.tile_members.specs.steps.Finding.{HasMembers}
-use Rattle.tile_members.specs.steps.MemberNames.{LeadsToMember, kept_in}
+use Rattle.element_paths.specs.ElementPaths.{LeadsDown, NamedElement}
 use Rattle.tile_members.proofs.ChildCells.{IsChildOf, clean_element, element_child, element_member}
 
 -- the element to which a step leads

@@ -1,18 +1,10 @@
 -- A finder of members, tile by tile.
-use Rattle.std.proofs.Common.{◌≡◌, ◌+◌, ℕ, List, [], ◌∷◌, ◌++◌, Some, sym, ap, subst, ◌∙◌}
-use Rattle.std.specs.Prelude.{slice_get}
-use Rattle.ext_model.specs.declared.tables.CellKey.{CellKey}
-use Rattle.ext_model.specs.Tables.{Table}
-use Rattle.element_paths.specs.CellLibrary.declared.part_tiles.PartTile.{PartTile}
+use Rattle.tile_members.proofs.Common.{◌≡◌, ◌+◌, ℕ, List, [], ◌∷◌, ◌++◌, Some, sym, ap, subst, ◌∙◌, slice_get, CellKey, Table, PartTile}
+use Rattle.tile_members.proofs.Common.{LibraryParts, seen, OpenedCells, HasMembers, AddsNameOrNone, AreOpened, KeepOpened, HasTile, IsPartTile}
 use Rattle.element_paths.specs.CellLibrary.LayoutTrees.{tree_at}
-use Rattle.element_paths.specs.CellLibrary.Libraries.{LibraryParts, seen}
 use Rattle.element_paths.specs.LibraryTrees.NamedCells.{named_tree_at}
 use Rattle.tile_members.specs.declared.finding.MemberFinder.{MemberFinder}
-use Rattle.tile_members.specs.declared.opened_cells.OpenedCells.{OpenedCells}
-use Rattle.tile_members.specs.steps.Finding.{HasMembers, IsFinderOf}
-use Rattle.tile_members.specs.steps.KnownMembers.{AddsNameOrNone}
-use Rattle.tile_members.specs.steps.OpenedCells.{AreOpened, KeepOpened}
-use Rattle.tile_members.specs.TileMembers.{HasTile, IsPartTile}
+use Rattle.tile_members.specs.steps.Finding.{IsFinderOf}
 use Rattle.tile_members.proofs.FoundTiles.{AreFound, found_more, found_none}
 use Rattle.tile_members.proofs.KnownLaws.{known_kept}
 

@@ -1,35 +1,14 @@
 -- Tiles and the members that have them.
-use Rattle.std.proofs.Common.{◌≡◌, ◌⊎◌, ◌+◌, ◌<◌, ℕ, List, [], ◌∷◌, ◌++◌, length, get_or, inl, inr, Some, sym, ap, subst, ◌∙◌, arith}
-use Rattle.std.specs.Prelude.{nat_eq, option_map, slice_get, slice_index}
-use Rattle.std.specs.HashMap.{get}
+use Rattle.tile_members.proofs.Common.{◌≡◌, ◌⊎◌, ◌+◌, ◌<◌, ℕ, List, [], ◌∷◌, ◌++◌, length, get_or, inl, inr, Some, sym, ap, subst, ◌∙◌, arith}
+use Rattle.tile_members.proofs.Common.{nat_eq, option_map, slice_get, slice_index, get, slice_get_within, Distinct, In, In-append_left}
+use Rattle.tile_members.proofs.Common.{In-append_right, slice_get-one, Transform, NodeRec, Table, RawTech, CellTree, Standing, place_back, standings}
+use Rattle.tile_members.proofs.Common.{PartTile, LibraryParts, IsLawfulLibrary, seen, IsPartTileIn, view_at, IsOfNode, IsMemberOfPart}
+use Rattle.tile_members.proofs.Common.{layouts_of_cell, MembersHaveWholeTiles, OpenedCell, OpenedCells, HasMembers, AddsNameOrNone, IsOfMember}
+use Rattle.tile_members.proofs.Common.{LeadsToMember, HasOpenNode, corner_place, AreTileMembers, HasTile, IsPartTile}
 use Rattle.std.proofs.lemmas.List.{get_or_append_left, get_or_push, length-append}
-use Rattle.std.proofs.lemmas.Option.{slice_get_within}
-use Rattle.finite_sets.specs.Lists.{Distinct, In}
-use Rattle.finite_sets.proofs.Members.{In-append_left, In-append_right}
-use Rattle.finite_sets.proofs.Places.{slice_get-one}
-use Rattle.geo_core.specs.declared.transforms.Transform.{Transform}
-use Rattle.ext_model.specs.declared.records.NodeRec.{NodeRec}
-use Rattle.ext_model.specs.Tables.{Table}
-use Rattle.tech_model.specs.declared.raw.RawTech.{RawTech}
-use Rattle.layout_model.specs.CellTrees.{CellTree, Standing, place_back, standings}
-use Rattle.element_paths.specs.CellLibrary.declared.part_tiles.PartTile.{PartTile}
 use Rattle.element_paths.specs.CellLibrary.LayoutTrees.{tree_at}
-use Rattle.element_paths.specs.CellLibrary.Libraries.{LibraryParts, IsLawfulLibrary, seen}
-use Rattle.element_paths.specs.CellLibrary.PartTiles.{IsPartTileIn}
-use Rattle.element_paths.specs.CellLibrary.Views.{view_at}
-use Rattle.element_paths.specs.LibraryTrees.TreeRecords.FetRecords.{IsOfNode}
 use Rattle.element_paths.specs.LibraryTrees.TreeRecords.NamedTrees.{NamedTree, layouts_of}
-use Rattle.tile_members.specs.GroupMeetings.Members.{IsMemberOfPart}
 use Rattle.element_paths.specs.LibraryTrees.NamedCells.{named_tree_at}
-use Rattle.element_paths.proofs.LibraryTrees.LayoutLaws.{layouts_of_cell}
-use Rattle.tile_members.specs.TileLaws.{MembersHaveWholeTiles}
-use Rattle.tile_members.specs.declared.opened_cells.OpenedCell.{OpenedCell}
-use Rattle.tile_members.specs.declared.opened_cells.OpenedCells.{OpenedCells}
-use Rattle.tile_members.specs.steps.Finding.{HasMembers}
-use Rattle.tile_members.specs.steps.KnownMembers.{AddsNameOrNone, IsOfMember}
-use Rattle.tile_members.specs.steps.MemberNames.{LeadsToMember}
-use Rattle.tile_members.specs.steps.OpenedCells.{HasOpenNode, corner_place}
-use Rattle.tile_members.specs.TileMembers.{AreTileMembers, HasTile, IsPartTile}
 use Rattle.tile_members.proofs.KnownLaws.{name_kept}
 use Rattle.tile_members.proofs.TileCorners.{HasCorner}
 

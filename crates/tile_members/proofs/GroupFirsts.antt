@@ -1,14 +1,11 @@
 -- The first members of the merges of groups.
-use Rattle.std.proofs.Common.{◌≡◌, ◌⊎◌, ℕ, Bool, true, false, if◌then◌else◌, List, [], ◌∷◌, inl, inr, refl, sym, ap, ◌∙◌}
-use Rattle.std.specs.Str.{bytes_eq}
-use Rattle.std.proofs.lemmas.Bool.{cases_Bool, true≢false}
-use Rattle.std.proofs.lemmas.Slice.Eq.{bytes_eq-Decides}
-use Rattle.finite_sets.specs.Lists.{In}
-use Rattle.finite_sets.proofs.Members.{In-map, In-map_source}
+use Rattle.tile_members.proofs.Common.{◌≡◌, ◌⊎◌, ℕ, Bool, false, List, [], ◌∷◌, inl, inr, refl, sym, ap, ◌∙◌, bytes_eq, cases_Bool, bytes_eq-Decides}
+use Rattle.tile_members.proofs.Common.{In, In-map_source, MergeRec, first_member}
+use Rattle.std.proofs.Common.{true, if◌then◌else◌}
+use Rattle.std.proofs.lemmas.Bool.{true≢false}
+use Rattle.finite_sets.proofs.Members.{In-map}
 use Rattle.layout_model.specs.Technologies.{Class}
-use Rattle.ext_model.specs.declared.records.MergeRec.{MergeRec}
 use Rattle.group_meetings.specs.TreeRecords.Merges.{Adjustment, MemberGroup, group_name, merge_of, group_merges, zero_adjustment}
-use Rattle.tile_members.specs.MergedMembers.{first_member}
 
 -- the group with these members
 abbrev pub group_with : Adjustment → List (List ℕ) → MemberGroup

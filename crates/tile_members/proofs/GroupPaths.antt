@@ -1,16 +1,10 @@
 -- Names above a step, by the groups that are kept.
-use Rattle.std.proofs.Common.{◌≡◌, ℕ, List, [], ◌∷◌, Vec, Global, Result, Some, sym, ap, ◌∙◌}
+use Rattle.tile_members.proofs.Common.{◌≡◌, ℕ, List, [], ◌∷◌, Vec, Global, Some, sym, ap, ◌∙◌, IfOk-weaker, ArrayExt, MergeRec, CellKey, path_text}
+use Rattle.tile_members.proofs.Common.{plain, Table, ext_of, first_member, kept_in}
+use Rattle.std.proofs.Common.{Result}
 use Rattle.std.specs.Prelude.{IfOk}
 use Rattle.std.specs.declared.alloc.AllocError.{AllocError}
-use Rattle.std.proofs.lemmas.Result.{IfOk-weaker}
-use Rattle.ext_model.specs.declared.arrays.ArrayExt.{ArrayExt}
-use Rattle.ext_model.specs.declared.records.MergeRec.{MergeRec}
-use Rattle.ext_model.specs.declared.tables.CellKey.{CellKey}
-use Rattle.ext_model.specs.Paths.{path_text}
-use Rattle.ext_model.specs.Plain.{plain}
-use Rattle.ext_model.specs.Tables.{Table, ext_of}
-use Rattle.tile_members.specs.MergedMembers.{first_member}
-use Rattle.tile_members.specs.steps.MemberNames.{AreMergesOf, kept_in}
+use Rattle.tile_members.specs.steps.MemberNames.{AreMergesOf}
 
 -- the path of the first member, by merges that are kept, is that by the record that is kept
 pub path_above : (table : Table) (child : CellKey) (merges : List MergeRec) (id below given first : List ℕ) (made : Result (Vec ℕ Global) AllocError)

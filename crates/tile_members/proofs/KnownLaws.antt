@@ -1,14 +1,10 @@
 -- What is known of members stays so when more is learned.
-use Rattle.std.proofs.Common.{◌≡◌, ◌&&◌, ℕ, Bool, true, false, List, [], ◌∷◌, cond, eqb, inl, inr, Some, refl, sym, ap, subst, ◌∙◌}
-use Rattle.std.specs.Prelude.{slice_get}
-use Rattle.std.specs.HashMap.{get}
-use Rattle.std.proofs.lemmas.Bool.{cases_Bool, eqb-true}
+use Rattle.tile_members.proofs.Common.{◌≡◌, ℕ, Bool, false, List, [], ◌∷◌, cond, inl, inr, Some, refl, sym, ap, subst, ◌∙◌, slice_get, get}
+use Rattle.tile_members.proofs.Common.{cases_Bool, eqb-true, LibraryView, OpenedCells, AddsName, AddsNameOrNone, IsOfMember, same_key, KeepOpened}
+use Rattle.std.proofs.Common.{◌&&◌, true, eqb}
 use Rattle.finite_sets.proofs.Places.{slice_get-append_left}
-use Rattle.element_paths.specs.CellLibrary.Views.{LibraryView}
 use Rattle.tile_members.specs.declared.known_members.KnownMembers.{KnownMembers}
-use Rattle.tile_members.specs.declared.opened_cells.OpenedCells.{OpenedCells}
-use Rattle.tile_members.specs.steps.KnownMembers.{AddsName, AddsNameOrNone, AreKnown, IsOfMember, same_key}
-use Rattle.tile_members.specs.steps.OpenedCells.{KeepOpened}
+use Rattle.tile_members.specs.steps.KnownMembers.{AreKnown}
 
 -- where names came or not, a name keeps its number
 pub name_kept : (old new : List (List ℕ)) (number : ℕ) → AddsNameOrNone old new number → (k : ℕ) (name : List ℕ) → slice_get old k ≡ Some name

@@ -1,6 +1,7 @@
 -- what crates above name of those below
 pub use Rattle.element_paths.proofs as ElementPaths
 pub use Rattle.group_meetings.proofs as GroupMeetings
+mod Common
 mod StandingTypes
 mod WholeTiles
 mod MergeFinds

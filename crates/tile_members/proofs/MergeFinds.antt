@@ -1,21 +1,15 @@
 -- What a table of rows of merges by their second members finds.
-use Rattle.std.proofs.Common.{◌≡◌, ◌+◌, ◌<◌, ◌||◌, add-one, drop-cons, get_or, ℕ, zero, suc, Bool, true, false, cond, List, [], ◌∷◌, ◌++◌, length, drop, map, take}
-use Rattle.std.proofs.Common.{refl, sym, ap, ◌∙◌, inl, inr, arith}
-use Rattle.std.specs.Prelude.{Option, None, Some, Vec, slice_get}
-use Rattle.std.specs.List.{flat_map, list_any, position_from, range_with_len}
-use Rattle.std.specs.Map.{lookup}
-use Rattle.std.specs.Str.{bytes_eq}
+use Rattle.tile_members.proofs.Common.{◌≡◌, ◌+◌, ◌<◌, get_or, ℕ, zero, suc, Bool, false, cond, List, [], ◌∷◌, ◌++◌, length, drop, map, take, refl}
+use Rattle.tile_members.proofs.Common.{sym, ap, ◌∙◌, inl, inr, arith, slice_get, flat_map, list_any, position_from, lookup, bytes_eq, cases_Bool}
+use Rattle.tile_members.proofs.Common.{bytes_eq-Decides, MergeRow, MergeRec, plain_merges, raised, first_member, has_second}
+use Rattle.std.proofs.Common.{◌||◌, add-one, drop-cons, true}
+use Rattle.std.specs.Prelude.{Option, None, Some, Vec}
+use Rattle.std.specs.List.{range_with_len}
 use Rattle.std.specs.declared.alloc.Global.{Global}
-use Rattle.std.proofs.lemmas.Bool.{cases_Bool}
 use Rattle.std.proofs.lemmas.List.{map-append}
 use Rattle.std.proofs.lemmas.List.Folds.{list_any-append}
-use Rattle.std.proofs.lemmas.Slice.Eq.{bytes_eq-Decides}
 use Rattle.indexmap.specs.IndexMap.{insert_entry}
-use Rattle.ext_model.specs.declared.arrays.MergeRow.{MergeRow}
-use Rattle.ext_model.specs.declared.records.MergeRec.{MergeRec}
-use Rattle.ext_model.specs.Plain.{plain_merge, plain_merges, raised}
-use Rattle.tile_members.specs.MergedMembers.{first_member}
-use Rattle.tile_members.specs.steps.MergeTables.{has_second}
+use Rattle.ext_model.specs.Plain.{plain_merge}
 
 -- ---- the first member, row by row
 

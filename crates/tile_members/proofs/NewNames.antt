@@ -1,12 +1,8 @@
 -- Names that are looked for in an index.
-use Rattle.std.proofs.Common.{◌≡◌, ◌++◌, ℕ, false, List, [], ◌∷◌, length, Some, None, inl, inr, refl, sym, subst}
-use Rattle.std.specs.Prelude.{position, slice_get}
-use Rattle.std.specs.List.{list_any}
-use Rattle.std.specs.Str.{bytes_eq}
-use Rattle.std.proofs.lemmas.Slice.Eq.{bytes_eq-Decides}
+use Rattle.tile_members.proofs.Common.{◌≡◌, ◌++◌, ℕ, false, List, [], ◌∷◌, length, Some, None, inl, inr, refl, sym, subst, position, slice_get}
+use Rattle.tile_members.proofs.Common.{list_any, bytes_eq, bytes_eq-Decides, AddsName}
 use Rattle.finite_sets.proofs.Searches.{list_any-of_absent}
 use Rattle.finite_sets.proofs.Places.{slice_get-push_new}
-use Rattle.tile_members.specs.steps.KnownMembers.{AddsName}
 use Rattle.name_index.proofs.Positions.{stands_where_found, stands_nowhere}
 
 -- a name that is not found is not there

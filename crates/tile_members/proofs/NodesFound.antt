@@ -1,29 +1,17 @@
 -- The node that an opened cell has at a place.
-use Rattle.std.proofs.Common.{◌≡◌, ◌<◌, ℕ, List, [], ◌∷◌, length, get_or, refl, sym, subst, ◌∙◌, arith}
-use Rattle.std.specs.Prelude.{Some, nat_eq, slice_index}
-use Rattle.std.specs.HashMap.{get}
-use Rattle.std.proofs.lemmas.Option.{slice_get-get_or, slice_get_within}
+use Rattle.tile_members.proofs.Common.{◌≡◌, ◌<◌, ℕ, List, [], ◌∷◌, length, get_or, refl, sym, subst, ◌∙◌, arith, nat_eq, slice_index, get}
+use Rattle.tile_members.proofs.Common.{slice_get-get_or, slice_get_within, All-slice_get, Square, corner_of, image, inverted, NodeRec, RegionTile}
+use Rattle.tile_members.proofs.Common.{IsMaterial, Place, place_back, PartTile, LibraryParts, seen, LibraryView, view_at, OpenedCell, OpenedCells}
+use Rattle.tile_members.proofs.Common.{AreOpened, HasOpenNode, IsNumberAt, corner_place}
+use Rattle.std.specs.Prelude.{Some}
 use Rattle.finite_sets.proofs.Chains.{Chain-append}
 use Rattle.finite_sets.proofs.Leasts.{IsLeast-iff}
-use Rattle.finite_sets.proofs.Places.{All-slice_get}
-use Rattle.geo_core.specs.declared.squares.Square.{Square}
-use Rattle.geo_core.specs.Areas.{corner_of}
-use Rattle.geo_core.specs.Images.{image, inverted}
-use Rattle.ext_model.specs.declared.records.NodeRec.{NodeRec}
-use Rattle.layout_model.specs.declared.region_tiles.RegionTile.{RegionTile}
-use Rattle.layout_model.specs.Layouts.{IsMaterial}
-use Rattle.layout_model.specs.Places.{Place, IsNoLater}
+use Rattle.layout_model.specs.Places.{IsNoLater}
 use Rattle.layout_model.specs.RegionTiles.{IsInRegion}
 use Rattle.group_meetings.specs.Names.NamedNodes.{AreOneNamedNode}
 use Rattle.group_meetings.proofs.CellNodes.NodePlaces.{AreOneNamedNode-sym}
-use Rattle.layout_model.specs.CellTrees.{place_back}
-use Rattle.element_paths.specs.CellLibrary.declared.part_tiles.PartTile.{PartTile}
-use Rattle.element_paths.specs.CellLibrary.Libraries.{LibraryParts, seen}
-use Rattle.element_paths.specs.CellLibrary.Views.{LibraryView, view_at}
 use Rattle.element_paths.proofs.LibraryTrees.OwnRecordLaws.PreferredNames.{preferred_is_first}
-use Rattle.tile_members.specs.declared.opened_cells.OpenedCell.{OpenedCell}
-use Rattle.tile_members.specs.declared.opened_cells.OpenedCells.{OpenedCells}
-use Rattle.tile_members.specs.steps.OpenedCells.{AreOpened, HasNodeAt, HasOpenNode, HasOwnCorner, HasTileAt, IsNumberAt, IsOpened, corner_place}
+use Rattle.tile_members.specs.steps.OpenedCells.{HasNodeAt, HasOwnCorner, HasTileAt, IsOpened}
 
 -- the number of a tile at a place with material is that of the node there
 pub node_found : (view : LibraryView) (cell : ℕ) (opened : OpenedCell) (place : Place) (number : ℕ) → IsOpened view cell opened

@@ -1,28 +1,17 @@
 -- The tiles of an opened cell that are found at a square, and cells that are opened one after another.
-use Rattle.std.proofs.Common.{◌≡◌, ◌⊎◌, ◌+◌, ◌<◌, ℕ, pos, neg_ℤ, ◌<ℤ◌, Bool, List, length, map, get_or, cond, Some, None, inl, inr, refl, sym, ap, subst}
-use Rattle.std.proofs.Common.{◌∙◌, arith}
-use Rattle.std.specs.Prelude.{Option, nat_eq, option_map, slice_get, slice_index}
-use Rattle.std.specs.HashMap.{get}
-use Rattle.std.specs.Map.{lookup}
-use Rattle.std.proofs.lemmas.Bool.{cases_Bool, eqb-true}
+use Rattle.tile_members.proofs.Common.{◌≡◌, ◌⊎◌, ◌+◌, ◌<◌, ℕ, Bool, List, length, map, get_or, cond, Some, None, inl, inr, refl, sym, ap, subst, ◌∙◌}
+use Rattle.tile_members.proofs.Common.{arith, nat_eq, option_map, slice_get, slice_index, get, lookup, cases_Bool, eqb-true, slice_get-get_or}
+use Rattle.tile_members.proofs.Common.{slice_get_within, In, All-slice_get, slice_get-one, Rect, Square, common_rect, Covers, LiesInReach}
+use Rattle.tile_members.proofs.Common.{RegionTile, Place, AreMeeting, LibraryView, OpenedCell, OpenedCells, AreOpened, IsNumberAt, unit_at}
+use Rattle.std.proofs.Common.{pos, neg_ℤ, ◌<ℤ◌}
+use Rattle.std.specs.Prelude.{Option}
 use Rattle.std.proofs.lemmas.Int.{ints, clamps}
-use Rattle.std.proofs.lemmas.Option.{slice_get-get_or, slice_get-map, slice_get_within}
-use Rattle.finite_sets.specs.Lists.{In}
+use Rattle.std.proofs.lemmas.Option.{slice_get-map}
 use Rattle.finite_sets.proofs.Members.{In-get_or, In-index}
-use Rattle.finite_sets.proofs.Places.{All-slice_get, slice_get-one}
-use Rattle.geo_core.specs.declared.squares.Rect.{Rect}
-use Rattle.geo_core.specs.declared.squares.Square.{Square}
-use Rattle.geo_core.specs.Areas.{IsNear, common_rect}
-use Rattle.geo_core.specs.Covering.{Covers, IsProper}
-use Rattle.geo_core.specs.Reach.{LiesInReach}
-use Rattle.layout_model.specs.declared.region_tiles.RegionTile.{RegionTile}
-use Rattle.layout_model.specs.Places.{Place}
+use Rattle.geo_core.specs.Areas.{IsNear}
+use Rattle.geo_core.specs.Covering.{IsProper}
 use Rattle.layout_model.specs.RegionTiles.{LiesIn}
-use Rattle.rect_trees.specs.Meetings.{AreMeeting}
-use Rattle.element_paths.specs.CellLibrary.Views.{LibraryView}
-use Rattle.tile_members.specs.declared.opened_cells.OpenedCell.{OpenedCell}
-use Rattle.tile_members.specs.declared.opened_cells.OpenedCells.{OpenedCells}
-use Rattle.tile_members.specs.steps.OpenedCells.{AreOpened, HasTileAt, IsNumberAt, IsOpened, IsSearchable, unit_at}
+use Rattle.tile_members.specs.steps.OpenedCells.{HasTileAt, IsOpened, IsSearchable}
 
 -- ---- one square
 

@@ -1,25 +1,16 @@
 -- The record of a clean cell tells the name of the group of each member.
-use Rattle.std.proofs.Common.{◌≡◌, ◌⊎◌, ℕ, List, inl, inr, sym, subst, ◌∙◌}
-use Rattle.finite_sets.specs.Lists.{In}
+use Rattle.tile_members.proofs.Common.{◌≡◌, ◌⊎◌, ℕ, List, inl, inr, sym, subst, ◌∙◌, In, RawTech, KeepsRules, IsWellFormed, IsMaterial, Place}
+use Rattle.tile_members.proofs.Common.{MergeRec, IsCleanTree, RecordsTellGroups, first_member}
 use Rattle.finite_sets.proofs.Images.{In-flat_map, In-flat_map_source}
-use Rattle.tech_model.specs.declared.raw.RawTech.{RawTech}
-use Rattle.tech_model.specs.Rules.{KeepsRules}
-use Rattle.tech_model.specs.WellFormed.{IsWellFormed}
-use Rattle.layout_model.specs.Layouts.{IsMaterial}
-use Rattle.layout_model.specs.Places.{Place}
 use Rattle.layout_model.specs.Technologies.{Class, rules_of}
-use Rattle.ext_model.specs.declared.records.MergeRec.{MergeRec}
 use Rattle.group_meetings.specs.TreeRecords.NamedTrees.{NamedTree}
 use Rattle.group_meetings.specs.TreeRecords.FlatLayouts.{flat_layout}
 use Rattle.group_meetings.specs.TreeRecords.MemberGroups.{AreOneGroup, IsGroupName, IsMemberAt}
 use Rattle.group_meetings.specs.TreeRecords.Merges.{MemberGroup, AreGroupMerges, HasGroupIn, IsMemberGroup, group_merges, group_name}
-use Rattle.group_meetings.specs.TreeNames.CleanTrees.{IsCleanTree}
 use Rattle.group_meetings.proofs.TreeNames.GroupMerges.{merge_members}
 use Rattle.group_meetings.proofs.TreeNames.GroupNames.{group_name_is, group_then, group_name_along, members_together, one_group, one_group_name}
 use Rattle.group_meetings.proofs.MemberMaterial.{flat_of_part, member_is_material}
 use Rattle.group_meetings.proofs.PartMembers.{part_of_member}
-use Rattle.tile_members.specs.GroupLaws.{RecordsTellGroups}
-use Rattle.tile_members.specs.MergedMembers.{first_member}
 use Rattle.tile_members.proofs.GroupFirsts.{IsSecondOf, group_with, begins_with_name, first_is, is_second}
 
 -- the flat layout has material where a member has a place

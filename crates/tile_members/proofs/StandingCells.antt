@@ -1,27 +1,20 @@
 -- The cells that stand at and below a cell of a library: they are cells of the library, and their transforms are in reach.
-use Rattle.std.proofs.Common.{◌≡◌, ◌+◌, ◌<◌, ℕ, zero, suc, ℤ, List, [], ◌∷◌, length, refl, sym, ap, subst, ◌∙◌, arith, inl, inr}
-use Rattle.std.specs.Prelude.{Some, slice_get}
-use Rattle.finite_sets.specs.Lists.{In}
-use Rattle.finite_sets.proofs.Members.{In-append_cases}
-use Rattle.finite_sets.proofs.Places.{In-slice_get}
-use Rattle.geo_core.specs.declared.transforms.Transform.{Transform}
-use Rattle.geo_core.specs.Images.{composed, identity}
-use Rattle.geo_core.specs.Reach.{MovesInReach}
-use Rattle.layout_model.specs.CellTrees.{CellTree, Elements, Standing, standings}
-use Rattle.element_paths.specs.CellTree.declared.limits.TheConstants.{MOST_DEPTH}
+use Rattle.tile_members.proofs.Common.{◌≡◌, ◌+◌, ◌<◌, ℕ, zero, suc, List, [], ◌∷◌, length, refl, sym, ap, subst, ◌∙◌, arith, inl, inr, slice_get, In}
+use Rattle.tile_members.proofs.Common.{In-append_cases, In-slice_get, Transform, composed, identity, MovesInReach, CellTree, Standing, standings}
+use Rattle.tile_members.proofs.Common.{MOST_DEPTH, LibraryParts, IsLawfulLibrary, seen, view_at, UsesWithIds}
+use Rattle.std.proofs.Common.{ℤ}
+use Rattle.std.specs.Prelude.{Some}
+use Rattle.layout_model.specs.CellTrees.{Elements}
 use Rattle.element_paths.specs.CellTree.declared.use_tables.UseBody.{UseBody}
 use Rattle.element_paths.specs.CellTree.Trees.{cell_at}
 use Rattle.element_paths.specs.CellTree.Uses.{displacements, IsLawfulUse}
 use Rattle.element_paths.specs.CellLibrary.LayoutTrees.{element_transform, elements_at, elements_from, own_cell, tree_at, tree_to}
-use Rattle.element_paths.specs.CellLibrary.Libraries.{LibraryParts, IsLawfulLibrary, seen}
 use Rattle.element_paths.specs.CellLibrary.Spots.{HasRoomToMove}
-use Rattle.element_paths.specs.CellLibrary.Views.{view_at}
 use Rattle.element_paths.specs.CellLibrary.steps.VisitedTiles.{placed_below, placed_cells}
 use Rattle.element_paths.proofs.CellLibrary.GridSpots.{element_moves, room_below, room_in_reach}
 use Rattle.element_paths.proofs.CellLibrary.LayoutTreeLaws.{children_are_cells, uses_seen, state_is}
 use Rattle.element_paths.proofs.CellLibrary.PlacedCells.{standings_placed}
 use Rattle.element_paths.proofs.CellLibrary.VisitLaws.{top_can_be_visited}
-use Rattle.element_paths.proofs.LibraryTrees.WholeTrees.{UsesWithIds}
 
 -- The cell that stands there is one of the library, and moved in reach.
 pub record IsStandingCell (library : LibraryParts) (standing : Standing) : Type 0 where

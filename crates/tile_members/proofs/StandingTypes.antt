@@ -1,19 +1,13 @@
 -- Own types of cells that stand at and below a cell, and the types of the parts in which they stand.
-use Rattle.std.proofs.Common.{◌≡◌, ◌≢◌, ◌+◌, ℕ, zero, suc, List, ◌∷◌, map, inl, inr, refl, sym, ap, subst, ◌∙◌, arith}
-use Rattle.std.specs.Prelude.{Some, slice_get, IsTrue}
-use Rattle.finite_sets.specs.Lists.{In}
-use Rattle.finite_sets.proofs.Members.{In-append_cases, In-append_left, In-append_right, In-map_source}
-use Rattle.geo_core.specs.declared.transforms.Transform.{Transform}
-use Rattle.geo_core.specs.Images.{identity}
-use Rattle.tech_model.specs.declared.raw.RawTech.{RawTech}
-use Rattle.tech_model.specs.Rules.{KeepsRules}
+use Rattle.tile_members.proofs.Common.{◌≡◌, ◌≢◌, ◌+◌, ℕ, zero, suc, List, ◌∷◌, map, inl, inr, refl, sym, ap, subst, ◌∙◌, arith, slice_get, IsTrue}
+use Rattle.tile_members.proofs.Common.{In, In-append_cases, In-append_left, In-append_right, In-map_source, Transform, identity, RawTech, KeepsRules}
+use Rattle.tile_members.proofs.Common.{IsWellFormed, Place, CellTree, Standing, place_back, standings, under, back_on, identity_back}
+use Rattle.std.specs.Prelude.{Some}
 use Rattle.tech_model.specs.Types.{is_within}
-use Rattle.tech_model.specs.WellFormed.{IsWellFormed}
 use Rattle.tech_model.proofs.TypeLaws.{within_self}
 use Rattle.layout_model.specs.LayerTypes.{HasTypesOf}
-use Rattle.layout_model.specs.Places.{Place}
-use Rattle.layout_model.specs.CellTrees.{CellTree, Elements, OwnCell, Standing, own_types, own_types_below, place_back, standings}
-use Rattle.layout_model.specs.CellTrees.{standings_from, under}
+use Rattle.layout_model.specs.CellTrees.{Elements, OwnCell, own_types, own_types_below}
+use Rattle.layout_model.specs.CellTrees.{standings_from}
 use Rattle.layout_model.specs.CellTrees.CellTree.{cell_tree}
 use Rattle.layout_model.specs.CellTrees.Elements.{no_elements, element_and}
 use Rattle.layout_model.specs.FlatSets.{element_parts, flat_sets, parts_in, sets_in, IsTyped, AreTyped}
@@ -21,7 +15,6 @@ use Rattle.group_meetings.specs.Offences.Offences.{SetLayout, joined_at}
 use Rattle.group_meetings.specs.HierarchyModel.CleanCells.{IsClean, AreClean}
 use Rattle.group_meetings.proofs.HierarchyModel.CleanLaws.{own_within}
 use Rattle.group_meetings.proofs.HierarchyModel.KindLaws.{type_in_layout}
-use Rattle.element_paths.proofs.CellLibrary.PlacedRects.{back_on, identity_back}
 
 -- the own type of a standing cell at a place of the cell above
 abbrev pub type_there : Standing → Place → ℕ

@@ -1,35 +1,21 @@
 -- The lower left square of a tile: it lies in the tile, in reach, and the standing cell has the tile's type there.
-use Rattle.std.proofs.Common.{◌≡◌, ◌<◌, ℕ, pos, neg_ℤ, ◌≤ℤ◌, length, refl, sym, ap, subst, ◌∙◌, arith}
-use Rattle.std.specs.Prelude.{Some, slice_get}
+use Rattle.tile_members.proofs.Common.{◌≡◌, ◌<◌, ℕ, length, refl, sym, ap, subst, ◌∙◌, arith, slice_get, In, In-slice_get, Rect, Square, Transform}
+use Rattle.tile_members.proofs.Common.{corner_of, Covers, identity, LiesInReach, MovesInReach, IsMaterial, Place, Standing, place_back, standings}
+use Rattle.tile_members.proofs.Common.{MOST_DEPTH, PartTile, LibraryParts, IsLawfulLibrary, seen, view_at, identity_back, corner_place, IsPartTile}
+use Rattle.std.proofs.Common.{pos, neg_ℤ, ◌≤ℤ◌}
+use Rattle.std.specs.Prelude.{Some}
 use Rattle.std.proofs.lemmas.Int.{ints}
-use Rattle.finite_sets.specs.Lists.{In}
-use Rattle.finite_sets.proofs.Places.{In-slice_get}
-use Rattle.geo_core.specs.declared.squares.Rect.{Rect}
-use Rattle.geo_core.specs.declared.squares.Square.{Square}
-use Rattle.geo_core.specs.declared.transforms.Transform.{Transform}
-use Rattle.geo_core.specs.Areas.{corner_of}
-use Rattle.geo_core.specs.Covering.{Covers}
-use Rattle.geo_core.specs.Images.{identity}
-use Rattle.geo_core.specs.Reach.{LiesInReach, MovesInReach}
 use Rattle.geo_core.proofs.CoveringLaws.{corner_covered}
-use Rattle.layout_model.specs.Layouts.{Layout, IsMaterial}
-use Rattle.layout_model.specs.Places.{Place}
-use Rattle.layout_model.specs.CellTrees.{Standing, place_back, standings}
-use Rattle.element_paths.specs.CellTree.declared.limits.TheConstants.{MOST_DEPTH}
+use Rattle.layout_model.specs.Layouts.{Layout}
 use Rattle.element_paths.specs.CellTree.Hulls.{SpansInRange}
-use Rattle.element_paths.specs.CellLibrary.declared.part_tiles.PartTile.{PartTile}
 use Rattle.element_paths.specs.CellLibrary.LayoutTrees.{tree_at, tree_to}
-use Rattle.element_paths.specs.CellLibrary.Libraries.{LibraryParts, IsLawfulLibrary, seen}
 use Rattle.element_paths.specs.CellLibrary.steps.VisitedTiles.{HasThere, IsCutOf, placed_cells}
-use Rattle.element_paths.specs.CellLibrary.Views.{view_at}
 use Rattle.element_paths.proofs.CellLibrary.HullsHoldMaterial.{hull_holds_material}
 use Rattle.element_paths.proofs.CellLibrary.PlacedCells.{placed_has, standings_placed}
-use Rattle.element_paths.proofs.CellLibrary.PlacedRects.{identity_back}
 use Rattle.element_paths.proofs.CellLibrary.ToldTiles.{cut_type}
 use Rattle.element_paths.proofs.CellLibrary.VisitLaws.{hull_spans}
 use Rattle.tile_members.specs.TileLaws.{LiesInPartTile}
-use Rattle.tile_members.specs.steps.OpenedCells.{HasOwnCorner, corner_place}
-use Rattle.tile_members.specs.TileMembers.{IsPartTile}
+use Rattle.tile_members.specs.steps.OpenedCells.{HasOwnCorner}
 use Rattle.tile_members.proofs.StandingCells.{standing_cells}
 
 -- What a tile of a part of a cell of a library has at its lower left square.

@@ -1,36 +1,24 @@
 -- A member of a part goes along the tiles of the part.
-use Rattle.std.proofs.Common.{◌≡◌, ◌≢◌, ℕ, List, inl, refl, sym, ap, subst, ◌∙◌}
-use Rattle.std.specs.Prelude.{IsTrue}
+use Rattle.tile_members.proofs.Common.{◌≡◌, ◌≢◌, ℕ, List, inl, refl, sym, ap, subst, ◌∙◌, IsTrue, In-slice_get, Rect, Square, common_rect, Covers}
+use Rattle.tile_members.proofs.Common.{image, inverted, RawTech, KeepsRules, IsWellFormed, Place, CellTree, Standing, place_back, standings}
+use Rattle.tile_members.proofs.Common.{IsCleanTree, PartTile, IsPartTileIn, MembersHaveWholeTiles}
 use Rattle.finite_sets.proofs.Chains.{Chain-carries}
-use Rattle.finite_sets.proofs.Places.{In-slice_get}
-use Rattle.geo_core.specs.declared.squares.Rect.{Rect}
-use Rattle.geo_core.specs.declared.squares.Square.{Square}
-use Rattle.geo_core.specs.Areas.{common_rect}
-use Rattle.geo_core.specs.Covering.{Covers}
-use Rattle.geo_core.specs.Images.{image, inverted, rect_image}
+use Rattle.geo_core.specs.Images.{rect_image}
 use Rattle.geo_core.proofs.CoveringLaws.{covers_first}
 use Rattle.geo_core.proofs.ImageLaws.{image-forth, rect_image-covered}
 use Rattle.geo_core.proofs.StripSets.{strip_within}
-use Rattle.tech_model.specs.declared.raw.RawTech.{RawTech}
-use Rattle.tech_model.specs.Rules.{KeepsRules}
 use Rattle.tech_model.specs.Types.{connects, is_type, is_within}
-use Rattle.tech_model.specs.WellFormed.{IsWellFormed}
 use Rattle.tech_model.proofs.TypeLaws.{connects_self}
 use Rattle.tech_model.proofs.WithinLaws.{within_space}
 use Rattle.layout_model.specs.LayerTypes.{or_space}
 use Rattle.layout_model.specs.Links.{AreLinked}
-use Rattle.layout_model.specs.Places.{Place, AreNeighbours}
-use Rattle.layout_model.specs.CellTrees.{CellTree, Standing, place_back, standings}
+use Rattle.layout_model.specs.Places.{AreNeighbours}
 use Rattle.group_meetings.specs.Offences.Offences.{SetLayout}
 use Rattle.group_meetings.proofs.FloodNodes.Walks.{StepsIn, walk}
 use Rattle.group_meetings.specs.TreeRecords.NamedTrees.{NamedTree, layouts_of}
-use Rattle.group_meetings.specs.TreeNames.CleanTrees.{IsCleanTree}
-use Rattle.element_paths.specs.CellLibrary.declared.part_tiles.PartTile.{PartTile}
-use Rattle.element_paths.specs.CellLibrary.PartTiles.{IsPartTileIn}
 use Rattle.group_meetings.specs.MeetingLaws.PartLayouts.{part_layout}
 use Rattle.group_meetings.specs.Members.{tree_parts, IsMemberOfPart}
 use Rattle.group_meetings.proofs.MemberSteps.{member_along_link}
-use Rattle.tile_members.specs.TileLaws.{MembersHaveWholeTiles}
 use Rattle.tile_members.proofs.StandingTypes.{HasTypesWithin, standing_typed, standing_within, type_there}
 
 -- the place of the plane with this square

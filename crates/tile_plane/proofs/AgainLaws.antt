@@ -1,17 +1,8 @@
 -- After a piece is set and its rows are wide, only three columns can have tiles that are to be joined.
-use Rattle.std.proofs.Common.{◌≡◌, ◌⊎◌, inl, inr, ℕ, ℤ, pos, ◌+ℤ◌, ◌-ℤ◌, ◌≤ℤ◌, ◌<ℤ◌, refl, sym, ◌∙◌, subst, arith}
-use Rattle.std.proofs.lemmas.Int.{ints, by_lt_z}
-use Rattle.geo_core.specs.declared.squares.Square.{Square}
-use Rattle.geo_core.specs.declared.squares.Rect.{Rect}
-use Rattle.geo_core.specs.declared.squares.Piece.{Piece}
-use Rattle.geo_core.specs.Areas.{LiesWithin}
-use Rattle.geo_core.specs.Covering.{Covers, IsProper}
-use Rattle.geo_core.specs.Planes.{plane_range}
-use Rattle.geo_core.specs.Strips.{IsRun}
-use Rattle.tile_plane.specs.Tiles.{Tiles, tile_at, Owns, IsPartition, value_at}
-use Rattle.tile_plane.specs.Walks.{square_at}
-use Rattle.tile_plane.specs.Tall.{IsTallAt, AreStrips, AreGrown}
-use Rattle.tile_plane.specs.steps.Bands.{AreColumnsTall, IsBanded, IsAtColumn}
+use Rattle.tile_plane.proofs.Common.{◌≡◌, ◌⊎◌, inl, inr, ℕ, ℤ, pos, ◌+ℤ◌, ◌-ℤ◌, ◌≤ℤ◌, ◌<ℤ◌, refl, sym, ◌∙◌, subst, arith, ints, by_lt_z, Square}
+use Rattle.tile_plane.proofs.Common.{Rect, Piece, LiesWithin, Covers, IsProper, plane_range, IsRun, Tiles, tile_at, Owns, IsPartition, value_at}
+use Rattle.tile_plane.proofs.Common.{square_at, IsTallAt, AreStrips, AreGrown, AreColumnsTall, IsBanded}
+use Rattle.tile_plane.specs.steps.Bands.{IsAtColumn}
 use Rattle.tile_plane.proofs.TileLaws.{owner_taken}
 use Rattle.tile_plane.proofs.StripLaws.{HasIn, row_run, run_tile}
 use Rattle.tile_plane.proofs.ValueLaws.{value_of_owner}

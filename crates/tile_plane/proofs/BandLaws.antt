@@ -1,16 +1,7 @@
 -- What laying one band does: its squares are set, its rows are wide, the other rows and what is far from it are kept.
-use Rattle.std.proofs.Common.{◌≡◌, ◌⊎◌, inl, inr, ℕ, ℤ, pos, ◌+ℤ◌, ◌-ℤ◌, ◌≤ℤ◌, ◌<ℤ◌, [], ◌∷◌, refl, sym, ◌∙◌, ap, subst, arith}
-use Rattle.std.proofs.lemmas.Int.{ints, by_lt_z}
-use Rattle.geo_core.specs.declared.squares.Square.{Square}
-use Rattle.geo_core.specs.declared.squares.Rect.{Rect}
-use Rattle.geo_core.specs.declared.squares.Piece.{Piece}
-use Rattle.geo_core.specs.Areas.{IsNear}
-use Rattle.geo_core.specs.Covering.{Covers, IsProper}
-use Rattle.geo_core.specs.Planes.{plane_range, AreSet}
-use Rattle.tile_plane.specs.Tiles.{Tiles, tile_at, Owns, IsPartition, value_at}
-use Rattle.tile_plane.specs.Walks.{square_at}
-use Rattle.tile_plane.specs.Tall.{IsWideAt}
-use Rattle.tile_plane.specs.steps.Bands.{band_of, IsBandLaid, IsBandFree, IsWideBeside, IsOpenFrom, AreKept}
+use Rattle.tile_plane.proofs.Common.{◌≡◌, ◌⊎◌, inl, inr, ℕ, ℤ, pos, ◌+ℤ◌, ◌-ℤ◌, ◌≤ℤ◌, ◌<ℤ◌, [], ◌∷◌, refl, sym, ◌∙◌, ap, subst, arith, ints, by_lt_z}
+use Rattle.tile_plane.proofs.Common.{Square, Rect, Piece, IsNear, Covers, IsProper, plane_range, AreSet, Tiles, tile_at, Owns, IsPartition, value_at}
+use Rattle.tile_plane.proofs.Common.{square_at, IsWideAt, band_of, IsBandLaid, IsBandFree, IsWideBeside, IsOpenFrom, AreKept}
 use Rattle.tile_plane.proofs.HandLaws.{covers_or_not}
 use Rattle.tile_plane.proofs.ValueLaws.{value_of_owner, value_off_range}
 use Rattle.tile_plane.proofs.LaidLaws.{area_owns}

@@ -1,11 +1,7 @@
 -- The tile that a stitch leads to, where the tile does not end at the edge of the range.
-use Rattle.std.proofs.Common.{◌≡◌, ℕ, ◌<ℤ◌, subst, arith}
-use Rattle.std.proofs.lemmas.Int.{ints}
-use Rattle.geo_core.specs.Planes.{plane_range}
-use Rattle.tile_plane.specs.declared.tiles.Tile.{Tile}
-use Rattle.tile_plane.specs.Tiles.{Tiles, tile_at, IsTaken, Owns, IsPartition, HasStitches, square_above, square_right, square_below, square_left}
-use Rattle.tile_plane.specs.steps.Mends.{Side, Above, Right, Below, Left, stitch_of, square_of}
-use Rattle.tile_plane.specs.steps.Sides.{GoesOn}
+use Rattle.tile_plane.proofs.Common.{◌≡◌, ℕ, ◌<ℤ◌, subst, arith, ints, plane_range, Tile, Tiles, tile_at, IsTaken, Owns, IsPartition, HasStitches}
+use Rattle.tile_plane.proofs.Common.{square_above, square_right, square_below, square_left, Side, Above, Right, Below, Left, stitch_of, square_of}
+use Rattle.tile_plane.proofs.Common.{GoesOn}
 use Rattle.tile_plane.proofs.TileLaws.{owner_taken}
 
 module _ (tiles : Tiles) (id : ℕ) (partition : IsPartition tiles) (stitches : HasStitches tiles) (taken : IsTaken tiles id) where

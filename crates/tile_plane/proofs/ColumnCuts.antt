@@ -1,12 +1,6 @@
 -- What a step along a column does: with x and y exchanged, what one along a row does.
-use Rattle.std.proofs.Common.{◌≡◌, ℕ, ℤ, ◌≤ℤ◌, ◌<ℤ◌, sym, ◌∙◌, ap, subst, arith}
-use Rattle.std.proofs.lemmas.Int.{ints}
-use Rattle.geo_core.specs.declared.squares.Rect.{Rect}
-use Rattle.tile_plane.specs.declared.tiles.Tile.{Tile}
-use Rattle.tile_plane.specs.Tiles.{Tiles, tile_at, IsTaken, Owns, IsPartition}
-use Rattle.tile_plane.specs.Walks.{square_at}
-use Rattle.tile_plane.specs.steps.Cuts.{IsPartAfter}
-use Rattle.tile_plane.specs.Tall.{AreCutAlong, AreCutAlongAt, NothingElseIsCutAlong}
+use Rattle.tile_plane.proofs.Common.{◌≡◌, ℕ, ℤ, ◌≤ℤ◌, ◌<ℤ◌, sym, ◌∙◌, ap, subst, arith, ints, Rect, Tile, Tiles, tile_at, IsTaken, Owns, IsPartition}
+use Rattle.tile_plane.proofs.Common.{square_at, IsPartAfter, AreCutAlong, AreCutAlongAt, NothingElseIsCutAlong}
 use Rattle.tile_plane.proofs.RowCuts.{AreCutting, IsRowWalk, row_step}
 use Rattle.tile_plane.proofs.Transposed.{
   transposed,

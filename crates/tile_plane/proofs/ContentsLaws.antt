@@ -1,12 +1,8 @@
 -- A plane without tiles is all space.
-use Rattle.std.proofs.Common.{◌≡◌, Bool, true, false, if◌then◌else◌, ℕ, List, [], ◌∷◌, Option, refl, ap}
-use Rattle.std.specs.Ordering.{nat_cmp}
+use Rattle.tile_plane.proofs.Common.{◌≡◌, Bool, true, false, if◌then◌else◌, ℕ, List, [], ◌∷◌, Option, refl, ap, nat_cmp, Square, is_covered, Slot}
+use Rattle.tile_plane.proofs.Common.{tile_if, tile_at, value_among, value_in}
 use Rattle.std.specs.FinMap as fin_map
-use Rattle.geo_core.specs.declared.squares.Square.{Square}
-use Rattle.geo_core.specs.Covering.{is_covered}
-use Rattle.tile_plane.specs.declared.slots.Slot.{Slot}
-use Rattle.tile_plane.specs.Tiles.{tile_if, tile_at, value_among}
-use Rattle.tile_plane.specs.Contents.{no_contents, value_in}
+use Rattle.tile_plane.specs.Contents.{no_contents}
 
 both_zero : (b : Bool) (x y : ℕ) → x ≡ 0 → y ≡ 0 → (if b then x else y) ≡ 0
 both_zero true x y p q = p

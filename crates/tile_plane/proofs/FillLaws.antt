@@ -1,18 +1,9 @@
 -- A tile of a band takes what the tiles beside it have of the band's rows.
-use Rattle.std.proofs.Common.{◌≡◌, inl, inr, ℕ, ◌<◌, ℤ, pos, ◌-ℤ◌, ◌≤ℤ◌, ◌<ℤ◌, refl, sym, ◌∙◌, ap, subst, arith}
-use Rattle.std.proofs.lemmas.Int.{ints, by_lt_z}
-use Rattle.geo_core.specs.FiniteSets.Range.{extent}
-use Rattle.geo_core.specs.declared.squares.Rect.{Rect}
-use Rattle.geo_core.specs.declared.squares.Piece.{Piece}
-use Rattle.geo_core.specs.Areas.{IsNear}
-use Rattle.geo_core.specs.Covering.{IsProper}
-use Rattle.geo_core.specs.Planes.{plane_range}
+use Rattle.tile_plane.proofs.Common.{◌≡◌, inl, inr, ℕ, ◌<◌, ℤ, pos, ◌-ℤ◌, ◌≤ℤ◌, ◌<ℤ◌, refl, sym, ◌∙◌, ap, subst, arith, ints, by_lt_z, extent, Rect}
+use Rattle.tile_plane.proofs.Common.{Piece, IsNear, IsProper, plane_range, Tile, Tiles, tile_at, IsTaken, Owns, IsPartition, HasStitches, square_at}
+use Rattle.tile_plane.proofs.Common.{AreAlike, IsJoinedRight, IsLaid, IsLaidLeft, IsLaidRight, IsBandLaid, IsBandFree, AreHigh}
 use Rattle.geo_core.proofs.SquareLaws.{rect_is}
-use Rattle.tile_plane.specs.declared.tiles.Tile.{Tile}
-use Rattle.tile_plane.specs.Tiles.{Tiles, tile_at, IsTaken, Owns, IsPartition, HasStitches}
-use Rattle.tile_plane.specs.Walks.{square_at}
-use Rattle.tile_plane.specs.steps.Cuts.{AreAlike, IsJoinedRight}
-use Rattle.tile_plane.specs.steps.Bands.{IsLaid, IsSide, IsLaidLeft, IsLaidRight, IsBandLaid, IsOfBand, IsBandFree, AreHigh}
+use Rattle.tile_plane.specs.steps.Bands.{IsSide, IsOfBand}
 use Rattle.tile_plane.proofs.HandLaws.{covers_or_not}
 use Rattle.tile_plane.proofs.TileLaws.{owner_taken}
 use Rattle.tile_plane.proofs.SideLaws.{beside_right, beside_left}

@@ -1,18 +1,8 @@
 -- A plane of one tile, as large as the range of planes.
-use Rattle.std.proofs.Common.{◌≡◌, inl, inr, ℕ, pos, ◌<ℤ◌, sym, ◌∙◌, ap, subst, arith}
-use Rattle.std.specs.Ordering.{nat_cmp}
+use Rattle.tile_plane.proofs.Common.{◌≡◌, inl, inr, ℕ, pos, ◌<ℤ◌, sym, ◌∙◌, ap, subst, arith, nat_cmp, cases_eq, ints, Square, Rect, LiesWithin}
+use Rattle.tile_plane.proofs.Common.{Covers, IsProper, plane_range, Tile, Tiles, no_tile, tile_if, tile_at, IsTaken, IsPartition, HasStitches, IsPut}
+use Rattle.tile_plane.proofs.Common.{value_at, AreStrips, IsPlane}
 use Rattle.std.specs.FinMap as fin_map
-use Rattle.std.proofs.lemmas.Bool.{cases_eq}
-use Rattle.std.proofs.lemmas.Int.{ints}
-use Rattle.geo_core.specs.declared.squares.Square.{Square}
-use Rattle.geo_core.specs.declared.squares.Rect.{Rect}
-use Rattle.geo_core.specs.Areas.{LiesWithin}
-use Rattle.geo_core.specs.Covering.{Covers, IsProper}
-use Rattle.geo_core.specs.Planes.{plane_range}
-use Rattle.tile_plane.specs.declared.tiles.Tile.{Tile}
-use Rattle.tile_plane.specs.Tiles.{Tiles, no_tile, tile_if, tile_at, IsTaken, IsPartition, HasStitches, IsPut, value_at}
-use Rattle.tile_plane.specs.Tall.{AreStrips}
-use Rattle.tile_plane.specs.Contents.{IsPlane}
 use Rattle.tile_plane.proofs.HandLaws.{covers_or_not}
 use Rattle.tile_plane.proofs.ValueLaws.{value_of_owner, value_off_range}
 use Rattle.tile_plane.proofs.TileLaws.{owner_taken}

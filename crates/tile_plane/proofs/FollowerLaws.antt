@@ -1,24 +1,16 @@
 -- The tiles on the left side of an area, from below, and the followers of a tile, from above.
-use Rattle.std.proofs.Common.{◌≡◌, ◌⊎◌, inl, inr, ℕ, ◌<◌, ℤ, pos, ◌-ℤ◌, ◌≤ℤ◌, ◌<ℤ◌, Option, Some, None, List, [], ◌∷◌, ◌++◌, sym, ◌∙◌, ap, subst, arith}
-use Rattle.std.specs.Prelude.{All}
+use Rattle.tile_plane.proofs.Common.{◌≡◌, ◌⊎◌, inl, inr, ℕ, ◌<◌, ℤ, pos, ◌-ℤ◌, ◌≤ℤ◌, ◌<ℤ◌, Option, Some, None, List, [], ◌∷◌, ◌++◌, sym, ◌∙◌, ap}
+use Rattle.tile_plane.proofs.Common.{subst, arith, All, unwrap_or, ints, clamps, by_lt_z, append-nil, In, Lists, extent, In-append_left, In-push}
+use Rattle.tile_plane.proofs.Common.{In-push_cases, Rect, corner_of, IsNear, LiesWithin, Covers, IsProper, plane_range, Tiles, tile_at, IsTaken}
+use Rattle.tile_plane.proofs.Common.{Owns, IsPartition, HasStitches, square_at, Meets, IsOnSide, IsFollower, low_row}
 use Rattle.std.specs.Borrow.{Bor}
-use Rattle.std.specs.Option.{unwrap_or, option_copied}
+use Rattle.std.specs.Option.{option_copied}
 use Rattle.std.specs.Int.{int_min}
 use Rattle.std.specs.Slice.{IsItemAt}
-use Rattle.std.proofs.lemmas.Int.{ints, clamps, by_lt_z}
-use Rattle.std.proofs.lemmas.List.{append-nil, append_assoc}
-use Rattle.geo_core.specs.FiniteSets.Lists.{In, Lists}
-use Rattle.geo_core.specs.FiniteSets.Range.{extent}
+use Rattle.std.proofs.lemmas.List.{append_assoc}
 use Rattle.geo_core.proofs.FiniteSets.Distincts.{Distinct-push}
 use Rattle.geo_core.proofs.FiniteSets.Listings.{Lists-none}
-use Rattle.geo_core.proofs.FiniteSets.Members.{In-append_left, In-push, In-push_cases}
-use Rattle.geo_core.specs.declared.squares.Rect.{Rect}
-use Rattle.geo_core.specs.Areas.{corner_of, IsNear, LiesWithin}
-use Rattle.geo_core.specs.Covering.{Covers, IsProper}
-use Rattle.geo_core.specs.Planes.{plane_range}
-use Rattle.tile_plane.specs.Tiles.{Tiles, tile_at, IsTaken, Owns, IsPartition, HasStitches}
-use Rattle.tile_plane.specs.Walks.{square_at}
-use Rattle.tile_plane.specs.Listings.{Meets, IsOnSide, IsFollower, AddsAll, low_row}
+use Rattle.tile_plane.specs.Listings.{AddsAll}
 use Rattle.tile_plane.proofs.TileLaws.{owner_taken}
 use Rattle.tile_plane.proofs.SideLaws.{beside_above, beside_right}
 use Rattle.tile_plane.proofs.BesideLaws.{next_below}

@@ -1,17 +1,8 @@
 -- A part of one tile is given to another, which holds it: along which sides stitches are to be mended then, and that all are right once they are.
-use Rattle.std.proofs.Common.{◌≡◌, ◌⊎◌, inl, inr, ℕ, ℤ, pos, ◌-ℤ◌, sym, ◌∙◌, ap, subst, arith}
-use Rattle.std.proofs.lemmas.Int.{ints, by_lt_z}
-use Rattle.geo_core.specs.declared.squares.Square.{Square}
-use Rattle.geo_core.specs.declared.squares.Rect.{Rect}
-use Rattle.geo_core.specs.Areas.{LiesWithin}
-use Rattle.geo_core.specs.Covering.{Covers, IsProper}
-use Rattle.geo_core.specs.Planes.{plane_range, AreSame}
-use Rattle.tile_plane.specs.declared.tiles.Tile.{Tile}
-use Rattle.tile_plane.specs.Tiles.{Tiles, tile_at, IsTaken, Owns, Leads, IsPartition, HasStitches, value_at}
-use Rattle.tile_plane.specs.Walks.{square_at}
-use Rattle.tile_plane.specs.steps.Cuts.{IsHandedOver, opposite}
-use Rattle.tile_plane.specs.steps.Mends.{Side, Above, Right, Below, Left, stitch_of, square_of, AreRedirected, IsSideOf, IsEnd}
-use Rattle.tile_plane.specs.steps.Sides.{along, end_of, first_of, HasLine, square_beside}
+use Rattle.tile_plane.proofs.Common.{◌≡◌, ◌⊎◌, inl, inr, ℕ, ℤ, pos, ◌-ℤ◌, sym, ◌∙◌, ap, subst, arith, ints, by_lt_z, Square, Rect, LiesWithin}
+use Rattle.tile_plane.proofs.Common.{Covers, IsProper, plane_range, AreSame, Tile, Tiles, tile_at, IsTaken, Owns, Leads, IsPartition, HasStitches}
+use Rattle.tile_plane.proofs.Common.{value_at, square_at, IsHandedOver, opposite, Side, Above, Right, Below, Left, stitch_of, square_of}
+use Rattle.tile_plane.proofs.Common.{AreRedirected, IsSideOf, IsEnd, along, end_of, first_of, HasLine, square_beside}
 use Rattle.tile_plane.proofs.TileLaws.{owner_taken}
 use Rattle.tile_plane.proofs.SideLaws.{apart}
 use Rattle.tile_plane.proofs.WalkLaws.{first_square}

@@ -1,14 +1,6 @@
 -- Handing the squares of a part from one tile to another keeps a partition.
-use Rattle.std.proofs.Common.{◌≡◌, ◌⊎◌, inl, inr, ℕ, pos, ◌-ℤ◌, sym, ◌∙◌, subst, arith}
-use Rattle.std.proofs.lemmas.Int.{ints, by_lt_z}
-use Rattle.geo_core.specs.declared.squares.Square.{Square}
-use Rattle.geo_core.specs.declared.squares.Rect.{Rect}
-use Rattle.geo_core.specs.Areas.{LiesWithin}
-use Rattle.geo_core.specs.Covering.{Covers, IsProper}
-use Rattle.geo_core.specs.Planes.{plane_range}
-use Rattle.tile_plane.specs.Tiles.{Tiles, tile_at, IsTaken, Owns, IsPartition}
-use Rattle.tile_plane.specs.Walks.{square_at}
-use Rattle.tile_plane.specs.steps.Cuts.{IsHandedOver}
+use Rattle.tile_plane.proofs.Common.{◌≡◌, ◌⊎◌, inl, inr, ℕ, pos, ◌-ℤ◌, sym, ◌∙◌, subst, arith, ints, by_lt_z, Square, Rect, LiesWithin, Covers}
+use Rattle.tile_plane.proofs.Common.{IsProper, plane_range, Tiles, tile_at, IsTaken, Owns, IsPartition, square_at, IsHandedOver}
 
 -- an area has a square or not
 pub covers_or_not : (area : Rect) (square : Square) → Covers area square ⊎ (Covers area square → ⊥)

@@ -1,18 +1,10 @@
 -- Two tiles are joined: the squares of the second go to the first, and its number has none.
-use Rattle.std.proofs.Common.{◌≡◌, ◌≢◌, inl, inr, ℕ, ℤ, pos, ◌-ℤ◌, refl, sym, ◌∙◌, ap, subst, arith}
-use Rattle.std.proofs.lemmas.Bool.{cases_eq}
-use Rattle.std.proofs.lemmas.Int.{ints, by_lt_z}
-use Rattle.geo_core.specs.declared.squares.Square.{Square}
-use Rattle.geo_core.specs.declared.squares.Rect.{Rect}
-use Rattle.geo_core.specs.Areas.{LiesWithin}
-use Rattle.geo_core.specs.Covering.{Covers, IsProper}
-use Rattle.geo_core.specs.Planes.{AreSame}
-use Rattle.tile_plane.specs.declared.tiles.Tile.{Tile}
-use Rattle.tile_plane.specs.Tiles.{Tiles, tile_at, IsTaken, Owns, IsPartition, HasStitches, IsPut, value_at}
-use Rattle.tile_plane.specs.Walks.{square_at}
-use Rattle.tile_plane.specs.steps.Cuts.{AreAlike, IsHandedOver, opposite, stretched, IsJoined}
-use Rattle.tile_plane.specs.steps.Mends.{Side, Above, Right, Below, Left, AreRedirected, IsEnd}
-use Rattle.tile_plane.specs.steps.Sides.{along, end_of, HasLine, square_beside, IsUpward, StandsAt}
+use Rattle.tile_plane.proofs.Common.{◌≡◌, ◌≢◌, inl, inr, ℕ, ℤ, pos, ◌-ℤ◌, refl, sym, ◌∙◌, ap, subst, arith, cases_eq, ints, by_lt_z, Square, Rect}
+use Rattle.tile_plane.proofs.Common.{LiesWithin, Covers, IsProper, AreSame, Tile, Tiles, tile_at, IsTaken, Owns, IsPartition, HasStitches, IsPut}
+use Rattle.tile_plane.proofs.Common.{value_at, square_at, AreAlike, IsHandedOver, opposite, Side, Above, Right, Below, Left, AreRedirected, IsEnd}
+use Rattle.tile_plane.proofs.Common.{along, end_of, HasLine, square_beside}
+use Rattle.tile_plane.specs.steps.Cuts.{stretched, IsJoined}
+use Rattle.tile_plane.specs.steps.Sides.{IsUpward, StandsAt}
 use Rattle.tile_plane.proofs.TileLaws.{owner_taken}
 use Rattle.tile_plane.proofs.RowCuts.{IsSamePlane}
 use Rattle.tile_plane.proofs.GivenLaws.{LeadsElsewhere, own_stitches, IsGiven, end_off, given_partition, stitch_into, given_end, last_partition, last_stitches, last_values}

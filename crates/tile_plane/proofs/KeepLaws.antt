@@ -1,14 +1,7 @@
 -- A list of tiles that have only grown upward is as wide and as tall as before, and what a step up one column does.
-use Rattle.std.proofs.Common.{◌≡◌, inl, inr, ℕ, ℤ, pos, ◌+ℤ◌, ◌-ℤ◌, ◌≤ℤ◌, ◌<ℤ◌, refl, sym, ◌∙◌, ap, subst, arith}
-use Rattle.std.proofs.lemmas.Bool.{cases_eq}
-use Rattle.std.proofs.lemmas.Int.{ints, by_lt_z}
-use Rattle.geo_core.specs.declared.squares.Rect.{Rect}
-use Rattle.geo_core.specs.Covering.{Covers}
-use Rattle.geo_core.specs.Planes.{plane_range}
-use Rattle.tile_plane.specs.Tiles.{Tiles, tile_at, IsTaken, Owns, IsPartition, HasStitches, square_above, square_below}
-use Rattle.tile_plane.specs.Walks.{square_at}
-use Rattle.tile_plane.specs.steps.Cuts.{IsJoinedUp}
-use Rattle.tile_plane.specs.Tall.{IsWideAt, IsTallAt, AreGrown}
+use Rattle.tile_plane.proofs.Common.{◌≡◌, inl, inr, ℕ, ℤ, pos, ◌+ℤ◌, ◌-ℤ◌, ◌≤ℤ◌, ◌<ℤ◌, refl, sym, ◌∙◌, ap, subst, arith, cases_eq, ints, by_lt_z}
+use Rattle.tile_plane.proofs.Common.{Rect, Covers, plane_range, Tiles, tile_at, IsTaken, Owns, IsPartition, HasStitches, square_above, square_below}
+use Rattle.tile_plane.proofs.Common.{square_at, IsJoinedUp, IsWideAt, IsTallAt, AreGrown}
 use Rattle.tile_plane.proofs.TileLaws.{owner_taken}
 use Rattle.tile_plane.proofs.SideLaws.{beside_above, beside_below}
 use Rattle.tile_plane.proofs.BesideLaws.{next_above, next_below}

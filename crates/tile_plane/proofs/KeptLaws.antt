@@ -1,12 +1,6 @@
 -- What stays of tiles away from a piece, and of the tiles of one row.
-use Rattle.std.proofs.Common.{◌≡◌, ◌⊎◌, ℕ, ℤ, pos, ◌+ℤ◌, ◌≤ℤ◌, ◌<ℤ◌, refl, sym, ◌∙◌, subst, arith}
-use Rattle.std.proofs.lemmas.Int.{ints}
-use Rattle.geo_core.specs.declared.squares.Rect.{Rect}
-use Rattle.geo_core.specs.Covering.{IsProper}
-use Rattle.tile_plane.specs.Tiles.{Tiles, tile_at, Owns, IsPartition}
-use Rattle.tile_plane.specs.Walks.{square_at}
-use Rattle.tile_plane.specs.Tall.{IsWideAt}
-use Rattle.tile_plane.specs.steps.Bands.{AreAsWide, IsWideBeside, AreKept}
+use Rattle.tile_plane.proofs.Common.{◌≡◌, ◌⊎◌, ℕ, ℤ, pos, ◌+ℤ◌, ◌≤ℤ◌, ◌<ℤ◌, refl, sym, ◌∙◌, subst, arith, ints, Rect, IsProper, Tiles, tile_at, Owns}
+use Rattle.tile_plane.proofs.Common.{IsPartition, square_at, IsWideAt, AreAsWide, IsWideBeside, AreKept}
 
 pub kept_self : (area : Rect) (tiles : Tiles) → AreKept area tiles tiles
 kept_self area tiles = record { far = λ j taken off. refl; rows = λ j x y off p q. (j, p, q) }

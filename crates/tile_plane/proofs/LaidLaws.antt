@@ -1,17 +1,8 @@
 -- The squares of an area become one tile: by cutting them out of a tile, by a new value, by a join, and by one such step after another.
-use Rattle.std.proofs.Common.{◌≡◌, inl, inr, ℕ, ℤ, pos, ◌+ℤ◌, ◌≤ℤ◌, ◌<ℤ◌, refl, sym, ◌∙◌, ap, subst, arith}
-use Rattle.std.proofs.lemmas.Bool.{cases_eq}
-use Rattle.std.proofs.lemmas.Int.{ints, by_lt_z}
-use Rattle.geo_core.specs.declared.squares.Square.{Square}
-use Rattle.geo_core.specs.declared.squares.Rect.{Rect}
-use Rattle.geo_core.specs.Areas.{LiesWithin}
-use Rattle.geo_core.specs.Covering.{Covers, IsProper}
-use Rattle.geo_core.specs.Planes.{plane_range}
-use Rattle.tile_plane.specs.declared.tiles.Tile.{Tile}
-use Rattle.tile_plane.specs.Tiles.{Tiles, tile_at, IsTaken, Owns, Leads, IsPartition, HasStitches, IsPut, square_above, square_right, square_below, square_left}
-use Rattle.tile_plane.specs.Walks.{square_at}
-use Rattle.tile_plane.specs.steps.Cuts.{AreAlike, IsCutAcross, IsPartFrom, IsJoinedRight}
-use Rattle.tile_plane.specs.steps.Bands.{AreAsWide, IsTileCut, IsLaid}
+use Rattle.tile_plane.proofs.Common.{◌≡◌, inl, inr, ℕ, ℤ, pos, ◌+ℤ◌, ◌≤ℤ◌, ◌<ℤ◌, refl, sym, ◌∙◌, ap, subst, arith, cases_eq, ints, by_lt_z, Square}
+use Rattle.tile_plane.proofs.Common.{Rect, LiesWithin, Covers, IsProper, plane_range, Tile, Tiles, tile_at, IsTaken, Owns, Leads, IsPartition}
+use Rattle.tile_plane.proofs.Common.{HasStitches, IsPut, square_above, square_right, square_below, square_left, square_at, AreAlike, IsCutAcross}
+use Rattle.tile_plane.proofs.Common.{IsPartFrom, IsJoinedRight, AreAsWide, IsTileCut, IsLaid}
 use Rattle.tile_plane.proofs.HandLaws.{partition_moves}
 use Rattle.tile_plane.proofs.TileLaws.{owner_taken}
 

@@ -1,3 +1,4 @@
+mod Common
 mod TileLaws
 mod WalkLaws
 mod SideLaws

@@ -1,17 +1,9 @@
 -- The tiles of a value other than 0 are the strips of that value, away from the edges of the plane.
-use Rattle.std.proofs.Common.{◌≡◌, ◌≢◌, inl, inr, ℕ, pos, ◌-ℤ◌, sym, ◌∙◌, subst, arith}
-use Rattle.std.proofs.lemmas.Int.{ints}
-use Rattle.geo_core.specs.declared.squares.Square.{Square}
-use Rattle.geo_core.specs.declared.squares.Rect.{Rect}
-use Rattle.geo_core.specs.Areas.{corner_of, IsNear, LiesWithin}
-use Rattle.geo_core.specs.Covering.{Covers, IsProper}
-use Rattle.geo_core.specs.Planes.{plane_range, HasValue}
-use Rattle.geo_core.specs.Strips.{IsStrip}
+use Rattle.tile_plane.proofs.Common.{◌≡◌, ◌≢◌, inl, inr, ℕ, pos, ◌-ℤ◌, sym, ◌∙◌, subst, arith, ints, Square, Rect, corner_of, IsNear, LiesWithin}
+use Rattle.tile_plane.proofs.Common.{Covers, IsProper, plane_range, HasValue, IsStrip, Tiles, tile_at, IsTaken, Owns, value_at, square_at}
+use Rattle.tile_plane.proofs.Common.{inner_range, IsPlane}
 use Rattle.geo_core.proofs.StripSets.{strip_is_proper, strip_same, strip_within, one_strip_at}
 use Rattle.geo_core.proofs.CoveringLaws.{corner_covered}
-use Rattle.tile_plane.specs.Tiles.{Tiles, tile_at, IsTaken, Owns, value_at}
-use Rattle.tile_plane.specs.Walks.{square_at}
-use Rattle.tile_plane.specs.Contents.{inner_range, IsPlane}
 use Rattle.tile_plane.proofs.TileLaws.{owner_taken}
 use Rattle.tile_plane.proofs.HandLaws.{covers_or_not}
 use Rattle.tile_plane.proofs.StripLaws.{tile_strip}

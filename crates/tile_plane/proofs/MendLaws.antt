@@ -1,17 +1,9 @@
 -- Walks along the sides of an area that mend the stitches into it.
-use Rattle.std.proofs.Common.{◌≡◌, ◌⊎◌, inl, inr, ℕ, ◌<◌, ℤ, pos, ◌-ℤ◌, ◌≤ℤ◌, ◌<ℤ◌, refl, sym, ◌∙◌, ap, subst, arith}
-use Rattle.std.proofs.lemmas.Bool.{cases_eq}
-use Rattle.std.proofs.lemmas.Int.{ints, by_lt_z}
-use Rattle.geo_core.specs.FiniteSets.Range.{extent}
-use Rattle.geo_core.specs.declared.squares.Rect.{Rect}
-use Rattle.geo_core.specs.Covering.{Covers, IsProper}
-use Rattle.geo_core.specs.Planes.{plane_range}
-use Rattle.tile_plane.specs.declared.tiles.Tile.{Tile}
-use Rattle.tile_plane.specs.Tiles.{Tiles, tile_at, IsTaken, Owns, IsPartition, IsPut, square_above, square_below}
-use Rattle.tile_plane.specs.Walks.{square_at}
-use Rattle.tile_plane.specs.steps.Mends.{Side, Above, Right, Below, Left, stitch_of, square_of, with_stitch, LeadTo, IsSideOf}
-use Rattle.tile_plane.specs.steps.Cuts.{opposite}
-use Rattle.tile_plane.specs.steps.Sides.{along, GoesOn, IsLast, end_of, ComesBefore}
+use Rattle.tile_plane.proofs.Common.{◌≡◌, ◌⊎◌, inl, inr, ℕ, ◌<◌, ℤ, pos, ◌-ℤ◌, ◌≤ℤ◌, ◌<ℤ◌, refl, sym, ◌∙◌, ap, subst, arith, cases_eq, ints, by_lt_z}
+use Rattle.tile_plane.proofs.Common.{extent, Rect, Covers, IsProper, plane_range, Tile, Tiles, tile_at, IsTaken, Owns, IsPartition, IsPut}
+use Rattle.tile_plane.proofs.Common.{square_above, square_below, square_at, Side, Above, Right, Below, Left, stitch_of, square_of, with_stitch}
+use Rattle.tile_plane.proofs.Common.{LeadTo, IsSideOf, opposite, along, GoesOn, IsLast, end_of}
+use Rattle.tile_plane.specs.steps.Sides.{ComesBefore}
 use Rattle.tile_plane.proofs.TileLaws.{owner_taken}
 use Rattle.tile_plane.proofs.SideLaws.{strangers, beside_above, beside_below}
 use Rattle.tile_plane.proofs.WalkLaws.{extent_falls, extent_falls_down}

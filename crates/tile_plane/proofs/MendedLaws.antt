@@ -1,16 +1,8 @@
 -- Mending the three sides of an end one after the other redirects all stitches into it.
-use Rattle.std.proofs.Common.{◌≡◌, ◌⊎◌, inl, inr, ℕ, ℤ, pos, ◌-ℤ◌, refl, sym, ◌∙◌, ap, subst, arith}
-use Rattle.std.proofs.lemmas.Int.{ints}
-use Rattle.geo_core.specs.declared.squares.Square.{Square}
-use Rattle.geo_core.specs.declared.squares.Rect.{Rect}
-use Rattle.geo_core.specs.Areas.{LiesWithin}
-use Rattle.geo_core.specs.Covering.{Covers, IsProper}
-use Rattle.tile_plane.specs.declared.tiles.Tile.{Tile}
-use Rattle.tile_plane.specs.Tiles.{Tiles, tile_at, IsTaken, Owns, Leads, IsPartition}
-use Rattle.tile_plane.specs.Walks.{square_at}
-use Rattle.tile_plane.specs.steps.Cuts.{AreAlike, opposite}
-use Rattle.tile_plane.specs.steps.Mends.{Side, Above, Right, Below, Left, stitch_of, square_of, with_stitch, LeadTo, AreRedirected, IsSideOf, IsEnd}
-use Rattle.tile_plane.specs.steps.Sides.{along, end_of, HasLine, square_beside}
+use Rattle.tile_plane.proofs.Common.{◌≡◌, ◌⊎◌, inl, inr, ℕ, ℤ, pos, ◌-ℤ◌, refl, sym, ◌∙◌, ap, subst, arith, ints, Square, Rect, LiesWithin, Covers}
+use Rattle.tile_plane.proofs.Common.{IsProper, Tile, Tiles, tile_at, IsTaken, Owns, Leads, IsPartition, square_at, AreAlike, opposite, Side, Above}
+use Rattle.tile_plane.proofs.Common.{Right, Below, Left, stitch_of, square_of, with_stitch, LeadTo, AreRedirected, IsSideOf, IsEnd, along, end_of}
+use Rattle.tile_plane.proofs.Common.{HasLine, square_beside}
 use Rattle.tile_plane.proofs.HandLaws.{partition_moves}
 use Rattle.tile_plane.proofs.SideLaws.{apart}
 

@@ -1,29 +1,21 @@
 -- The parts of tiles in an area: they lie apart, and cover what the tiles have of it.
-use Rattle.std.proofs.Common.{◌≡◌, ◌≢◌, inl, inr, Bool, true, ℕ, ◌+◌, ◌<◌, ◌≤◌, ◌≤ℤ◌, ◌<ℤ◌, List, [], ◌∷◌, ◌++◌, length, map, take, filter}
-use Rattle.std.proofs.Common.{append_assoc, get_or, refl, sym, ◌∙◌, ap, subst, arith}
-use Rattle.std.specs.Prelude.{All, AllPairs, IsPermutation}
-use Rattle.std.specs.List.Sorted.{IsSortedByKey}
-use Rattle.std.proofs.lemmas.Int.{ints}
-use Rattle.std.proofs.lemmas.List.{map-append, take_more, take_all, get_or-take, length-take-le}
-use Rattle.std.proofs.lemmas.List.Sorted.{IsPermutation-sym}
-use Rattle.geo_core.specs.FiniteSets.Lists.{In, Distinct, Lists}
-use Rattle.geo_core.proofs.FiniteSets.Members.{In-append_left, In-append_right, In-append_cases, In-push_cases, In-push, In-map, In-map_source, In-filter}
-use Rattle.geo_core.proofs.FiniteSets.Members.{In-filter_source, In-filter_passes, In-get_or, In-index, In-permutation}
-use Rattle.geo_core.proofs.FiniteSets.Pairs.{Pairwise, Pairwise-append, Pairwise-filter, Pairwise-map, AllPairs-from_Pairwise, AllPairs-permutation}
-use Rattle.geo_core.proofs.FiniteSets.Searches.{All-from_In}
-use Rattle.geo_core.specs.declared.squares.Square.{Square}
-use Rattle.geo_core.specs.declared.squares.Rect.{Rect}
-use Rattle.geo_core.specs.declared.squares.Piece.{Piece}
-use Rattle.geo_core.specs.Areas.{AreDisjoint, common_rect, corner_of, IsNear, LiesWithin}
-use Rattle.geo_core.specs.Covering.{Covers, IsProper}
-use Rattle.geo_core.specs.Planes.{plane_range, IsTileIn, AreTilesIn}
+use Rattle.tile_plane.proofs.Common.{◌≡◌, ◌≢◌, inl, inr, Bool, true, ℕ, ◌+◌, ◌<◌, ◌≤◌, ◌≤ℤ◌, ◌<ℤ◌, List, [], ◌∷◌, ◌++◌, length, map, take, filter}
+use Rattle.tile_plane.proofs.Common.{get_or, refl, sym, ◌∙◌, ap, subst, arith, All, AllPairs, IsPermutation, IsSortedByKey, ints, map-append}
+use Rattle.tile_plane.proofs.Common.{take_more, take_all, get_or-take, length-take-le, IsPermutation-sym, In, Distinct, Lists, In-append_left}
+use Rattle.tile_plane.proofs.Common.{In-append_right, In-append_cases, In-push_cases, In-push, In-get_or, In-index, AllPairs-permutation}
+use Rattle.tile_plane.proofs.Common.{All-from_In, Square, Rect, Piece, AreDisjoint, corner_of, IsNear, LiesWithin, Covers, IsProper, plane_range}
+use Rattle.tile_plane.proofs.Common.{AreTilesIn, corner_key, pair_cmp, sorted_by_corner, Tiles, tile_at, Owns, IsPartition, value_at, IsPlane, Meets}
+use Rattle.tile_plane.proofs.Common.{part_in, ArePiecesIn}
+use Rattle.std.proofs.Common.{append_assoc}
+use Rattle.geo_core.proofs.FiniteSets.Members.{In-map, In-map_source, In-filter}
+use Rattle.geo_core.proofs.FiniteSets.Members.{In-filter_source, In-filter_passes, In-permutation}
+use Rattle.geo_core.proofs.FiniteSets.Pairs.{Pairwise, Pairwise-append, Pairwise-filter, Pairwise-map, AllPairs-from_Pairwise}
+use Rattle.geo_core.specs.Areas.{common_rect}
+use Rattle.geo_core.specs.Planes.{IsTileIn}
 use Rattle.geo_core.specs.Strips.{IsInUnion}
-use Rattle.geo_core.proofs.CornerLaws.{corner_key, pair_cmp, sorted_by_corner}
 use Rattle.geo_core.proofs.CoveringLaws.{covers_first, covers_second, covers_both, corner_covered, within_covers, common_within}
 use Rattle.geo_core.proofs.SquareLaws.{piece_is}
-use Rattle.tile_plane.specs.Tiles.{Tiles, tile_at, Owns, IsPartition, value_at}
-use Rattle.tile_plane.specs.Contents.{IsPlane}
-use Rattle.tile_plane.specs.Listings.{Meets, part_in, AddsParts, IsPieceIn, ArePiecesIn}
+use Rattle.tile_plane.specs.Listings.{AddsParts, IsPieceIn}
 use Rattle.tile_plane.proofs.TileLaws.{owner_taken}
 use Rattle.tile_plane.proofs.ValueLaws.{value_of_owner}
 use Rattle.tile_plane.proofs.FollowerLaws.{near_within}

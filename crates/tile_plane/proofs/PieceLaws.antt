@@ -1,17 +1,10 @@
 -- A piece is set band by band, between cuts before and joins after.
-use Rattle.std.proofs.Common.{◌≡◌, ◌⊎◌, inl, inr, ℕ, ℤ, pos, ◌+ℤ◌, ◌-ℤ◌, ◌≤ℤ◌, ◌<ℤ◌, [], ◌∷◌, refl, sym, ◌∙◌, ap, subst, arith}
-use Rattle.std.proofs.lemmas.Int.{ints, by_lt_z}
-use Rattle.geo_core.specs.declared.squares.Square.{Square}
-use Rattle.geo_core.specs.declared.squares.Rect.{Rect}
-use Rattle.geo_core.specs.declared.squares.Piece.{Piece}
-use Rattle.geo_core.specs.Areas.{IsNear, corner_of}
-use Rattle.geo_core.specs.Covering.{Covers, IsProper}
-use Rattle.geo_core.specs.Planes.{AreSet, AreSame}
-use Rattle.tile_plane.specs.declared.tiles.Tile.{Tile}
-use Rattle.tile_plane.specs.Tiles.{Tiles, tile_at, IsTaken, Owns, IsPartition, HasStitches, value_at}
-use Rattle.tile_plane.specs.Walks.{square_at}
-use Rattle.tile_plane.specs.Tall.{IsWideAt, IsTallAt, AreGrown, AreCut, AreCutAt, NothingElseIsCut, AreCutAlong, AreCutAlongAt, NothingElseIsCutAlong, CrossesColumn}
-use Rattle.tile_plane.specs.steps.Bands.{band_of, IsBandLaid, AreHigh, IsBandFree, IsWideBeside, IsOpenFrom, AreKept, IsBanded, AreColumnsTall}
+use Rattle.tile_plane.proofs.Common.{◌≡◌, ◌⊎◌, inl, inr, ℕ, ℤ, pos, ◌+ℤ◌, ◌-ℤ◌, ◌≤ℤ◌, ◌<ℤ◌, [], ◌∷◌, refl, sym, ◌∙◌, ap, subst, arith, ints, by_lt_z}
+use Rattle.tile_plane.proofs.Common.{Square, Rect, Piece, IsNear, corner_of, Covers, IsProper, AreSet, AreSame, Tile, Tiles, tile_at, IsTaken, Owns}
+use Rattle.tile_plane.proofs.Common.{IsPartition, HasStitches, value_at, square_at, IsWideAt, IsTallAt, AreGrown, AreCut, AreCutAt, NothingElseIsCut}
+use Rattle.tile_plane.proofs.Common.{AreCutAlong, AreCutAlongAt, NothingElseIsCutAlong, band_of, IsBandLaid, AreHigh, IsBandFree, IsWideBeside}
+use Rattle.tile_plane.proofs.Common.{IsOpenFrom, AreKept, IsBanded, AreColumnsTall}
+use Rattle.tile_plane.specs.Tall.{CrossesColumn}
 use Rattle.tile_plane.proofs.TileLaws.{owner_taken}
 use Rattle.tile_plane.proofs.KeepLaws.{tall_kept}
 use Rattle.tile_plane.proofs.LaidLaws.{alike_owns}

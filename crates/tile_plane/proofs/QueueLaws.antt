@@ -1,18 +1,11 @@
 -- A queue that begins with the tiles on the left side of an area and goes on with the followers of each gets all tiles that meet the area, each once.
-use Rattle.std.proofs.Common.{◌≡◌, ◌⊎◌, inl, inr, ℕ, zero, suc, ◌<◌, ◌≤◌, ◌+◌, pos, ◌-ℤ◌, ◌≤ℤ◌, ◌<ℤ◌, List, [], ◌∷◌, ◌++◌, length, take, get_or, refl, sym}
-use Rattle.std.proofs.Common.{◌∙◌, subst, arith}
-use Rattle.std.proofs.lemmas.Int.{ints, clamps, by_lt_z}
-use Rattle.std.proofs.lemmas.List.{get_or_default, take_all, take-append-le, take_more, get_or-take, length-take-le}
-use Rattle.geo_core.specs.FiniteSets.Lists.{In, Distinct, Lists}
-use Rattle.geo_core.specs.FiniteSets.Range.{extent}
+use Rattle.tile_plane.proofs.Common.{◌≡◌, ◌⊎◌, inl, inr, ℕ, ◌<◌, ◌≤◌, ◌+◌, pos, ◌-ℤ◌, ◌≤ℤ◌, ◌<ℤ◌, List, [], ◌∷◌, ◌++◌, length, take, get_or, refl}
+use Rattle.tile_plane.proofs.Common.{sym, ◌∙◌, subst, arith, ints, clamps, by_lt_z, get_or_default, take_all, take_more, get_or-take, length-take-le}
+use Rattle.tile_plane.proofs.Common.{In, Distinct, Lists, extent, In-append_left, In-append_right, In-append_cases, In-push_cases, In-index, Rect}
+use Rattle.tile_plane.proofs.Common.{LiesWithin, plane_range, Tiles, tile_at, IsPartition, square_at, Meets, IsOnSide, IsFollower, low_row}
+use Rattle.std.proofs.Common.{zero, suc}
+use Rattle.std.proofs.lemmas.List.{take-append-le}
 use Rattle.geo_core.proofs.FiniteSets.Distincts.{Distinct-append, Distinct-places}
-use Rattle.geo_core.proofs.FiniteSets.Members.{In-append_left, In-append_right, In-append_cases, In-push_cases, In-index}
-use Rattle.geo_core.specs.declared.squares.Rect.{Rect}
-use Rattle.geo_core.specs.Areas.{LiesWithin}
-use Rattle.geo_core.specs.Planes.{plane_range}
-use Rattle.tile_plane.specs.Tiles.{Tiles, tile_at, IsPartition}
-use Rattle.tile_plane.specs.Walks.{square_at}
-use Rattle.tile_plane.specs.Listings.{Meets, IsOnSide, IsFollower, low_row}
 use Rattle.tile_plane.proofs.WalkLaws.{extent_falls_down}
 
 -- the list goes on from tile to tile

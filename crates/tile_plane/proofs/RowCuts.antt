@@ -1,15 +1,7 @@
 -- Tiles that are only cut across are as wide as before, and what a step along a row does.
-use Rattle.std.proofs.Common.{◌≡◌, ◌≢◌, inl, inr, ℕ, ℤ, pos, ◌+ℤ◌, ◌≤ℤ◌, ◌<ℤ◌, refl, sym, ◌∙◌, ap, subst, arith}
-use Rattle.std.proofs.lemmas.Bool.{cases_eq}
-use Rattle.std.proofs.lemmas.Int.{ints, by_lt_z}
-use Rattle.geo_core.specs.declared.squares.Square.{Square}
-use Rattle.geo_core.specs.declared.squares.Rect.{Rect}
-use Rattle.geo_core.specs.Covering.{Covers, IsProper}
-use Rattle.geo_core.specs.Planes.{AreSame}
-use Rattle.tile_plane.specs.Tiles.{Tiles, tile_at, IsTaken, Owns, IsPartition, HasStitches, value_at}
-use Rattle.tile_plane.specs.Walks.{square_at}
-use Rattle.tile_plane.specs.steps.Cuts.{AreAlike, IsCutAcross, IsPartFrom}
-use Rattle.tile_plane.specs.Tall.{AreCut, AreCutAt, CrossesHeight, NothingElseIsCut}
+use Rattle.tile_plane.proofs.Common.{◌≡◌, ◌≢◌, inl, inr, ℕ, ℤ, pos, ◌+ℤ◌, ◌≤ℤ◌, ◌<ℤ◌, refl, sym, ◌∙◌, ap, subst, arith, cases_eq, ints, by_lt_z}
+use Rattle.tile_plane.proofs.Common.{Square, Rect, Covers, IsProper, AreSame, Tiles, tile_at, IsTaken, Owns, IsPartition, HasStitches, value_at}
+use Rattle.tile_plane.proofs.Common.{square_at, AreAlike, IsCutAcross, IsPartFrom, AreCut, AreCutAt, CrossesHeight, NothingElseIsCut}
 use Rattle.tile_plane.proofs.TileLaws.{owner_taken}
 
 pub cut_self : (tiles : Tiles) → AreCut tiles tiles

@@ -1,15 +1,6 @@
 -- Pieces that lie apart are set by setting one after the other.
-use Rattle.std.proofs.Common.{◌≢◌, ◌⊎◌, inl, inr, ℕ, List, [], ◌∷◌, ◌++◌, refl, sym, ◌∙◌, subst, arith}
-use Rattle.std.proofs.lemmas.Int.{ints}
-use Rattle.geo_core.specs.FiniteSets.Lists.{In}
-use Rattle.geo_core.proofs.FiniteSets.Members.{In-append_cases, In-append_left, In-append_right}
-use Rattle.geo_core.specs.declared.squares.Square.{Square}
-use Rattle.geo_core.specs.declared.squares.Piece.{Piece}
-use Rattle.geo_core.specs.declared.squares.Rect.{Rect}
-use Rattle.geo_core.specs.Areas.{AreDisjoint, IsNear}
-use Rattle.geo_core.specs.Covering.{Covers}
-use Rattle.geo_core.specs.Planes.{AreSet, AreSame}
-use Rattle.tile_plane.specs.Contents.{inner_range}
+use Rattle.tile_plane.proofs.Common.{◌≢◌, ◌⊎◌, inl, inr, ℕ, List, [], ◌∷◌, ◌++◌, refl, sym, ◌∙◌, subst, arith, ints, In, In-append_cases}
+use Rattle.tile_plane.proofs.Common.{In-append_left, In-append_right, Square, Piece, Rect, AreDisjoint, IsNear, Covers, AreSet, AreSame, inner_range}
 use Rattle.tile_plane.proofs.HandLaws.{covers_or_not}
 
 -- one more piece, apart from those before it

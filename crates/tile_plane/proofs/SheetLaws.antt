@@ -1,20 +1,12 @@
 -- Pieces set one by one on a sheet of tiles.
-use Rattle.std.proofs.Common.{◌≡◌, inl, inr, ℕ, ◌+◌, ◌<◌, List, [], ◌∷◌, ◌++◌, length, take, get_or, Option, Some, None, Vec, Global, sym, ◌∙◌, ap, subst}
-use Rattle.std.proofs.Common.{arith}
-use Rattle.std.specs.Prelude.{AllPairs, IfSome}
-use Rattle.std.proofs.lemmas.List.{take_more, get_or-take, length-take-le}
-use Rattle.geo_core.proofs.FiniteSets.Members.{In-index}
-use Rattle.geo_core.specs.declared.squares.Square.{Square}
-use Rattle.geo_core.specs.declared.squares.Piece.{Piece}
-use Rattle.geo_core.specs.Areas.{AreDisjoint, IsNear}
-use Rattle.geo_core.specs.Covering.{Covers}
-use Rattle.geo_core.specs.Planes.{AreSet}
-use Rattle.tile_plane.specs.Tiles.{Tiles, IsPartition, HasStitches, value_at}
-use Rattle.tile_plane.specs.Tall.{AreStrips}
+use Rattle.tile_plane.proofs.Common.{◌≡◌, inl, inr, ℕ, ◌+◌, ◌<◌, List, [], ◌∷◌, ◌++◌, length, take, get_or, Option, Some, None, sym, ◌∙◌, ap, subst}
+use Rattle.tile_plane.proofs.Common.{arith, AllPairs, IfSome, take_more, get_or-take, length-take-le, In-index, Square, Piece, AreDisjoint, IsNear}
+use Rattle.tile_plane.proofs.Common.{Covers, AreSet, Tiles, IsPartition, HasStitches, value_at, AreStrips, inner_range, IsPlane, IsSheet, IsSecond}
+use Rattle.std.proofs.Common.{Vec, Global}
 use Rattle.tile_plane.specs.declared.sheets.Sheet.{Sheet}
 use Rattle.tile_plane.specs.declared.sheets.Second.TheVariants.{Ahead}
-use Rattle.tile_plane.specs.Contents.{inner_range, IsChange, IsPlane}
-use Rattle.tile_plane.specs.Sheets.{IsSheet, IsStep, IsSecond}
+use Rattle.tile_plane.specs.Contents.{IsChange}
+use Rattle.tile_plane.specs.Sheets.{IsStep}
 use Rattle.tile_plane.proofs.SetLaws.{set_more, set_keeps_space, near_inner}
 
 -- where a near piece is set the tiles are still those of a plane

@@ -1,15 +1,7 @@
 -- The tiles along the sides of a tile begin where it ends.
-use Rattle.std.proofs.Common.{◌≡◌, ℕ, ℤ, pos, ◌-ℤ◌, ◌≤ℤ◌, ◌<ℤ◌, subst, arith}
-use Rattle.std.proofs.lemmas.Int.{ints, by_lt_z}
-use Rattle.geo_core.specs.declared.squares.Square.{Square}
-use Rattle.geo_core.specs.declared.squares.Rect.{Rect}
-use Rattle.geo_core.specs.Areas.{LiesWithin}
-use Rattle.geo_core.specs.Covering.{Covers}
-use Rattle.tile_plane.specs.Tiles.{Tiles, tile_at, IsTaken, Owns, IsPartition}
-use Rattle.tile_plane.specs.Walks.{square_at}
-use Rattle.tile_plane.specs.steps.Cuts.{opposite}
-use Rattle.tile_plane.specs.steps.Mends.{Side, Above, Right, Below, Left, square_of}
-use Rattle.tile_plane.specs.steps.Sides.{along, end_of, HasLine, square_beside}
+use Rattle.tile_plane.proofs.Common.{◌≡◌, ℕ, ℤ, pos, ◌-ℤ◌, ◌≤ℤ◌, ◌<ℤ◌, subst, arith, ints, by_lt_z, Square, Rect, LiesWithin, Covers, Tiles, tile_at}
+use Rattle.tile_plane.proofs.Common.{IsTaken, Owns, IsPartition, square_at, opposite, Side, Above, Right, Below, Left, square_of, along, end_of}
+use Rattle.tile_plane.proofs.Common.{HasLine, square_beside}
 
 -- a tile that shares a square with another is that one, so it has no square that the other has not
 pub strangers : (tiles : Tiles) (a b : ℕ) (s t : Square) → IsPartition tiles → Owns tiles a s → Owns tiles b s → Owns tiles a t

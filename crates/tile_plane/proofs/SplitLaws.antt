@@ -1,18 +1,9 @@
 -- A tile is cut in two: the part that is cut off goes to a number that had no tile.
-use Rattle.std.proofs.Common.{◌≡◌, ◌≢◌, inl, inr, ℕ, ℤ, pos, ◌-ℤ◌, ◌<ℤ◌, refl, sym, ◌∙◌, ap, subst, arith}
-use Rattle.std.proofs.lemmas.Bool.{cases_eq}
-use Rattle.std.proofs.lemmas.Int.{ints, by_lt_z}
-use Rattle.geo_core.specs.declared.squares.Square.{Square}
-use Rattle.geo_core.specs.declared.squares.Rect.{Rect}
-use Rattle.geo_core.specs.Areas.{LiesWithin}
-use Rattle.geo_core.specs.Covering.{Covers, IsProper}
-use Rattle.geo_core.specs.Planes.{AreSame}
-use Rattle.tile_plane.specs.declared.tiles.Tile.{Tile}
-use Rattle.tile_plane.specs.Tiles.{Tiles, tile_at, IsTaken, Owns, Leads, IsPartition, HasStitches, IsPut, value_at}
-use Rattle.tile_plane.specs.Walks.{square_at}
-use Rattle.tile_plane.specs.steps.Cuts.{AreAlike, IsHandedOver, opposite, low_of, high_of, part_at, square_at_cut, IsInTwo, IsCutAt}
-use Rattle.tile_plane.specs.steps.Mends.{Side, Above, Right, Below, Left, stitch_of, square_of, AreRedirected, IsEnd}
-use Rattle.tile_plane.specs.steps.Sides.{along, end_of, HasLine, square_beside}
+use Rattle.tile_plane.proofs.Common.{◌≡◌, ◌≢◌, inl, inr, ℕ, ℤ, pos, ◌-ℤ◌, ◌<ℤ◌, refl, sym, ◌∙◌, ap, subst, arith, cases_eq, ints, by_lt_z, Square}
+use Rattle.tile_plane.proofs.Common.{Rect, LiesWithin, Covers, IsProper, AreSame, Tile, Tiles, tile_at, IsTaken, Owns, Leads, IsPartition}
+use Rattle.tile_plane.proofs.Common.{HasStitches, IsPut, value_at, square_at, AreAlike, IsHandedOver, opposite, low_of, part_at, square_at_cut, Side}
+use Rattle.tile_plane.proofs.Common.{Above, Right, Below, Left, stitch_of, square_of, AreRedirected, IsEnd, along, end_of, HasLine, square_beside}
+use Rattle.tile_plane.specs.steps.Cuts.{high_of, IsInTwo, IsCutAt}
 use Rattle.tile_plane.proofs.TileLaws.{owner_taken}
 use Rattle.tile_plane.proofs.RowCuts.{IsSamePlane}
 use Rattle.tile_plane.proofs.GivenLaws.{LeadsElsewhere, own_stitches, IsGiven, given_partition, given_end, stitch_into, last_partition, last_stitches, last_values}

@@ -1,15 +1,7 @@
 -- Two tiles of a column, one upon the other: whether they may be joined, and what they are once they are.
-use Rattle.std.proofs.Common.{◌≡◌, ℕ, ℤ, pos, ◌+ℤ◌, ◌≤ℤ◌, ◌<ℤ◌, sym, ◌∙◌, ap, subst, arith}
-use Rattle.std.proofs.lemmas.Int.{ints}
-use Rattle.geo_core.specs.declared.squares.Rect.{Rect}
-use Rattle.geo_core.specs.declared.squares.Square.{Square}
-use Rattle.geo_core.specs.Covering.{Covers, IsProper}
-use Rattle.geo_core.specs.Planes.{plane_range}
-use Rattle.tile_plane.specs.declared.tiles.Tile.{Tile}
-use Rattle.tile_plane.specs.Tiles.{Tiles, tile_at, IsTaken, Owns, IsPartition, HasStitches, square_above, square_below}
-use Rattle.tile_plane.specs.Walks.{square_at}
-use Rattle.tile_plane.specs.steps.Cuts.{IsJoinedUp}
-use Rattle.tile_plane.specs.Tall.{IsTallAt, AreGrown}
+use Rattle.tile_plane.proofs.Common.{◌≡◌, ℕ, ℤ, pos, ◌+ℤ◌, ◌≤ℤ◌, ◌<ℤ◌, sym, ◌∙◌, ap, subst, arith, ints, Rect, Square, Covers, IsProper, plane_range}
+use Rattle.tile_plane.proofs.Common.{Tile, Tiles, tile_at, IsTaken, Owns, IsPartition, HasStitches, square_above, square_below, square_at}
+use Rattle.tile_plane.proofs.Common.{IsJoinedUp, IsTallAt, AreGrown}
 use Rattle.tile_plane.proofs.TileLaws.{owner_taken}
 use Rattle.tile_plane.proofs.BesideLaws.{next_above, next_below}
 use Rattle.tile_plane.proofs.KeepLaws.{join_grows, tall_in_one, upon_begins, under_ends}

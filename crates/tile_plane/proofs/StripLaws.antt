@@ -1,13 +1,7 @@
 -- Tiles that are wide in each row and tall in each column are strips, and the other way round.
-use Rattle.std.proofs.Common.{◌≡◌, ℕ, ℤ, pos, ◌+ℤ◌, ◌-ℤ◌, ◌≤ℤ◌, ◌<ℤ◌, sym, ◌∙◌, subst, arith}
-use Rattle.std.proofs.lemmas.Int.{ints, by_lt_z}
-use Rattle.geo_core.specs.declared.squares.Square.{Square}
-use Rattle.geo_core.specs.Covering.{Covers}
-use Rattle.geo_core.specs.Planes.{plane_range, IsTile, HasValue}
-use Rattle.geo_core.specs.Strips.{IsRun}
-use Rattle.tile_plane.specs.Tiles.{Tiles, tile_at, IsTaken, Owns, IsPartition, value_at}
-use Rattle.tile_plane.specs.Walks.{square_at}
-use Rattle.tile_plane.specs.Tall.{IsWideAt, AreStrips}
+use Rattle.tile_plane.proofs.Common.{◌≡◌, ℕ, ℤ, pos, ◌+ℤ◌, ◌-ℤ◌, ◌≤ℤ◌, ◌<ℤ◌, sym, ◌∙◌, subst, arith, ints, by_lt_z, Square, Covers, plane_range}
+use Rattle.tile_plane.proofs.Common.{HasValue, IsRun, Tiles, tile_at, IsTaken, Owns, IsPartition, value_at, square_at, IsWideAt, AreStrips}
+use Rattle.geo_core.specs.Planes.{IsTile}
 use Rattle.tile_plane.proofs.HandLaws.{owned_in_range}
 use Rattle.tile_plane.proofs.ValueLaws.{value_of_owner}
 

@@ -1,20 +1,14 @@
 -- Tiles and their squares, and what putting, adding and taking away one tile does.
-use Rattle.std.proofs.Common.{◌≡◌, ◌≢◌, ℕ, Bool, true, true≢false, ◌||◌, List, [], ◌∷◌, Option, Some, None, IsSome, is_some, cond, inl, inr, refl, sym, ◌∙◌, ap, subst, arith}
-use Rattle.std.proofs.lemmas.Int.{ints}
-use Rattle.std.proofs.lemmas.Bool.{cases_eq}
+use Rattle.tile_plane.proofs.Common.{◌≡◌, ◌≢◌, ℕ, Bool, true, true≢false, List, [], ◌∷◌, Option, Some, None, cond, inl, inr, refl, sym, ◌∙◌, ap}
+use Rattle.tile_plane.proofs.Common.{subst, arith, ints, cases_eq, nat_cmp, eq_by_cmp, In, Square, IsProper, Tile, Slot, Tiles, no_tile, tile_if}
+use Rattle.tile_plane.proofs.Common.{tile_at, IsTaken, Owns, IsPut, AreProper}
+use Rattle.std.proofs.Common.{◌||◌, IsSome, is_some}
 use Rattle.std.proofs.lemmas.Bool.Decides.{nat_tests}
 use Rattle.std.specs.List.{list_any}
-use Rattle.std.specs.Ordering.{nat_cmp, eq_by_cmp}
 use Rattle.std.specs.Cmp.{nat_cmp_total, unsigned_tied}
 use Rattle.std.specs.FinMap as fin_map
 use Rattle.tile_arena.proofs.LiveLaws.{tied_other}
-use Rattle.geo_core.specs.FiniteSets.Lists.{In}
-use Rattle.geo_core.specs.declared.squares.Square.{Square}
-use Rattle.geo_core.specs.Covering.{IsProper}
-use Rattle.tile_plane.specs.declared.tiles.Tile.{Tile}
-use Rattle.tile_plane.specs.declared.slots.Slot.{Slot}
 use Rattle.tile_plane.specs.Slots.{tile_of}
-use Rattle.tile_plane.specs.Tiles.{Tiles, no_tile, tile_if, tile_at, IsTaken, Owns, IsPut, AreProper}
 
 -- a tile with a square is taken
 pub owner_taken : (tiles : Tiles) (id : ℕ) (square : Square) → Owns tiles id square → IsTaken tiles id

@@ -1,12 +1,6 @@
 -- A walk along the lowest row of an area, and beside it: how far up its tiles go on.
-use Rattle.std.proofs.Common.{◌≡◌, ℕ, ◌<◌, ℤ, pos, ◌+ℤ◌, ◌-ℤ◌, ◌≤ℤ◌, ◌<ℤ◌, ap, arith}
-use Rattle.std.proofs.lemmas.Int.{ints, by_lt_z}
-use Rattle.geo_core.specs.FiniteSets.Range.{extent}
-use Rattle.geo_core.specs.declared.squares.Rect.{Rect}
-use Rattle.geo_core.specs.Covering.{IsProper}
-use Rattle.tile_plane.specs.Tiles.{Tiles, tile_at, IsTaken, Owns, IsPartition}
-use Rattle.tile_plane.specs.Walks.{square_at}
-use Rattle.tile_plane.specs.steps.Bands.{AreHigh}
+use Rattle.tile_plane.proofs.Common.{◌≡◌, ℕ, ◌<◌, ℤ, pos, ◌+ℤ◌, ◌-ℤ◌, ◌≤ℤ◌, ◌<ℤ◌, ap, arith, ints, by_lt_z, extent, Rect, IsProper, Tiles, tile_at}
+use Rattle.tile_plane.proofs.Common.{IsTaken, Owns, IsPartition, square_at, AreHigh}
 use Rattle.tile_plane.proofs.TileLaws.{owner_taken}
 use Rattle.tile_plane.proofs.WalkLaws.{extent_falls}
 use Rattle.tile_plane.proofs.KeptLaws.{owns_beside}

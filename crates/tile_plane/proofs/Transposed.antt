@@ -1,20 +1,10 @@
 -- Tiles with x and y exchanged. What holds of the rows of any tiles holds of the columns of the exchanged ones.
-use Rattle.std.proofs.Common.{◌≡◌, inl, inr, ℕ, ℤ, pos, ◌+ℤ◌, ◌<ℤ◌, true, false, cond, List, [], ◌∷◌, Option, Some, None, refl, sym, ◌∙◌, ap, subst, arith}
-use Rattle.std.proofs.lemmas.Int.{ints}
-use Rattle.std.specs.Ordering.{nat_cmp, eq_by_cmp}
+use Rattle.tile_plane.proofs.Common.{◌≡◌, inl, inr, ℕ, ℤ, pos, ◌+ℤ◌, ◌<ℤ◌, true, false, cond, List, [], ◌∷◌, Option, Some, None, refl, sym, ◌∙◌, ap}
+use Rattle.tile_plane.proofs.Common.{subst, arith, ints, nat_cmp, eq_by_cmp, Square, Rect, LiesWithin, Covers, IsProper, plane_range, Slot, Tile}
+use Rattle.tile_plane.proofs.Common.{Tiles, tile_if, tile_at, IsTaken, Owns, IsPartition, square_at, IsPartFrom, IsPartAfter, AreCut, AreCutAt}
+use Rattle.tile_plane.proofs.Common.{CrossesHeight, NothingElseIsCut, AreCutAlong, AreCutAlongAt, NothingElseIsCutAlong}
 use Rattle.std.specs.Cmp.{nat_cmp_total}
 use Rattle.std.specs.FinMap as fin_map
-use Rattle.geo_core.specs.declared.squares.Square.{Square}
-use Rattle.geo_core.specs.declared.squares.Rect.{Rect}
-use Rattle.geo_core.specs.Areas.{LiesWithin}
-use Rattle.geo_core.specs.Covering.{Covers, IsProper}
-use Rattle.geo_core.specs.Planes.{plane_range}
-use Rattle.tile_plane.specs.declared.slots.Slot.{Slot}
-use Rattle.tile_plane.specs.declared.tiles.Tile.{Tile}
-use Rattle.tile_plane.specs.Tiles.{Tiles, tile_if, tile_at, IsTaken, Owns, IsPartition}
-use Rattle.tile_plane.specs.Walks.{square_at}
-use Rattle.tile_plane.specs.steps.Cuts.{IsPartFrom, IsPartAfter}
-use Rattle.tile_plane.specs.Tall.{AreCut, AreCutAt, CrossesHeight, NothingElseIsCut, AreCutAlong, AreCutAlongAt, NothingElseIsCutAlong}
 
 abbrev pub swap_square : Square → Square
 swap_square square = record { x = square.y; y = square.x }

@@ -1,12 +1,6 @@
 -- Sides of tiles with x and y exchanged: above is right and below is left, and what is mended there is mended here.
-use Rattle.std.proofs.Common.{◌≡◌, ℕ, pos, ◌-ℤ◌, refl, sym, ◌∙◌, ap, subst, arith}
-use Rattle.std.proofs.lemmas.Int.{ints}
-use Rattle.geo_core.specs.declared.squares.Rect.{Rect}
-use Rattle.geo_core.specs.Areas.{LiesWithin}
-use Rattle.geo_core.specs.Covering.{Covers}
-use Rattle.tile_plane.specs.declared.tiles.Tile.{Tile}
-use Rattle.tile_plane.specs.Tiles.{Tiles, tile_at, Leads, IsPut, square_above, square_below}
-use Rattle.tile_plane.specs.Walks.{square_at}
+use Rattle.tile_plane.proofs.Common.{◌≡◌, ℕ, pos, ◌-ℤ◌, refl, sym, ◌∙◌, ap, subst, arith, ints, Rect, LiesWithin, Covers, Tile, Tiles, tile_at}
+use Rattle.tile_plane.proofs.Common.{Leads, IsPut, square_above, square_below, square_at}
 use Rattle.tile_plane.specs.steps.Mends.{
   Side,
   Above,

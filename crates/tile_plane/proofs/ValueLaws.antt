@@ -1,13 +1,8 @@
 -- The value at a square is that of the tile that has it.
-use Rattle.std.proofs.Common.{◌≡◌, inl, inr, Bool, true, false, if◌then◌else◌, ℕ, List, [], ◌∷◌, refl, sym, ◌∙◌, ap, subst}
+use Rattle.tile_plane.proofs.Common.{◌≡◌, inl, inr, Bool, true, false, if◌then◌else◌, ℕ, List, [], ◌∷◌, refl, sym, ◌∙◌, ap, subst, In, Square, Rect}
+use Rattle.tile_plane.proofs.Common.{Covers, is_covered, plane_range, AreSame, Tiles, tile_at, Owns, IsPartition, value_among, value_at}
 use Rattle.std.specs.FinMap as fin_map
-use Rattle.geo_core.specs.FiniteSets.Lists.{In}
-use Rattle.geo_core.specs.declared.squares.Square.{Square}
-use Rattle.geo_core.specs.declared.squares.Rect.{Rect}
-use Rattle.geo_core.specs.Covering.{Covers, is_covered}
-use Rattle.geo_core.specs.Planes.{plane_range, AreSame}
 use Rattle.geo_core.proofs.CoveringLaws.{Covers-is_covered, is_covered-Covers}
-use Rattle.tile_plane.specs.Tiles.{Tiles, tile_at, Owns, IsPartition, value_among, value_at}
 use Rattle.tile_plane.proofs.TileLaws.{owner_taken, taken_in_keys}
 use Rattle.tile_plane.proofs.HandLaws.{covers_or_not, owned_in_range}
 

@@ -1,17 +1,9 @@
 -- Walks from tile to tile: each step is nearer to the end, and a walk along the side of a tile keeps to it.
-use Rattle.std.proofs.Common.{◌≡◌, ℕ, ◌<◌, ℤ, pos, ◌+ℤ◌, ◌-ℤ◌, ◌≤ℤ◌, ◌<ℤ◌, FitsSigned, w64, to_z, of_z, refl, ap, subst, arith}
-use Rattle.std.proofs.lemmas.Int.{ints, by_lt_z, to_z-of_z}
-use Rattle.geo_core.specs.FiniteSets.Range.{extent}
+use Rattle.tile_plane.proofs.Common.{◌≡◌, ℕ, ◌<◌, ℤ, pos, ◌+ℤ◌, ◌-ℤ◌, ◌≤ℤ◌, ◌<ℤ◌, FitsSigned, w64, to_z, of_z, refl, ap, subst, arith, ints, by_lt_z}
+use Rattle.tile_plane.proofs.Common.{to_z-of_z, extent, Rect, LiesWithin, Covers, IsProper, plane_range, Tile, Tiles, tile_at, IsTaken, Owns, Leads}
+use Rattle.tile_plane.proofs.Common.{IsPartition, HasStitches, square_at, Side, Above, Right, Below, Left, stitch_of, square_of, along, GoesOn}
+use Rattle.tile_plane.proofs.Common.{HasLine, first_of, square_beside, IsShort, IsLast}
 use Rattle.geo_core.proofs.FiniteSets.Ranges.{extent_up, extent_none}
-use Rattle.geo_core.specs.declared.squares.Rect.{Rect}
-use Rattle.geo_core.specs.Areas.{LiesWithin}
-use Rattle.geo_core.specs.Covering.{Covers, IsProper}
-use Rattle.geo_core.specs.Planes.{plane_range}
-use Rattle.tile_plane.specs.declared.tiles.Tile.{Tile}
-use Rattle.tile_plane.specs.Tiles.{Tiles, tile_at, IsTaken, Owns, Leads, IsPartition, HasStitches}
-use Rattle.tile_plane.specs.Walks.{square_at}
-use Rattle.tile_plane.specs.steps.Mends.{Side, Above, Right, Below, Left, stitch_of, square_of}
-use Rattle.tile_plane.specs.steps.Sides.{along, GoesOn, HasLine, first_of, square_beside, IsShort, IsLast}
 use Rattle.tile_plane.proofs.TileLaws.{owner_taken}
 use Rattle.tile_plane.proofs.SideLaws.{beside_right, beside_above, beside_left, beside_below}
 use Rattle.tile_plane.proofs.BesideLaws.{next_beside}

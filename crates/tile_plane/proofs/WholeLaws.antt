@@ -1,27 +1,16 @@
 -- Lists of all tiles of a value, and the smallest rectangle round all that have one.
-use Rattle.std.proofs.Common.{◌≡◌, ◌≢◌, ◌⊎◌, inl, inr, ℕ, ◌+◌, ◌<◌, ◌≤◌, ℤ, List, [], ◌∷◌, ◌++◌, length, map, get_or, false, Option, Some, None}
-use Rattle.std.proofs.Common.{sym, ◌∙◌, ap, subst, arith}
-use Rattle.std.specs.Prelude.{All, AllPairs, IsPermutation}
-use Rattle.std.specs.List.Sorted.{IsSortedByKey}
+use Rattle.tile_plane.proofs.Common.{◌≡◌, ◌≢◌, ◌⊎◌, inl, inr, ℕ, ◌+◌, ◌<◌, ◌≤◌, ℤ, List, [], ◌∷◌, ◌++◌, length, map, get_or, false, Option, Some}
+use Rattle.tile_plane.proofs.Common.{None, sym, ◌∙◌, ap, subst, arith, All, AllPairs, IsPermutation, IsSortedByKey, cases_eq, ints, map-append}
+use Rattle.tile_plane.proofs.Common.{IsPermutation-sym, In, Lists, In-get_or, AllPairs-permutation, Square, Rect, Piece, AreDisjoint, IsNear}
+use Rattle.tile_plane.proofs.Common.{LiesWithin, corner_of, joined_rect, IsProper, HasValue, IsBox, IsStrip, IsStrips, corner_key, pair_cmp}
+use Rattle.tile_plane.proofs.Common.{sorted_by_corner, Tiles, tile_at, IsTaken, Owns, IsAfter, IsNextTile, value_at, inner_range, IsPlane}
 use Rattle.std.specs.Ordering.{is_lt}
-use Rattle.std.proofs.lemmas.Bool.{cases_lt, cases_eq}
-use Rattle.std.proofs.lemmas.Int.{ints}
-use Rattle.std.proofs.lemmas.List.{get_or-map, length-map, map-append}
-use Rattle.std.proofs.lemmas.List.Sorted.{IsPermutation-sym}
-use Rattle.geo_core.specs.FiniteSets.Lists.{In, Lists}
-use Rattle.geo_core.proofs.FiniteSets.Members.{In-map, In-map_source, In-get_or, In-permutation}
-use Rattle.geo_core.proofs.FiniteSets.Pairs.{AllPairs-from_Pairwise, AllPairs-permutation}
-use Rattle.geo_core.specs.declared.squares.Square.{Square}
-use Rattle.geo_core.specs.declared.squares.Rect.{Rect}
-use Rattle.geo_core.specs.declared.squares.Piece.{Piece}
-use Rattle.geo_core.specs.Areas.{AreDisjoint, IsNear, LiesWithin, corner_of, joined_rect}
-use Rattle.geo_core.specs.Covering.{IsProper}
-use Rattle.geo_core.specs.Planes.{HasValue, IsBox}
-use Rattle.geo_core.specs.Strips.{IsStrip, IsStrips, StandsBefore}
-use Rattle.geo_core.proofs.CornerLaws.{corner_key, pair_cmp, sorted_by_corner}
+use Rattle.std.proofs.lemmas.Bool.{cases_lt}
+use Rattle.std.proofs.lemmas.List.{get_or-map, length-map}
+use Rattle.geo_core.proofs.FiniteSets.Members.{In-map, In-map_source, In-permutation}
+use Rattle.geo_core.proofs.FiniteSets.Pairs.{AllPairs-from_Pairwise}
+use Rattle.geo_core.specs.Strips.{StandsBefore}
 use Rattle.geo_core.proofs.CoveringLaws.{joined_within, within_trans, within_joined_first, within_joined_second, within_covers}
-use Rattle.tile_plane.specs.Tiles.{Tiles, tile_at, IsTaken, Owns, IsAfter, IsNextTile, value_at}
-use Rattle.tile_plane.specs.Contents.{inner_range, IsPlane}
 use Rattle.tile_plane.proofs.TileLaws.{owner_taken}
 use Rattle.tile_plane.proofs.ValueLaws.{value_of_owner}
 use Rattle.tile_plane.proofs.FollowerLaws.{lists_push, lists_same}

@@ -1,26 +1,12 @@
 -- The transistors of the flat circuit are those of the flat layout, by their owners.
-use Rattle.std.proofs.Common.{◌≡◌, ◌+◌, ◌≤◌, ℕ, zero, suc, List, [], ◌∷◌, ◌++◌, inl, inr, refl, sym, subst, arith}
-use Rattle.std.specs.Prelude.{IsTrue, Some, slice_get}
-use Rattle.finite_sets.specs.Lists.{In}
-use Rattle.finite_sets.proofs.Members.{In-append_cases, In-append_left, In-append_right}
-use Rattle.finite_sets.proofs.Pairs.{AllPairs-from_Pairwise, Pairwise, Pairwise-append}
+use Rattle.tree_circuits.proofs.Common.{◌≡◌, ◌≤◌, ℕ, zero, suc, List, [], ◌∷◌, ◌++◌, inl, inr, refl, sym, subst, arith, IsTrue, Some, slice_get, In}
+use Rattle.tree_circuits.proofs.Common.{In-append_cases, In-append_left, In-append_right, Pairwise, AreOneForOne, RawTech, is_channel, IsWellFormed}
+use Rattle.tree_circuits.proofs.Common.{FetRec, NodeRec, Place, AreOneChannel, place_back, Element, AreFlatFets, fets_in, fets_of, flat_layout}
+use Rattle.tree_circuits.proofs.Common.{NamedTree, NamedStanding, named_standings, place_forth, above_from_back, AreFlatFetRecords, IsFetBefore}
+use Rattle.tree_circuits.proofs.Common.{IsFlatFetRecord, IsOwnedFet, OwnedFet, OwnsItsChannels}
+use Rattle.std.proofs.Common.{◌+◌}
+use Rattle.finite_sets.proofs.Pairs.{AllPairs-from_Pairwise, Pairwise-append}
 use Rattle.finite_sets.proofs.OneForOne.{AreOneForOne-append, AreOneForOne-length}
-use Rattle.finite_sets.specs.OneForOne.{AreOneForOne}
-use Rattle.tree_names.specs.TechModel.declared.raw.RawTech.{RawTech}
-use Rattle.tree_names.specs.TechModel.ChannelRoles.{is_channel}
-use Rattle.tree_names.specs.TechModel.WellFormed.{IsWellFormed}
-use Rattle.tree_names.specs.ExtModel.declared.records.FetRec.{FetRec}
-use Rattle.tree_names.specs.ExtModel.declared.records.NodeRec.{NodeRec}
-use Rattle.tree_names.specs.LayoutModel.Places.{Place}
-use Rattle.tree_names.specs.LayoutModel.Transistors.{AreOneChannel}
-use Rattle.tree_names.specs.LayoutModel.CellTrees.{place_back}
-use Rattle.tree_names.specs.CircuitModel.Elements.{Element}
-use Rattle.tree_names.specs.CircuitModel.FlatFets.{AreFlatFets, fets_in, fets_of}
-use Rattle.tree_names.specs.TreeRecords.FlatLayouts.{flat_layout}
-use Rattle.tree_names.specs.TreeRecords.NamedTrees.{NamedTree, NamedStanding, named_standings, place_forth}
-use Rattle.tree_names.proofs.TreeRecords.MoveLaws.{above_from_back}
-use Rattle.tree_names.specs.TreeRecords.TreeCircuits.{AreFlatFetRecords, IsFetBefore, IsFlatFetRecord, IsOwnedFet, OwnedFet}
-use Rattle.tree_circuits.specs.Channels.{OwnsItsChannels}
 use Rattle.tree_circuits.proofs.FetElements.{GiveFlatNames, HasFetsOf}
 use Rattle.tree_circuits.proofs.OwnedFets.{AreOwned, owned_fets}
 use Rattle.tree_circuits.proofs.Zipped.{split_flats, zip_at}

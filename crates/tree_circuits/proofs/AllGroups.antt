@@ -1,30 +1,11 @@
 -- All groups of a cell, those that its merges tell of and those of one member that add nothing.
-use Rattle.std.proofs.Common.{◌≡◌, ◌⊎◌, ℕ, ℤ, pos, ◌+ℤ◌, Bool, cond, List, [], ◌∷◌, ◌++◌, map, inl, inr, refl, sym, ◌∙◌, ap, subst, arith}
-use Rattle.std.specs.List.{flat_map}
-use Rattle.std.specs.Str.{bytes_eq}
-use Rattle.std.proofs.lemmas.Bool.{cases_Bool}
-use Rattle.std.proofs.lemmas.Int.{ints}
-use Rattle.std.proofs.lemmas.List.{map-append}
-use Rattle.std.proofs.lemmas.Slice.Eq.{bytes_eq-Decides}
-use Rattle.finite_sets.specs.Lists.{In, Distinct}
-use Rattle.finite_sets.specs.Total.{sum_on}
-use Rattle.finite_sets.proofs.Distincts.{Distinct-append}
-use Rattle.finite_sets.proofs.Members.{In-append_cases, In-append_left, In-append_right, In-map_source}
-use Rattle.finite_sets.proofs.Pairs.{Pairwise, Pairwise-from_AllPairs}
-use Rattle.finite_sets.proofs.Sums.{sum_on-append, sum_on-nothing}
-use Rattle.finite_sets.proofs.Images.{In-flat_map, In-flat_map_source}
-use Rattle.tree_names.specs.TechModel.declared.raw.RawTech.{RawTech}
-use Rattle.tree_names.specs.ExtModel.declared.records.MergeRec.{MergeRec}
-use Rattle.tree_names.specs.LayoutModel.Layouts.{IsMaterial}
-use Rattle.tree_names.specs.LayoutModel.Places.{Place}
-use Rattle.tree_names.specs.LayoutModel.Technologies.{rules_of}
+use Rattle.tree_circuits.proofs.Common.{◌≡◌, ◌⊎◌, ℕ, ℤ, pos, ◌+ℤ◌, Bool, cond, List, [], ◌∷◌, ◌++◌, map, inl, inr, refl, sym, ◌∙◌, ap, subst, arith}
+use Rattle.tree_circuits.proofs.Common.{flat_map, bytes_eq, cases_Bool, ints, map-append, bytes_eq-Decides, In, Distinct, sum_on, Distinct-append}
+use Rattle.tree_circuits.proofs.Common.{In-append_cases, In-append_left, In-append_right, In-map_source, Pairwise, Pairwise-from_AllPairs}
+use Rattle.tree_circuits.proofs.Common.{sum_on-append, sum_on-nothing, In-flat_map, In-flat_map_source, RawTech, MergeRec, IsMaterial, Place}
+use Rattle.tree_circuits.proofs.Common.{rules_of, flat_layout, AreOneGroup, IsGroupName, IsMemberAt, NamedTree, RecordedQuantity, group_name_is}
 use Rattle.tree_names.specs.TreeRecords.FetRecords.{IsNameBefore}
-use Rattle.tree_names.specs.TreeRecords.FlatLayouts.{flat_layout}
-use Rattle.tree_names.specs.TreeRecords.MemberGroups.{AreOneGroup, IsGroupName, IsMemberAt}
-use Rattle.tree_names.specs.TreeRecords.NamedTrees.{NamedTree}
 use Rattle.tree_names.specs.TreeRecords.Merges.{AreGroupMerges, MemberGroup, IsMemberGroup, HasGroupIn, group_name, group_merges}
-use Rattle.tree_circuits.specs.TreeSums.{RecordedQuantity}
-use Rattle.tree_names.proofs.GroupNames.{group_name_is}
 use Rattle.tree_circuits.proofs.RecordedQuantities.{IsRecordedQuantity, amount_of}
 use Rattle.tree_circuits.proofs.GroupShares.{IsShared, shares_of, merges_passing, merges_of_group, cond_nothing}
 use Rattle.tree_names.proofs.FullNames.ListOrders.{not_before_itself}

@@ -1,28 +1,14 @@
 -- What the groups of elements' cells have, as members of the cell above.
-use Rattle.std.proofs.Common.{◌≡◌, ℕ, ℤ, pos, ◌+ℤ◌, Bool, cond, List, [], ◌∷◌, ◌++◌, map, inl, inr, refl, sym, ◌∙◌, ap, subst}
-use Rattle.std.proofs.lemmas.List.{map-append}
-use Rattle.finite_sets.specs.Lists.{In, Distinct}
-use Rattle.finite_sets.proofs.Distincts.{Distinct-append}
-use Rattle.finite_sets.proofs.Members.{In-append_cases, In-append_left, In-append_right, In-map, In-map_source}
-use Rattle.finite_sets.proofs.Sums.{sum_on-append, sum_on-map}
-use Rattle.finite_sets.proofs.Totals.{Total-unique}
-use Rattle.tree_names.specs.TechModel.declared.raw.RawTech.{RawTech}
-use Rattle.tree_names.specs.ExtModel.NodeNames.{slashes_in}
-use Rattle.tree_names.specs.ExtModel.Paths.{path_text}
-use Rattle.tree_names.specs.ExtModel.declared.records.CellExt.{CellExt}
-use Rattle.geo_core.specs.declared.transforms.Transform.{Transform}
-use Rattle.tree_names.specs.LayoutModel.Places.{Place}
-use Rattle.tree_names.specs.LayoutModel.CellTrees.{place_back}
-use Rattle.tree_names.specs.TreeRecords.FlatLayouts.{flat_layout}
-use Rattle.tree_names.specs.TreeRecords.MemberGroups.{IsGroupName, IsMemberBelow}
-use Rattle.tree_names.specs.TreeRecords.NamedTrees.{NamedTree, NamedElements, place_forth}
-use Rattle.tree_names.specs.TreeRecords.NamedTrees.NamedElements.{no_more, element_then}
-use Rattle.tree_names.proofs.TreeRecords.MoveLaws.{back_from_above}
-use Rattle.tree_names.specs.TreeRecords.PlaceWeights.{PlaceWeight, IsGroupTotal, IsTotalBelow}
-use Rattle.tree_names.specs.CleanTrees.{ids_in, HaveElementNames}
-use Rattle.tree_names.proofs.GroupNames.{member_begins}
+use Rattle.tree_circuits.proofs.Common.{◌≡◌, ℕ, ℤ, pos, ◌+ℤ◌, Bool, cond, List, [], ◌∷◌, ◌++◌, map, inl, inr, refl, sym, ◌∙◌, ap, subst, map-append}
+use Rattle.tree_circuits.proofs.Common.{In, Distinct, Distinct-append, In-append_cases, In-append_left, In-append_right, In-map, In-map_source}
+use Rattle.tree_circuits.proofs.Common.{sum_on-append, sum_on-map, Total-unique, RawTech, slashes_in, path_text, CellExt, Transform, Place}
+use Rattle.tree_circuits.proofs.Common.{place_back, flat_layout, IsGroupName, IsMemberBelow, NamedTree, NamedElements, place_forth, no_more}
+use Rattle.tree_circuits.proofs.Common.{element_then, back_from_above, PlaceWeight, IsGroupTotal, ids_in, member_begins, RecordedQuantity}
+use Rattle.tree_circuits.proofs.Common.{IsOfGroups, AreOfGroups, AreGroupTotals, sum_passing}
+use Rattle.tree_names.specs.TreeRecords.PlaceWeights.{IsTotalBelow}
+use Rattle.tree_names.specs.CleanTrees.{HaveElementNames}
 use Rattle.tree_names.proofs.Paths.{begins_once, one_split}
-use Rattle.tree_circuits.specs.TreeSums.{RecordedQuantity, tree_sum, tree_sum_below, IsOfGroups, AreOfGroups, AreGroupTotals, sum_passing}
+use Rattle.tree_circuits.specs.TreeSums.{tree_sum, tree_sum_below}
 use Rattle.tree_circuits.proofs.NamedSums.{names_in}
 
 -- The groups of a cell with what they have, which is what the records at and below it have.

@@ -1,32 +1,17 @@
 -- The groups of a cell have what its members and its merges have.
-use Rattle.std.proofs.Common.{◌≡◌, ℕ, ℤ, pos, ◌+ℤ◌, Bool, cond, List, [], ◌∷◌, ◌++◌, inl, inr, refl, sym, ◌∙◌, ap, subst, arith}
-use Rattle.std.specs.List.{flat_map}
-use Rattle.std.proofs.lemmas.Int.{ints}
-use Rattle.std.proofs.lemmas.List.{map-append}
-use Rattle.finite_sets.specs.Lists.{In, Distinct}
-use Rattle.finite_sets.proofs.Chains.{Chain-append}
-use Rattle.finite_sets.proofs.Distincts.{Distinct-append}
-use Rattle.finite_sets.proofs.Members.{In-append_cases, In-append_left, In-append_right, In-map, In-map_source}
-use Rattle.finite_sets.proofs.Sums.{sum_on-append, sum_on-map}
-use Rattle.finite_sets.proofs.Images.{In-flat_map, In-flat_map_source}
-use Rattle.tree_names.specs.TechModel.declared.raw.RawTech.{RawTech}
-use Rattle.tree_names.specs.TechModel.Rules.{KeepsRules}
-use Rattle.tree_names.specs.TechModel.WellFormed.{IsWellFormed}
-use Rattle.tree_names.specs.ExtModel.declared.records.CellExt.{CellExt}
-use Rattle.tree_names.specs.ExtModel.declared.records.NodeRec.{NodeRec}
-use Rattle.tree_names.specs.LayoutModel.Places.{Place}
-use Rattle.tree_names.specs.TreeRecords.FetRecords.{IsOfNode}
-use Rattle.tree_names.specs.TreeRecords.MemberGroups.{IsGroupName, IsMemberAt, IsMemberBelow}
-use Rattle.tree_names.specs.TreeRecords.NamedTrees.{NamedTree, NamedElements, OwnBody}
-use Rattle.tree_names.specs.TreeRecords.NamedTrees.NamedTree.{named_tree}
-use Rattle.tree_names.specs.TreeRecords.PlaceWeights.{IsGroupTotal, IsMemberTotal}
+use Rattle.tree_circuits.proofs.Common.{◌≡◌, ℕ, ℤ, pos, ◌+ℤ◌, Bool, cond, List, [], ◌∷◌, ◌++◌, inl, inr, refl, sym, ◌∙◌, ap, subst, arith, flat_map}
+use Rattle.tree_circuits.proofs.Common.{ints, map-append, In, Distinct, Chain-append, Distinct-append, In-append_cases, In-append_left}
+use Rattle.tree_circuits.proofs.Common.{In-append_right, In-map, In-map_source, sum_on-append, sum_on-map, In-flat_map, In-flat_map_source, RawTech}
+use Rattle.tree_circuits.proofs.Common.{KeepsRules, IsWellFormed, CellExt, NodeRec, Place, IsOfNode, IsGroupName, IsMemberAt, IsMemberBelow}
+use Rattle.tree_circuits.proofs.Common.{NamedTree, NamedElements, OwnBody, named_tree, IsGroupTotal, IsCleanTree, ids_in, member_begins}
+use Rattle.tree_circuits.proofs.Common.{RecordedQuantity, IsOfGroups, AreGroupTotals, sum_passing}
+use Rattle.tree_names.specs.TreeRecords.PlaceWeights.{IsMemberTotal}
 use Rattle.tree_names.specs.TreeRecords.TreeRecords.{HasTreeRecord}
-use Rattle.tree_names.specs.CleanTrees.{IsCleanTree, ids_in}
-use Rattle.tree_names.proofs.GroupNames.{group_name_along, member_begins, members_together, one_group, one_group_name}
+use Rattle.tree_names.proofs.GroupNames.{group_name_along, members_together, one_group, one_group_name}
 use Rattle.tree_names.proofs.GroupNodes.{group_back}
 use Rattle.tree_names.proofs.OwnNames.{goes_by_own, own_name_whole}
 use Rattle.tree_names.proofs.Paths.{begins_with_slash}
-use Rattle.tree_circuits.specs.TreeSums.{RecordedQuantity, tree_sum, tree_sum_below, found_sum, IsOfGroups, NamesGroup, AreGroupTotals, sum_passing}
+use Rattle.tree_circuits.specs.TreeSums.{tree_sum, tree_sum_below, found_sum, NamesGroup}
 use Rattle.tree_circuits.proofs.AllGroups.{AllShares, all_shares, shared_names}
 use Rattle.tree_circuits.proofs.BelowSums.{Closed, ClosedBelow, total_has_place}
 use Rattle.tree_circuits.proofs.RecordedQuantities.{IsRecordedQuantity}

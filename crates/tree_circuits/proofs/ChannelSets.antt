@@ -1,25 +1,11 @@
 -- The sets of one channel of the flat layout are those of the cells as they stand.
-use Rattle.std.proofs.Common.{◌≡◌, ◌↔◌, ℕ, ℤ, pos, refl, sym, ◌∙◌, ap, subst}
-use Rattle.std.specs.Prelude.{IsTrue, Some, slice_get}
-use Rattle.finite_sets.specs.Chain.Chain.{stay}
-use Rattle.finite_sets.specs.Total.{Total}
-use Rattle.finite_sets.proofs.Chains.{Chain-append, Chain-back}
-use Rattle.finite_sets.proofs.Leasts.{IsLeast-iff}
-use Rattle.finite_sets.proofs.Totals.{Total-iff}
-use Rattle.tree_names.specs.TechModel.declared.raw.RawTech.{RawTech}
-use Rattle.tree_names.specs.TechModel.ChannelRoles.{is_channel}
-use Rattle.geo_core.specs.declared.transforms.Transform.{Transform}
-use Rattle.tree_names.specs.LayoutModel.EdgeCounts.{IsEdgeCount}
-use Rattle.tree_names.specs.LayoutModel.Layouts.{Layout}
-use Rattle.tree_names.specs.LayoutModel.Places.{Place, IsNoLater}
-use Rattle.tree_names.specs.LayoutModel.Transistors.{AreOneChannel}
+use Rattle.tree_circuits.proofs.Common.{◌≡◌, ◌↔◌, ℕ, ℤ, pos, refl, sym, ◌∙◌, ap, subst, IsTrue, Some, slice_get, stay, Total, Chain-append}
+use Rattle.tree_circuits.proofs.Common.{IsLeast-iff, Total-iff, RawTech, is_channel, Transform, IsEdgeCount, Layout, Place, IsNoLater, AreOneChannel}
+use Rattle.tree_circuits.proofs.Common.{place_back, flat_layout, NamedTree, NamedStanding, named_standings, place_forth, above_from_back}
+use Rattle.tree_circuits.proofs.Common.{back_from_above, ChannelSet, IsChannelPerimeter, IsChannelSet, KeepsChannels, OwnsItsChannels}
+use Rattle.finite_sets.proofs.Chains.{Chain-back}
 use Rattle.tree_names.proofs.LayoutModel.PlaceLaws.{AreNeighbours-sym}
-use Rattle.tree_names.specs.LayoutModel.CellTrees.{place_back}
-use Rattle.tree_names.specs.TreeRecords.FlatLayouts.{flat_layout}
-use Rattle.tree_names.specs.TreeRecords.NamedTrees.{NamedTree, NamedStanding, named_standings, place_forth}
-use Rattle.tree_names.proofs.TreeRecords.MoveLaws.{above_from_back, back_from_above}
-use Rattle.tree_circuits.specs.Channels.{ChannelSet, GoesTo, HasSetAbove, HasSetBelow, IsChannelPerimeter}
-use Rattle.tree_circuits.specs.Channels.{IsChannelSet, KeepsChannels, OwnsItsChannels}
+use Rattle.tree_circuits.specs.Channels.{GoesTo, HasSetAbove, HasSetBelow}
 use Rattle.tree_circuits.proofs.LeastPlaces.{least_place}
 use Rattle.tree_circuits.proofs.MovedSets.{edges_moved, AreMoved}
 use Rattle.tree_circuits.proofs.SameChannels.{one_type, same_set, set_back}

@@ -1,22 +1,10 @@
 -- The sums over the records of a tree close.
-use Rattle.std.proofs.Common.{◌≡◌, ℕ, ℤ, Bool, List, subst, sym}
-use Rattle.finite_sets.specs.Lists.{Distinct}
-use Rattle.finite_sets.proofs.Totals.{Total-unique}
-use Rattle.tree_names.specs.TechModel.declared.raw.RawTech.{RawTech}
-use Rattle.tree_names.specs.TechModel.Rules.{KeepsRules}
-use Rattle.tree_names.specs.TechModel.WellFormed.{IsWellFormed}
-use Rattle.tree_names.specs.ExtModel.declared.records.CellExt.{CellExt}
-use Rattle.tree_names.specs.TreeRecords.FlatLayouts.{flat_layout}
-use Rattle.tree_names.specs.TreeRecords.MemberGroups.{IsGroupName}
-use Rattle.tree_names.specs.TreeRecords.NamedTrees.{NamedTree, NamedElements}
-use Rattle.tree_names.specs.TreeRecords.NamedTrees.NamedTree.{named_tree}
-use Rattle.tree_names.specs.TreeRecords.NamedTrees.NamedElements.{no_more, element_then}
-use Rattle.tree_names.specs.TreeRecords.PlaceWeights.{IsGroupTotal}
-use Rattle.tree_names.specs.TreeRecords.TreeRecords.{HasTreeRecords, HaveTreeRecords}
-use Rattle.tree_names.specs.CleanTrees.{ids_in, IsCleanTree}
-use Rattle.tree_names.proofs.CleanTrees.{AreCleanTrees, clean_below, clean_first, clean_rest}
+use Rattle.tree_circuits.proofs.Common.{◌≡◌, ℕ, ℤ, Bool, List, subst, sym, Distinct, Total-unique, RawTech, KeepsRules, IsWellFormed, CellExt}
+use Rattle.tree_circuits.proofs.Common.{flat_layout, IsGroupName, NamedTree, NamedElements, named_tree, no_more, element_then, IsGroupTotal}
+use Rattle.tree_circuits.proofs.Common.{HasTreeRecords, ids_in, IsCleanTree, AreCleanTrees, clean_below, clean_first, clean_rest, RecordedQuantity}
+use Rattle.tree_circuits.proofs.Common.{recorded_cap, recorded_area, recorded_perimeter, AreGroupTotals, sum_passing}
+use Rattle.tree_names.specs.TreeRecords.TreeRecords.{HaveTreeRecords}
 use Rattle.tree_circuits.specs.SumLaws.{HoldsOfEach, HasClosedSums}
-use Rattle.tree_circuits.specs.TreeSums.{RecordedQuantity, recorded_cap, recorded_area, recorded_perimeter, AreGroupTotals, sum_passing}
 use Rattle.tree_circuits.proofs.BelowSums.{Closed, ClosedBelow, none_below, element_below}
 use Rattle.tree_circuits.proofs.CellSums.{cell_closes}
 use Rattle.tree_circuits.proofs.RecordedQuantities.{IsRecordedQuantity, cap_is_recorded, area_is_recorded, perimeter_is_recorded}

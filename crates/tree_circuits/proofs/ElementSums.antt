@@ -1,26 +1,12 @@
 -- What the elements of records have is what the tree's records have.
-use Rattle.std.proofs.Common.{◌≡◌, ◌≤◌, ℕ, ℤ, pos, ◌+ℤ◌, Bool, cond, List, [], ◌∷◌, map, Some, refl, sym, ◌∙◌, ap}
-use Rattle.finite_sets.specs.Total.{sum_on}
-use Rattle.finite_sets.proofs.Sums.{sum_on-append, sum_on-map, sum_on-same}
-use Rattle.finite_sets.specs.OneForOne.{AreOneForOne}
-use Rattle.tree_names.specs.TechModel.declared.raw.RawTech.{RawTech}
-use Rattle.tree_names.specs.ExtModel.Paths.{full_name, path_text}
-use Rattle.tree_names.specs.ExtModel.declared.records.CellExt.{CellExt}
-use Rattle.tree_names.specs.ExtModel.declared.records.MergeRec.{MergeRec}
-use Rattle.tree_names.specs.ExtModel.declared.records.NodeRec.{NodeRec}
-use Rattle.tree_names.specs.CircuitModel.declared.limits.TheConstants.{LONGEST_CHAIN}
-use Rattle.tree_names.specs.CircuitModel.Elements.{Element, elements_of, ext_of, ids_of}
-use Rattle.tree_names.specs.CircuitModel.FlatNodes.{has_name, share_of, sum_of}
-use Rattle.tree_names.specs.TreeRecords.NamedTrees.{NamedTree, NamedElements, NamedStanding, named_standings, named_standings_below, own_body, named_above}
-use Rattle.tree_names.specs.TreeRecords.NamedTrees.NamedTree.{named_tree}
-use Rattle.tree_names.specs.TreeRecords.NamedTrees.NamedElements.{no_more, element_then}
-use Rattle.tree_names.specs.TreeRecords.TreeRecords.{HasTreeRecords}
-use Rattle.tree_names.specs.CleanTrees.{depth_of}
-use Rattle.tree_names.specs.TreeElements.{IsElementFor}
-use Rattle.tree_names.proofs.ElementLinks.{full_name-path}
-use Rattle.tree_names.proofs.TreeElements.{elements_for}
-use Rattle.tree_circuits.specs.SumLaws.{is_named}
-use Rattle.tree_circuits.specs.TreeSums.{RecordedQuantity, record_sum, found_sum, tree_sum, tree_sum_below}
+use Rattle.tree_circuits.proofs.Common.{◌≡◌, ◌≤◌, ℕ, ℤ, pos, ◌+ℤ◌, Bool, cond, List, [], ◌∷◌, map, refl, sym, ◌∙◌, ap, sum_on, sum_on-append}
+use Rattle.tree_circuits.proofs.Common.{sum_on-map, sum_on-same, AreOneForOne, RawTech, full_name, path_text, CellExt, MergeRec, NodeRec}
+use Rattle.tree_circuits.proofs.Common.{LONGEST_CHAIN, Element, elements_of, ext_of, ids_of, has_name, NamedTree, NamedElements, NamedStanding}
+use Rattle.tree_circuits.proofs.Common.{named_standings, named_standings_below, own_body, named_above, named_tree, no_more, element_then}
+use Rattle.tree_circuits.proofs.Common.{HasTreeRecords, depth_of, IsElementFor, full_name-path, elements_for, is_named, RecordedQuantity}
+use Rattle.std.proofs.Common.{Some}
+use Rattle.tree_names.specs.CircuitModel.FlatNodes.{share_of, sum_of}
+use Rattle.tree_circuits.specs.TreeSums.{record_sum, found_sum, tree_sum, tree_sum_below}
 
 -- sums over lists that go along with each other
 sum_on-along : {X Y : Type 0} (R : X → Y → Type 0) (v : X → ℤ) (w : Y → ℤ) → ((x : X) (y : Y) → R x y → v x ≡ w y) → (xs : List X) (ys : List Y)

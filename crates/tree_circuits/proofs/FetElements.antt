@@ -1,15 +1,7 @@
 -- The elements of a tree of records as cells that stand, so far as transistors are concerned.
-use Rattle.std.specs.Prelude.{◌≡◌, ℕ, List, Some, slice_get}
-use Rattle.geo_core.specs.declared.squares.Square.{Square}
-use Rattle.geo_core.specs.Images.{image}
-use Rattle.tree_names.specs.TechModel.declared.raw.RawTech.{RawTech}
-use Rattle.tree_names.specs.ExtModel.declared.records.NodeRec.{NodeRec}
-use Rattle.tree_names.specs.ExtModel.Paths.{full_name}
-use Rattle.tree_names.specs.CircuitModel.Elements.{Element, ids_of, placed}
-use Rattle.tree_names.specs.CircuitModel.FlatFets.{node_name}
-use Rattle.tree_names.specs.TreeRecords.FetRecords.{AreFetRecords, IsNodeBefore}
-use Rattle.tree_names.specs.TreeRecords.NamedTrees.{NamedTree, NamedStanding, named_standings}
-use Rattle.tree_circuits.specs.Terminals.{GivesFlatNames}
+use Rattle.tree_circuits.proofs.Common.{Some, slice_get, Square, image, RawTech, NodeRec, full_name, Element, ids_of, placed, node_name}
+use Rattle.tree_circuits.proofs.Common.{AreFetRecords, IsNodeBefore, NamedTree, NamedStanding, named_standings, GivesFlatNames}
+use Rattle.std.specs.Prelude.{◌≡◌, ℕ, List}
 
 -- The element is the cell as it stands: the same names lead to it, its uses move squares as the cell's transform does, and its record has
 -- the

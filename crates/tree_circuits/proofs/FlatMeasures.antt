@@ -1,32 +1,15 @@
 -- Flat nodes have the measures of the flat layout.
-use Rattle.std.proofs.Common.{◌≡◌, ◌≤◌, ◌<◌, ℕ, zero, suc, ℤ, Some, List, [], ◌∷◌, length, slice_get, refl, sym, ◌∙◌, ap, subst, arith}
-use Rattle.std.proofs.lemmas.List.{length-map}
+use Rattle.tree_circuits.proofs.Common.{◌≡◌, ◌≤◌, ℕ, zero, suc, ℤ, List, [], ◌∷◌, length, refl, sym, ◌∙◌, ap, subst, arith, length-map, In, Total-at}
+use Rattle.tree_circuits.proofs.Common.{RawTech, KeepsRules, IsWellFormed, full_name, names_of, CellExt, NodeRec, Layout, IsArea, IsPerimeter}
+use Rattle.tree_circuits.proofs.Common.{AreMeasures, Place, Class, rules_of, LONGEST_CHAIN, elements_of, ext_of, IsFlatNode, measure_of}
+use Rattle.tree_circuits.proofs.Common.{AreOneFlatNode, HasNodePath, flat_layout, NamedTree, own_body, HasTreeRecords, IsCleanTree, depth_of}
+use Rattle.tree_circuits.proofs.Common.{elements_for, is_named, RecordedQuantity, IsOfGroups}
+use Rattle.std.proofs.Common.{◌<◌, Some, slice_get}
 use Rattle.std.proofs.lemmas.Option.{slice_get_within}
-use Rattle.finite_sets.specs.Lists.{In}
-use Rattle.finite_sets.proofs.Totals.{Total-at}
 use Rattle.tree_names.specs.TechModel.declared.raw.ClassRec.{ClassRec}
-use Rattle.tree_names.specs.TechModel.declared.raw.RawTech.{RawTech}
-use Rattle.tree_names.specs.TechModel.Rules.{KeepsRules}
-use Rattle.tree_names.specs.TechModel.WellFormed.{IsWellFormed}
-use Rattle.tree_names.specs.ExtModel.Paths.{full_name}
-use Rattle.tree_names.specs.ExtModel.RecordNames.{names_of}
-use Rattle.tree_names.specs.ExtModel.declared.records.CellExt.{CellExt}
-use Rattle.tree_names.specs.ExtModel.declared.records.NodeRec.{NodeRec}
-use Rattle.tree_names.specs.LayoutModel.Layouts.{Layout}
-use Rattle.tree_names.specs.LayoutModel.Measures.{IsArea, IsPerimeter}
-use Rattle.tree_names.specs.LayoutModel.Nodes.{AreMeasures}
-use Rattle.tree_names.specs.LayoutModel.Places.{Place}
-use Rattle.tree_names.specs.LayoutModel.Technologies.{Class, class_of, rules_of}
-use Rattle.tree_names.specs.CircuitModel.declared.limits.TheConstants.{LONGEST_CHAIN}
-use Rattle.tree_names.specs.CircuitModel.Elements.{elements_of, ext_of}
-use Rattle.tree_names.specs.CircuitModel.FlatNodes.{IsFlatNode, measure_of}
-use Rattle.tree_names.specs.TreeRecords.FlatLayouts.{AreOneFlatNode, HasNodePath, flat_layout}
-use Rattle.tree_names.specs.TreeRecords.NamedTrees.{NamedTree, own_body}
-use Rattle.tree_names.specs.TreeRecords.TreeRecords.{HasTreeRecords}
-use Rattle.tree_names.specs.CleanTrees.{IsCleanTree, depth_of}
-use Rattle.tree_names.proofs.TreeElements.{elements_for, record_is, top_record}
-use Rattle.tree_circuits.specs.SumLaws.{HoldsOfEach, HasSumOfPlaces, IsMeasured, is_named}
-use Rattle.tree_circuits.specs.TreeSums.{RecordedQuantity, IsOfGroups}
+use Rattle.tree_names.specs.LayoutModel.Technologies.{class_of}
+use Rattle.tree_names.proofs.TreeElements.{record_is, top_record}
+use Rattle.tree_circuits.specs.SumLaws.{HoldsOfEach, HasSumOfPlaces, IsMeasured}
 use Rattle.tree_circuits.proofs.ClosedSums.{clean_tree_closes, of_each}
 use Rattle.tree_circuits.proofs.RecordedQuantities.{IsRecordedQuantity, capacitance_on}
 use Rattle.tree_circuits.proofs.ElementSums.{elements_have}

@@ -1,27 +1,11 @@
 -- The nodes that records mean are the nodes of the flat layout.
-use Rattle.std.proofs.Common.{◌≡◌, ◌≤◌, List, [], refl, length}
-use Rattle.std.specs.Prelude.{Some}
-use Rattle.finite_sets.specs.Chain.Chain.{stay}
-use Rattle.finite_sets.specs.Lists.{In}
-use Rattle.tree_names.specs.TechModel.declared.raw.RawTech.{RawTech}
-use Rattle.tree_names.specs.TechModel.Rules.{KeepsRules}
-use Rattle.tree_names.specs.TechModel.WellFormed.{IsWellFormed}
-use Rattle.tree_names.specs.ExtModel.Paths.{full_name}
-use Rattle.tree_names.specs.ExtModel.declared.records.CellExt.{CellExt}
-use Rattle.tree_names.specs.ExtModel.declared.records.NodeRec.{NodeRec}
-use Rattle.tree_names.specs.LayoutModel.Places.{Place}
-use Rattle.tree_names.specs.CircuitModel.declared.limits.TheConstants.{LONGEST_CHAIN}
-use Rattle.tree_names.specs.CircuitModel.Elements.{elements_of, ext_of}
-use Rattle.tree_names.specs.CircuitModel.FlatNodes.{AreFlatNodes}
-use Rattle.tree_names.specs.TreeRecords.NamedTrees.{NamedTree, own_body}
+use Rattle.tree_circuits.proofs.Common.{◌≡◌, ◌≤◌, List, [], refl, length, Some, stay, In, RawTech, KeepsRules, IsWellFormed, full_name, CellExt}
+use Rattle.tree_circuits.proofs.Common.{NodeRec, Place, LONGEST_CHAIN, elements_of, ext_of, AreFlatNodes, NamedTree, own_body, HasTreeRecords}
+use Rattle.tree_circuits.proofs.Common.{IsCleanTree, depth_of, name_flat_nodes, elements_for}
 use Rattle.tree_names.specs.TreeRecords.TreeCircuits.{IsFlatNodeRecord}
-use Rattle.tree_names.specs.TreeRecords.TreeRecords.{HasTreeRecords}
 use Rattle.tree_names.specs.CircuitNodes.{IsNamedAsFlatNode}
-use Rattle.tree_names.specs.CleanTrees.{IsCleanTree, depth_of}
-use Rattle.tree_names.proofs.CircuitNodes.{name_flat_nodes}
 use Rattle.tree_names.proofs.NodePoints.{point_of}
 use Rattle.tree_names.proofs.RecordedNodes.{some_path}
-use Rattle.tree_names.proofs.TreeElements.{elements_for}
 use Rattle.tree_circuits.specs.SumLaws.{HasFlatNodes}
 use Rattle.tree_circuits.proofs.FlatMeasures.{measured}
 

@@ -1,33 +1,14 @@
 -- The record of one transistor of the flat layout, from that of its owner's.
-use Rattle.std.proofs.Common.{◌≡◌, ℕ, ℤ, pos, List, [], ◌∷◌, map, refl, sym, ◌∙◌, ap, subst}
-use Rattle.std.specs.Prelude.{Some, if◌then◌else◌, slice_get}
-use Rattle.std.specs.Str.{bytes_eq}
-use Rattle.std.proofs.lemmas.Simd.{map-map}
-use Rattle.finite_sets.specs.Lists.{In, Distinct}
-use Rattle.finite_sets.specs.Total.{sum_on}
-use Rattle.finite_sets.proofs.Leasts.{IsLeast-iff}
-use Rattle.finite_sets.proofs.Members.{In-map_source}
-use Rattle.finite_sets.proofs.Sums.{sum_on-map}
-use Rattle.tree_names.specs.TechModel.declared.raw.RawTech.{RawTech}
-use Rattle.tree_names.specs.TechModel.WellFormed.{IsWellFormed}
-use Rattle.tree_names.specs.ExtModel.declared.records.FetRec.{FetRec}
-use Rattle.tree_names.specs.ExtModel.declared.records.NodeRec.{NodeRec}
+use Rattle.tree_circuits.proofs.Common.{◌≡◌, ℕ, ℤ, pos, List, [], ◌∷◌, map, refl, sym, ◌∙◌, ap, subst, Some, slice_get, bytes_eq, map-map, In}
+use Rattle.tree_circuits.proofs.Common.{Distinct, sum_on, IsLeast-iff, In-map_source, sum_on-map, RawTech, IsWellFormed, FetRec, NodeRec, full_name}
+use Rattle.tree_circuits.proofs.Common.{Place, IsNoLater, AreOneChannel, IsTransistor, gate_length, place_back, Element, ids_of, placed, node_name}
+use Rattle.tree_circuits.proofs.Common.{Distinct-names, pairwise_names, IsFetRecord, IsOfNode, IsOfFlatNode, flat_layout, NamedTree, NamedStanding}
+use Rattle.tree_circuits.proofs.Common.{named_standings, place_forth, above_from_back, IsFlatFetRecord, IsOwnedFet, OwnedFet, OwnsItsChannels}
+use Rattle.tree_circuits.proofs.Common.{AreRenamed, GivesFlatNames, HasTransistorAbove}
+use Rattle.std.specs.Prelude.{if◌then◌else◌}
 use Rattle.tree_names.specs.ExtModel.declared.records.TermRec.{TermRec}
-use Rattle.tree_names.specs.ExtModel.Paths.{full_name}
-use Rattle.tree_names.specs.LayoutModel.Places.{Place, IsNoLater}
-use Rattle.tree_names.specs.LayoutModel.Transistors.{AreOneChannel, IsTransistor, gate_length}
-use Rattle.tree_names.specs.LayoutModel.CellTrees.{place_back}
-use Rattle.tree_names.specs.CircuitModel.Elements.{Element, ids_of, placed}
-use Rattle.tree_names.specs.CircuitModel.FlatFets.{IsFlatFet, node_name, side_name}
-use Rattle.tree_names.proofs.FullNames.ListOrders.{Distinct-names, pairwise_names}
-use Rattle.tree_names.specs.TreeRecords.FetRecords.{IsFetRecord, IsOfNode}
-use Rattle.tree_names.specs.TreeRecords.FlatLayouts.{IsOfFlatNode, flat_layout}
-use Rattle.tree_names.specs.TreeRecords.NamedTrees.{NamedTree, NamedStanding, named_standings, place_forth}
-use Rattle.tree_names.proofs.TreeRecords.MoveLaws.{above_from_back}
-use Rattle.tree_names.specs.TreeRecords.TreeCircuits.{IsFlatFetRecord, IsOwnedFet, OwnedFet}
-use Rattle.tree_circuits.specs.Channels.{OwnsItsChannels}
+use Rattle.tree_names.specs.CircuitModel.FlatFets.{IsFlatFet, side_name}
 use Rattle.tree_circuits.proofs.FetElements.{GiveFlatNames, HasFetsOf}
-use Rattle.tree_circuits.specs.Terminals.{AreRenamed, GivesFlatNames, HasTransistorAbove}
 use Rattle.tree_circuits.proofs.FlatTransistors.{flat_transistor}
 use Rattle.tree_circuits.proofs.RenamedTerminals.{Fet, node_of}
 use Rattle.tree_circuits.proofs.SameChannels.{one_type}

@@ -1,45 +1,21 @@
 -- What the groups whose names a flat node has have together is what the weight is on the flat node's places.
-use Rattle.std.proofs.Common.{◌≡◌, ◌⊎◌, ℕ, ℤ, pos, ◌+ℤ◌, Bool, true, cond, List, [], ◌∷◌, inl, inr, refl, sym, ◌∙◌, ap, subst, arith}
-use Rattle.std.proofs.lemmas.Bool.{cases_Bool, false≢true}
-use Rattle.std.proofs.lemmas.Int.{ints}
-use Rattle.std.proofs.lemmas.Slice.Eq.{bytes_eq-Decides}
-use Rattle.std.specs.Str.{bytes_eq}
-use Rattle.finite_sets.specs.Chain.Chain.{stay, go}
-use Rattle.finite_sets.specs.Lists.{In, Distinct}
-use Rattle.finite_sets.specs.Total.{Total}
-use Rattle.finite_sets.proofs.Chains.{Chain-append, Chain-either_back}
-use Rattle.finite_sets.proofs.Members.{In-map, In-map_source}
-use Rattle.finite_sets.proofs.Totals.{Total-at, Total-iff, Total-none, Total-union}
-use Rattle.finite_sets.proofs.Searches.{In-from_list_any, list_any-of_In}
-use Rattle.finite_sets.specs.OneForOne.{AreOneForOne}
-use Rattle.tree_names.specs.TechModel.declared.raw.RawTech.{RawTech}
-use Rattle.tree_names.specs.TechModel.Rules.{KeepsRules}
-use Rattle.tree_names.specs.TechModel.WellFormed.{IsWellFormed}
-use Rattle.tree_names.specs.ExtModel.Paths.{full_name}
-use Rattle.tree_names.specs.ExtModel.RecordNames.{names_of}
-use Rattle.tree_names.specs.ExtModel.declared.records.CellExt.{CellExt}
-use Rattle.tree_names.specs.ExtModel.declared.records.NodeRec.{NodeRec}
-use Rattle.tree_names.specs.LayoutModel.Places.{Place}
-use Rattle.tree_names.specs.CircuitModel.Elements.{Element}
+use Rattle.tree_circuits.proofs.Common.{◌≡◌, ◌⊎◌, ℕ, ℤ, pos, ◌+ℤ◌, Bool, true, cond, List, [], ◌∷◌, inl, inr, refl, sym, ◌∙◌, ap, subst, arith}
+use Rattle.tree_circuits.proofs.Common.{cases_Bool, ints, bytes_eq-Decides, bytes_eq, stay, go, In, Distinct, Total, Chain-append, In-map}
+use Rattle.tree_circuits.proofs.Common.{In-map_source, Total-at, Total-iff, In-from_list_any, list_any-of_In, AreOneForOne, RawTech, KeepsRules}
+use Rattle.tree_circuits.proofs.Common.{IsWellFormed, full_name, names_of, CellExt, NodeRec, Place, Element, IsFlatNode, flat_layout, AreOneFlatNode}
+use Rattle.tree_circuits.proofs.Common.{HasNodePath, IsGroupName, NamedTree, named_standings, PlaceWeight, IsGroupTotal, HasTreeRecords, IsCleanTree}
+use Rattle.tree_circuits.proofs.Common.{IsElementFor, path_full, flat_node_names, names_one_flat_node, is_named, AreGroupTotals, sum_passing}
+use Rattle.std.proofs.lemmas.Bool.{false≢true}
+use Rattle.finite_sets.proofs.Chains.{Chain-either_back}
+use Rattle.finite_sets.proofs.Totals.{Total-none, Total-union}
 use Rattle.tree_names.specs.CircuitModel.FullNames.{AreLinked}
-use Rattle.tree_names.specs.CircuitModel.FlatNodes.{IsFlatNode}
-use Rattle.tree_names.specs.TreeRecords.FlatLayouts.{flat_layout, AreOneFlatNode, HasNodePath}
-use Rattle.tree_names.specs.TreeRecords.MemberGroups.{IsGroupName}
-use Rattle.tree_names.specs.TreeRecords.NamedTrees.{NamedTree, named_standings}
-use Rattle.tree_names.specs.TreeRecords.PlaceWeights.{PlaceWeight, IsGroupTotal}
-use Rattle.tree_names.specs.TreeRecords.TreeRecords.{HasTreeRecords}
-use Rattle.tree_names.specs.CleanTrees.{IsCleanTree}
-use Rattle.tree_names.specs.TreeElements.{IsElementFor}
-use Rattle.tree_names.proofs.FlatNames.{path_full}
 use Rattle.tree_names.proofs.GroupMerges.{has_group}
 use Rattle.tree_names.proofs.GroupNames.{one_group_name}
 use Rattle.tree_names.proofs.GroupNodes.{flat_node_back, one_flat_node}
-use Rattle.tree_names.proofs.NodeNames.{flat_node_names, linked_path, names_one_flat_node}
+use Rattle.tree_names.proofs.NodeNames.{linked_path}
 use Rattle.tree_names.proofs.RecordedNodes.{path_material}
 use Rattle.tree_names.proofs.Representatives.{group_has_path}
 use Rattle.tree_names.proofs.TreeElements.{top_record}
-use Rattle.tree_circuits.specs.SumLaws.{is_named}
-use Rattle.tree_circuits.specs.TreeSums.{AreGroupTotals, sum_passing}
 use Rattle.tree_circuits.proofs.NamedSums.{names_in}
 
 -- One of the groups of the list has the place, and its name passes.

@@ -1,17 +1,8 @@
 -- The transistors of the cells as they stand, between flat nodes.
-use Rattle.std.proofs.Common.{◌≡◌, ℕ, ℤ, List, refl, sym, subst}
-use Rattle.std.specs.Prelude.{IsTrue, Some, slice_get}
-use Rattle.tree_names.specs.TechModel.declared.raw.RawTech.{RawTech}
-use Rattle.tree_names.specs.TechModel.ChannelRoles.{is_channel}
-use Rattle.tree_names.specs.TechModel.WellFormed.{IsWellFormed}
-use Rattle.tree_names.specs.LayoutModel.Places.{Place}
-use Rattle.tree_names.specs.LayoutModel.Transistors.{AreOneChannel, IsTransistor}
-use Rattle.tree_names.specs.TreeRecords.FetRecords.{IsOfNode}
+use Rattle.tree_circuits.proofs.Common.{◌≡◌, ℕ, ℤ, List, refl, sym, subst, IsTrue, Some, slice_get, RawTech, is_channel, IsWellFormed, Place}
+use Rattle.tree_circuits.proofs.Common.{AreOneChannel, IsTransistor, IsOfNode, IsOfFlatNode, flat_layout, NamedTree, NamedStanding, named_standings}
+use Rattle.tree_circuits.proofs.Common.{OwnsItsChannels, AreRenamed, GivesFlatNames, HasTransistorAbove}
 use Rattle.tree_names.proofs.OwnRecordLaws.PreferredNames.{one_name}
-use Rattle.tree_names.specs.TreeRecords.FlatLayouts.{IsOfFlatNode, flat_layout}
-use Rattle.tree_names.specs.TreeRecords.NamedTrees.{NamedTree, NamedStanding, named_standings}
-use Rattle.tree_circuits.specs.Channels.{OwnsItsChannels}
-use Rattle.tree_circuits.specs.Terminals.{AreRenamed, GivesFlatNames, HasTransistorAbove}
 use Rattle.tree_circuits.proofs.NodesOfChannels.{name_along, one_flat_name}
 use Rattle.tree_circuits.proofs.RenamedTerminals.{Fet, above, above_is, gate_length_above, places_above}
 use Rattle.tree_circuits.proofs.SameChannels.{one_type}

@@ -1,32 +1,15 @@
 -- The node that is found by a full name goes by the name of the flat node.
-use Rattle.std.proofs.Common.{◌≡◌, ℕ, Bool, List, [], refl, sym, subst}
-use Rattle.std.specs.Prelude.{None, Option, Some, find}
-use Rattle.std.proofs.lemmas.Slice.Eq.{bytes_eq-Decides}
-use Rattle.std.specs.Str.{bytes_eq}
-use Rattle.finite_sets.specs.Chain.Chain.{stay}
-use Rattle.finite_sets.specs.Lists.{In}
-use Rattle.finite_sets.proofs.Chains.{Chain-append}
-use Rattle.finite_sets.proofs.Leasts.{IsLeast-iff}
-use Rattle.finite_sets.proofs.Searches.{find-In, find-none, find-passes, In-from_list_any, absent-from_list_any}
-use Rattle.finite_sets.proofs.Places.{In-slice_get}
-use Rattle.tree_names.specs.TechModel.declared.raw.RawTech.{RawTech}
-use Rattle.tree_names.specs.ExtModel.declared.records.NodeRec.{NodeRec}
-use Rattle.tree_names.specs.ExtModel.Paths.{full_name, path_text}
-use Rattle.tree_names.specs.ExtModel.RecordNames.{names_of}
-use Rattle.tree_names.specs.LayoutModel.Layouts.{IsMaterial}
-use Rattle.tree_names.specs.LayoutModel.Places.{Place}
-use Rattle.tree_names.specs.CircuitModel.Elements.{Element}
-use Rattle.tree_names.specs.CircuitModel.FlatFets.{node_name}
-use Rattle.tree_names.specs.CircuitModel.FlatNodes.{has_name}
+use Rattle.tree_circuits.proofs.Common.{◌≡◌, ℕ, Bool, List, [], refl, sym, subst, Some, bytes_eq-Decides, bytes_eq, stay, In, Chain-append}
+use Rattle.tree_circuits.proofs.Common.{IsLeast-iff, In-from_list_any, absent-from_list_any, In-slice_get, RawTech, NodeRec, full_name, path_text}
+use Rattle.tree_circuits.proofs.Common.{names_of, IsMaterial, Place, Element, node_name, has_name, IsNoLaterName, AreOneFlatNode, HasNodePath}
+use Rattle.tree_circuits.proofs.Common.{IsFlatName, IsOfFlatNode, flat_layout, NamedTree, named_standings, place_forth, full_name-path}
+use Rattle.std.specs.Prelude.{None, Option, find}
+use Rattle.finite_sets.proofs.Searches.{find-In, find-none, find-passes}
 use Rattle.tree_names.specs.CircuitModel.FullNames.{AreOneNode}
-use Rattle.tree_names.specs.TreeRecords.FetRecords.{IsNoLaterName}
-use Rattle.tree_names.specs.TreeRecords.FlatLayouts.{AreOneFlatNode, HasNodePath, IsFlatName, IsOfFlatNode, flat_layout}
-use Rattle.tree_names.specs.TreeRecords.NamedTrees.{NamedTree, named_standings, place_forth}
 use Rattle.tree_names.specs.CircuitNodes.{NameFlatNodes}
 use Rattle.tree_names.specs.Laws.{NamesTellFlatNodes}
 use Rattle.tree_names.proofs.GroupNodes.{flat_node_back}
 use Rattle.tree_names.proofs.OwnNames.{goes_by_own}
-use Rattle.tree_names.proofs.ElementLinks.{full_name-path}
 use Rattle.tree_circuits.proofs.FetElements.{GiveFlatNames}
 use Rattle.tree_circuits.proofs.StandingPaths.{standing_path}
 

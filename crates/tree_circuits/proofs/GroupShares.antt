@@ -1,23 +1,13 @@
 -- A group of a cell, with what each member has of a weight, what the group adds, and what it has.
-use Rattle.std.proofs.Common.{◌≡◌, ℕ, ℤ, pos, ◌+ℤ◌, ◌-ℤ◌, Bool, true, false, cond, List, [], ◌∷◌, map, inl, inr, refl, sym, ◌∙◌, ap, subst, arith}
+use Rattle.tree_circuits.proofs.Common.{◌≡◌, ℕ, ℤ, pos, ◌+ℤ◌, ◌-ℤ◌, Bool, true, false, cond, List, [], ◌∷◌, map, inl, inr, refl, sym, ◌∙◌, ap, subst}
+use Rattle.tree_circuits.proofs.Common.{arith, cases_Bool, ints, In, Distinct, sum_on, sum_on-map, sum_on-nothing, RawTech, MergeRec, Place}
+use Rattle.tree_circuits.proofs.Common.{rules_of, IsGroupName, NamedTree, merge_of, PlaceWeight, IsGroupTotal, RecordedQuantity, group_name_is}
+use Rattle.tree_circuits.proofs.Common.{Distinct-names, pairwise_names}
 use Rattle.std.specs.Prelude.{◌↔◌}
-use Rattle.std.proofs.lemmas.Bool.{cases_Bool}
-use Rattle.std.proofs.lemmas.Int.{ints}
-use Rattle.finite_sets.specs.Lists.{In, Distinct}
-use Rattle.finite_sets.specs.Total.{sum_on}
-use Rattle.finite_sets.proofs.Sums.{sum_on-map, sum_on-nothing}
-use Rattle.tree_names.specs.TechModel.declared.raw.RawTech.{RawTech}
-use Rattle.tree_names.specs.ExtModel.declared.records.MergeRec.{MergeRec}
-use Rattle.tree_names.specs.LayoutModel.Places.{Place}
-use Rattle.tree_names.specs.LayoutModel.Technologies.{rules_of}
-use Rattle.tree_names.specs.TreeRecords.MemberGroups.{IsGroupName, IsMemberOf}
-use Rattle.tree_names.specs.TreeRecords.NamedTrees.{NamedTree}
-use Rattle.tree_names.specs.TreeRecords.Merges.{Adjustment, MemberGroup, IsMemberGroup, is_zero_adjustment, group_name, merge_of, group_merges, zero_adjustment}
-use Rattle.tree_names.specs.TreeRecords.PlaceWeights.{PlaceWeight, AreMemberTotals, IsGroupTotal, IsMemberTotal}
-use Rattle.tree_circuits.specs.TreeSums.{RecordedQuantity}
+use Rattle.tree_names.specs.TreeRecords.MemberGroups.{IsMemberOf}
+use Rattle.tree_names.specs.TreeRecords.Merges.{Adjustment, MemberGroup, IsMemberGroup, is_zero_adjustment, group_name, group_merges, zero_adjustment}
+use Rattle.tree_names.specs.TreeRecords.PlaceWeights.{AreMemberTotals, IsMemberTotal}
 use Rattle.tree_circuits.proofs.RecordedQuantities.{IsRecordedQuantity, amount_of}
-use Rattle.tree_names.proofs.GroupNames.{group_name_is}
-use Rattle.tree_names.proofs.FullNames.ListOrders.{Distinct-names, pairwise_names}
 use Rattle.tree_circuits.proofs.Shares.{Shared, AddsTheRest, members_sum}
 use Rattle.tree_circuits.proofs.NamedSums.{names_in}
 

@@ -1,37 +1,17 @@
 -- Tests that say the same of joined paths say the same of members and groups, and the names of a flat node are such a test.
-use Rattle.std.proofs.Common.{◌≡◌, ℕ, Bool, List, [], ◌∷◌, inl, inr, refl, sym, ◌∙◌}
-use Rattle.std.proofs.lemmas.Bool.{cases_Bool}
-use Rattle.std.proofs.lemmas.Slice.Eq.{bytes_eq-Decides}
-use Rattle.std.specs.Str.{bytes_eq}
-use Rattle.finite_sets.specs.Lists.{In}
-use Rattle.finite_sets.proofs.Chains.{Chain-keeps, Chain-push}
-use Rattle.finite_sets.proofs.Searches.{In-from_list_any, absent-from_list_any, list_any-of_In}
-use Rattle.finite_sets.specs.OneForOne.{AreOneForOne}
-use Rattle.tree_names.specs.TechModel.declared.raw.RawTech.{RawTech}
-use Rattle.tree_names.specs.TechModel.Rules.{KeepsRules}
-use Rattle.tree_names.specs.TechModel.WellFormed.{IsWellFormed}
-use Rattle.tree_names.specs.ExtModel.Paths.{full_name, path_text}
-use Rattle.tree_names.specs.ExtModel.RecordNames.{names_of}
-use Rattle.tree_names.specs.ExtModel.declared.records.CellExt.{CellExt}
-use Rattle.tree_names.specs.ExtModel.declared.records.NodeRec.{NodeRec}
-use Rattle.tree_names.specs.CircuitModel.Elements.{Element}
-use Rattle.tree_names.specs.CircuitModel.FlatNodes.{is_among, IsFlatNode}
-use Rattle.tree_names.specs.TreeRecords.NamedTrees.{NamedTree, NamedElements, named_standings}
-use Rattle.tree_names.specs.TreeRecords.NamedTrees.NamedTree.{named_tree}
-use Rattle.tree_names.specs.TreeRecords.NamedTrees.NamedElements.{no_more, element_then}
-use Rattle.tree_names.specs.TreeRecords.TreeRecords.{HasTreeRecords, HaveTreeRecords}
-use Rattle.tree_names.specs.CleanTrees.{IsCleanTree}
+use Rattle.tree_circuits.proofs.Common.{◌≡◌, ℕ, Bool, List, [], ◌∷◌, inl, inr, refl, sym, ◌∙◌, cases_Bool, bytes_eq-Decides, bytes_eq, In}
+use Rattle.tree_circuits.proofs.Common.{Chain-keeps, In-from_list_any, absent-from_list_any, list_any-of_In, AreOneForOne, RawTech, KeepsRules}
+use Rattle.tree_circuits.proofs.Common.{IsWellFormed, full_name, path_text, names_of, CellExt, NodeRec, Element, is_among, IsFlatNode, NamedTree}
+use Rattle.tree_circuits.proofs.Common.{NamedElements, named_standings, named_tree, no_more, element_then, HasTreeRecords, IsCleanTree, IsElementFor}
+use Rattle.tree_circuits.proofs.Common.{AreCleanTrees, clean_below, clean_first, clean_rest, path_full, is_named, IsOfGroups, AreOfGroups}
+use Rattle.finite_sets.proofs.Chains.{Chain-push}
+use Rattle.tree_names.specs.TreeRecords.TreeRecords.{HaveTreeRecords}
 use Rattle.tree_names.specs.PathLinks.{ArePathsJoined, ArePathsJoinedBelow}
-use Rattle.tree_names.specs.TreeElements.{IsElementFor}
-use Rattle.tree_names.proofs.CleanTrees.{AreCleanTrees, clean_below, clean_first, clean_rest}
 use Rattle.tree_names.proofs.ElementLinks.{joined_link}
-use Rattle.tree_names.proofs.FlatNames.{path_full}
 use Rattle.tree_names.proofs.GroupNames.{group_name_along}
 use Rattle.tree_names.proofs.JoinedPaths.{joined_share}
 use Rattle.tree_names.proofs.Representatives.{member_has_path}
 use Rattle.tree_names.proofs.ToGroups.{to_group}
-use Rattle.tree_circuits.specs.SumLaws.{is_named}
-use Rattle.tree_circuits.specs.TreeSums.{IsOfGroups, AreOfGroups}
 
 -- names that stand there together have one answer
 same_answer : (names : List (List ℕ)) (one other : List ℕ) → (In one names → In other names) → (In other names → In one names)

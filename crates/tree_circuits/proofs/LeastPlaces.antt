@@ -1,11 +1,8 @@
 -- A finite set of places has a least one.
-use Rattle.std.proofs.Common.{◌⊎◌, ℕ, ℤ, List, [], ◌∷◌, inl, inr, refl, sym, subst}
+use Rattle.tree_circuits.proofs.Common.{◌⊎◌, ℕ, ℤ, List, [], ◌∷◌, inl, inr, refl, sym, subst, In, Total, Place, IsNoLater}
 use Rattle.std.proofs.lemmas.Bool.{cases_order}
 use Rattle.finite_sets.specs.Least.{IsLeast}
-use Rattle.finite_sets.specs.Lists.{In}
-use Rattle.finite_sets.specs.Total.{Total}
 use Rattle.finite_sets.proofs.Orders.{less_equal_or_greater}
-use Rattle.tree_names.specs.LayoutModel.Places.{Place, IsNoLater}
 use Rattle.tree_names.proofs.TreeRecords.Names.PlaceOrders.{IsNoLater-trans, place_at}
 
 -- of two places one is no later than the other, by their parts

@@ -4,6 +4,7 @@ pub use Rattle.tree_names.proofs.FullNames as FullNames
 pub use Rattle.tree_names.proofs.NameClasses as NameClasses
 pub use Rattle.tree_names.proofs.OwnRecordLaws as OwnRecordLaws
 pub use Rattle.tree_names.proofs as TreeNames
+mod Common
 mod StandingTypes
 mod OwnedChannels
 mod MovedSets

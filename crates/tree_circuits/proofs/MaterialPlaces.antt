@@ -1,23 +1,11 @@
 -- The places of groups and members have material in the flat layout.
-use Rattle.std.proofs.Common.{◌≡◌, ◌⊎◌, ℕ, List, inl, inr, refl, sym, ◌∙◌, subst, ap}
+use Rattle.tree_circuits.proofs.Common.{◌≡◌, ◌⊎◌, ℕ, List, inl, inr, refl, sym, ◌∙◌, subst, ap, stay, go, RawTech, KeepsRules, IsWellFormed}
+use Rattle.tree_circuits.proofs.Common.{IsMaterial, Place, place_back, AreOneNamedNode, flat_layout, AreOneGroup, IsGroupName, IsMemberAt}
+use Rattle.tree_circuits.proofs.Common.{IsMemberBelow, NamedTree, NamedElements, OwnBody, place_forth, named_tree, no_more, element_then}
+use Rattle.tree_circuits.proofs.Common.{above_from_back, IsCleanTree, AreCleanTrees, clean_below, clean_first, clean_rest}
 use Rattle.finite_sets.specs.Chain.{Chain}
-use Rattle.finite_sets.specs.Chain.Chain.{stay, go}
-use Rattle.tree_names.specs.TechModel.declared.raw.RawTech.{RawTech}
-use Rattle.tree_names.specs.TechModel.Rules.{KeepsRules}
-use Rattle.tree_names.specs.TechModel.WellFormed.{IsWellFormed}
-use Rattle.tree_names.specs.LayoutModel.Layouts.{IsMaterial}
-use Rattle.tree_names.specs.LayoutModel.Places.{Place}
-use Rattle.tree_names.specs.LayoutModel.CellTrees.{place_back}
-use Rattle.tree_names.specs.Names.NamedNodes.{AreOneNamedNode}
 use Rattle.tree_names.proofs.Names.AttachLaws.{suits_material}
-use Rattle.tree_names.specs.TreeRecords.FlatLayouts.{flat_layout}
-use Rattle.tree_names.specs.TreeRecords.MemberGroups.{AreOneGroup, AreOneGroupBelow, IsGroupName, IsMemberAt, IsMemberBelow}
-use Rattle.tree_names.specs.TreeRecords.NamedTrees.{NamedTree, NamedElements, OwnBody, place_forth}
-use Rattle.tree_names.specs.TreeRecords.NamedTrees.NamedTree.{named_tree}
-use Rattle.tree_names.specs.TreeRecords.NamedTrees.NamedElements.{no_more, element_then}
-use Rattle.tree_names.proofs.TreeRecords.MoveLaws.{above_from_back}
-use Rattle.tree_names.specs.CleanTrees.{IsCleanTree}
-use Rattle.tree_names.proofs.CleanTrees.{AreCleanTrees, clean_below, clean_first, clean_rest}
+use Rattle.tree_names.specs.TreeRecords.MemberGroups.{AreOneGroupBelow}
 use Rattle.tree_names.proofs.LiftedLinks.{StandBelow, below_stands, material_up, own_fits}
 
 -- where each step stays, or has the fact at both ends, so has each way

@@ -1,25 +1,11 @@
 -- A tree's records have no more merges than its depth times their nodes.
-use Rattle.std.proofs.Common.{◌≡◌, ◌≤◌, ◌+◌, ◌*◌, ℕ, zero, suc, Bool, true, false, if◌then◌else◌, Option, Some, List, [], ◌∷◌, map, length}
-use Rattle.std.proofs.Common.{inl, inr, refl, sym, ◌∙◌, ap, subst, arith}
-use Rattle.std.specs.List.{flat_map}
+use Rattle.tree_circuits.proofs.Common.{◌≡◌, ◌≤◌, ℕ, zero, suc, Bool, true, false, if◌then◌else◌, Option, List, [], ◌∷◌, map, length, inl, inr, refl}
+use Rattle.tree_circuits.proofs.Common.{sym, ◌∙◌, ap, subst, arith, flat_map, length-append, length-map, In, Distinct, Chain-append, Distinct-append}
+use Rattle.tree_circuits.proofs.Common.{In-append_left, In-append_right, In-map, Pairwise, Pairwise-from_AllPairs, In-flat_map_source, RawTech}
+use Rattle.tree_circuits.proofs.Common.{IsWellFormed, path_text, CellExt, MergeRec, NodeRec, Place, Class, rules_of, place_back, ext_of}
+use Rattle.std.proofs.Common.{◌+◌, ◌*◌, Some}
 use Rattle.std.proofs.Math.Nat.{mul-add}
-use Rattle.std.proofs.lemmas.List.{length-append, length-map}
-use Rattle.finite_sets.specs.Lists.{In, Distinct}
-use Rattle.finite_sets.proofs.Chains.{Chain-append}
-use Rattle.finite_sets.proofs.Distincts.{Distinct-append, length-distinct}
-use Rattle.finite_sets.proofs.Members.{In-append_left, In-append_right, In-map}
-use Rattle.finite_sets.proofs.Pairs.{Pairwise, Pairwise-from_AllPairs}
-use Rattle.finite_sets.proofs.Images.{In-flat_map_source}
-use Rattle.tree_names.specs.TechModel.declared.raw.RawTech.{RawTech}
-use Rattle.tree_names.specs.TechModel.WellFormed.{IsWellFormed}
-use Rattle.tree_names.specs.ExtModel.Paths.{path_text}
-use Rattle.tree_names.specs.ExtModel.declared.records.CellExt.{CellExt}
-use Rattle.tree_names.specs.ExtModel.declared.records.MergeRec.{MergeRec}
-use Rattle.tree_names.specs.ExtModel.declared.records.NodeRec.{NodeRec}
-use Rattle.tree_names.specs.LayoutModel.Places.{Place}
-use Rattle.tree_names.specs.LayoutModel.Technologies.{Class, rules_of}
-use Rattle.tree_names.specs.LayoutModel.CellTrees.{place_back}
-use Rattle.tree_names.specs.CircuitModel.Elements.{ext_of}
+use Rattle.finite_sets.proofs.Distincts.{length-distinct}
 use Rattle.tree_circuits.proofs.FullNames.ListOrders.{Distinct-names, not_before_itself, pairwise_names}
 use Rattle.tree_circuits.specs.TreeRecords.FetRecords.{IsNameBefore}
 use Rattle.tree_circuits.proofs.OwnRecordLaws.PreferredNames.{goes_by, in_some}

@@ -1,31 +1,14 @@
 -- The paths of the merges of a tree's records lead to nodes.
-use Rattle.std.proofs.Common.{◌≡◌, ℕ, Bool, true, false, cond, if◌then◌else◌, Option, Some, None, List, ◌∷◌, ◌++◌, map, find}
-use Rattle.std.proofs.Common.{inl, inr, refl, sym, ◌∙◌, ap, subst}
-use Rattle.std.specs.Option.{option_or}
-use Rattle.std.specs.Str.{bytes_eq}
-use Rattle.std.proofs.lemmas.Bool.{cases_Bool}
-use Rattle.std.proofs.lemmas.Slice.Eq.{bytes_eq-Decides}
-use Rattle.finite_sets.specs.Lists.{In, Distinct}
-use Rattle.finite_sets.proofs.Members.{In-append_cases, In-map_source}
-use Rattle.finite_sets.proofs.Images.{In-flat_map, In-flat_map_source}
-use Rattle.finite_sets.proofs.Firsts.{first_some-none}
-use Rattle.finite_sets.proofs.Searches.{list_any-of_In}
-use Rattle.geo_core.specs.declared.transforms.Transform.{Transform}
+use Rattle.tree_circuits.proofs.Common.{◌≡◌, ℕ, Bool, true, false, cond, if◌then◌else◌, Option, None, List, ◌∷◌, ◌++◌, map, inl, inr, refl, sym, ◌∙◌}
+use Rattle.tree_circuits.proofs.Common.{ap, subst, option_or, bytes_eq, cases_Bool, bytes_eq-Decides, In, Distinct, In-append_cases, In-map_source}
+use Rattle.tree_circuits.proofs.Common.{In-flat_map, In-flat_map_source, first_some-none, list_any-of_In, Transform, RawTech, IsWellFormed, CellExt}
+use Rattle.tree_circuits.proofs.Common.{MergeRec, slashes_in, names_of, Place, rules_of, place_back, FlatFault, ext_of}
+use Rattle.std.proofs.Common.{Some, find}
 use Rattle.geo_core.specs.Images.{six_of}
-use Rattle.tree_names.specs.TechModel.declared.raw.RawTech.{RawTech}
-use Rattle.tree_names.specs.TechModel.WellFormed.{IsWellFormed}
 use Rattle.tree_names.specs.ExtModel.declared.names.TheConstants.{SLASH}
-use Rattle.tree_names.specs.ExtModel.declared.records.CellExt.{CellExt}
-use Rattle.tree_names.specs.ExtModel.declared.records.MergeRec.{MergeRec}
 use Rattle.tree_names.specs.ExtModel.declared.records.UseRec.{UseRec}
-use Rattle.tree_names.specs.ExtModel.NodeNames.{slashes_in}
-use Rattle.tree_names.specs.ExtModel.RecordNames.{names_of, node_names}
-use Rattle.tree_names.specs.LayoutModel.Places.{Place}
-use Rattle.tree_names.specs.LayoutModel.Technologies.{rules_of}
-use Rattle.tree_names.specs.LayoutModel.CellTrees.{place_back}
-use Rattle.tree_names.specs.CircuitModel.declared.faults.FlatFault.{FlatFault}
+use Rattle.tree_names.specs.ExtModel.RecordNames.{node_names}
 use Rattle.tree_names.specs.CircuitModel.declared.faults.FlatFault.TheVariants.{NoPath}
-use Rattle.tree_names.specs.CircuitModel.Elements.{ext_of}
 use Rattle.tree_names.specs.CircuitModel.Refusals.{first_fault, leads, merge_fault, path_fault}
 use Rattle.tree_circuits.proofs.NameClasses.PathLaws.{leads-name, leads-use}
 use Rattle.tree_circuits.proofs.OwnRecordLaws.PreferredNames.{goes_by, in_some}

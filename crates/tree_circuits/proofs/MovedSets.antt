@@ -1,13 +1,7 @@
 -- Sets of places, and edges between them, that are moved there and back: they are as large, and as many.
-use Rattle.std.proofs.Common.{◌≡◌, ℤ, pos, subst}
-use Rattle.finite_sets.specs.Total.{Total}
-use Rattle.finite_sets.proofs.Totals.{Total-iff, Total-image}
-use Rattle.geo_core.specs.declared.transforms.Transform.{Transform}
-use Rattle.tree_names.specs.LayoutModel.EdgeCounts.{IsEdgeCount, LeadsAcross}
-use Rattle.tree_names.specs.LayoutModel.Places.{Place, AreNeighbours}
-use Rattle.tree_names.specs.LayoutModel.CellTrees.{place_back}
-use Rattle.tree_names.specs.TreeRecords.NamedTrees.{place_forth}
-use Rattle.tree_names.proofs.TreeRecords.MoveLaws.{above_from_back, back_from_above, neighbours_above, neighbours_back}
+use Rattle.tree_circuits.proofs.Common.{◌≡◌, ℤ, pos, subst, Total, Total-iff, Transform, IsEdgeCount, LeadsAcross, Place, AreNeighbours, place_back}
+use Rattle.tree_circuits.proofs.Common.{place_forth, above_from_back, back_from_above, neighbours_above, neighbours_back}
+use Rattle.finite_sets.proofs.Totals.{Total-image}
 
 -- Places go to others and come back, and neighbours stay neighbours both ways.
 pub record AreMoved (go come : Place → Place) : Type 0 where

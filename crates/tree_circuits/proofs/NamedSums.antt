@@ -1,12 +1,8 @@
 -- Sums of numbers that stand beside names, and numbers that count where a test holds.
-use Rattle.std.proofs.Common.{◌≡◌, ℕ, ℤ, pos, ◌+ℤ◌, ◌-ℤ◌, Bool, true, false, cond, List, map, refl, sym, subst, arith}
-use Rattle.std.proofs.lemmas.Int.{ints}
-use Rattle.finite_sets.specs.Lists.{In, Distinct}
-use Rattle.finite_sets.specs.Total.{sum_on}
-use Rattle.finite_sets.proofs.Members.{In-map, In-map_source}
+use Rattle.tree_circuits.proofs.Common.{◌≡◌, ℕ, ℤ, pos, ◌+ℤ◌, ◌-ℤ◌, Bool, true, false, cond, List, map, refl, sym, subst, arith, ints, In, Distinct}
+use Rattle.tree_circuits.proofs.Common.{sum_on, In-map, In-map_source, sum_passing}
 use Rattle.finite_sets.proofs.Sums.{sum_on-same_things, sum_on-zero}
 use Rattle.finite_sets.proofs.Images.{Distinct-unmap}
-use Rattle.tree_circuits.specs.TreeSums.{sum_passing}
 
 -- a number where a test holds is that of the sum
 pub passing_sum : {X : Type 0} (passes : Bool) (w : X → ℤ) (xs : List X) → sum_on (λ x. cond passes (w x) (pos 0)) xs ≡ cond passes (sum_on w xs) (pos 0)

@@ -1,17 +1,14 @@
 -- The records of a tree that is no deeper and has no more instances than may be can have too many nodes or too long names, and no other
 -- fault.
-use Rattle.std.proofs.Common.{◌≡◌, ◌⊎◌, ◌≤◌, ℕ, Bool, true, false, cond, if◌then◌else◌, nat_lt, Option, Some, None, length, inl, inr, refl, sym, ◌∙◌, ap}
-use Rattle.std.proofs.Common.{arith, eq-eqb, suc}
-use Rattle.std.specs.Option.{option_or}
+use Rattle.tree_circuits.proofs.Common.{◌≡◌, ◌⊎◌, ◌≤◌, ℕ, Bool, true, false, cond, if◌then◌else◌, Option, None, length, inl, inr, refl, sym, ◌∙◌, ap}
+use Rattle.tree_circuits.proofs.Common.{arith, eq-eqb, suc, option_or, first_some-none, FlatFault, LONGEST_CHAIN, elements_of}
+use Rattle.std.proofs.Common.{nat_lt, Some}
 use Rattle.std.proofs.lemmas.Bool.Decides.{nat_tests}
 use Rattle.tree_circuits.proofs.ElementTree.Counting.{within_limit}
-use Rattle.finite_sets.proofs.Firsts.{first_some-none}
 use Rattle.finite_sets.proofs.OneForOne.{AreOneForOne-source, AreOneForOne-length}
-use Rattle.tree_names.specs.CircuitModel.declared.faults.FlatFault.{FlatFault}
 use Rattle.tree_names.specs.CircuitModel.declared.faults.FlatFault.TheVariants.{Classes, TooMany}
 use Rattle.tree_names.specs.CircuitModel.declared.limits.CircuitLimit.TheVariants.{Depth, Elements, Merges, Names, Nodes}
-use Rattle.tree_names.specs.CircuitModel.declared.limits.TheConstants.{LONGEST_CHAIN, MOST_FLAT_ELEMENTS, MOST_MERGES, MOST_NAME_BYTES, MOST_NODES}
-use Rattle.tree_names.specs.CircuitModel.Elements.{elements_of}
+use Rattle.tree_names.specs.CircuitModel.declared.limits.TheConstants.{MOST_FLAT_ELEMENTS, MOST_MERGES, MOST_NAME_BYTES, MOST_NODES}
 use Rattle.tree_names.specs.CircuitModel.Refusals.{chain_length, class_fault, element_fault, first_fault, merge_count, name_bytes, node_count}
 use Rattle.tree_circuits.specs.TreeRecords.NamedTrees.{named_standings}
 use Rattle.tree_circuits.specs.TreeNames.TreeElements.{IsElementFor}

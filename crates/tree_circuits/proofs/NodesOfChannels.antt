@@ -1,27 +1,17 @@
 -- The places of a channel are of one node, and a place's flat node goes by one name.
-use Rattle.std.proofs.Common.{◌≡◌, ◌==◌, ℕ, List, inl, ◌∙◌, subst, eqb-true}
-use Rattle.std.specs.Prelude.{IsTrue}
-use Rattle.finite_sets.specs.Chain.Chain.{go, stay}
-use Rattle.finite_sets.proofs.Chains.{Chain-append}
-use Rattle.finite_sets.proofs.Leasts.{IsLeast-iff, IsLeast-unique}
+use Rattle.tree_circuits.proofs.Common.{◌≡◌, ◌==◌, ℕ, List, inl, ◌∙◌, subst, eqb-true, IsTrue, go, stay, Chain-append, IsLeast-iff, Label, RawTech}
+use Rattle.tree_circuits.proofs.Common.{is_channel, IsWellFormed, Layout, IsMaterial, Place, IsNoLater, AreOneChannel, IsNoLaterName, IsOfNode}
+use Rattle.tree_circuits.proofs.Common.{IsFlatName, IsOfFlatNode, NamedTree}
+use Rattle.finite_sets.proofs.Leasts.{IsLeast-unique}
 use Rattle.finite_sets.proofs.Searches.{All-In, list_any-source}
 use Rattle.tree_names.specs.TechModel.declared.raw.FetRule.{FetRule}
-use Rattle.tree_names.specs.TechModel.declared.raw.Label.{Label}
-use Rattle.tree_names.specs.TechModel.declared.raw.RawTech.{RawTech}
-use Rattle.tree_names.specs.TechModel.ChannelRoles.{is_channel}
 use Rattle.tree_names.specs.TechModel.Types.{connects, is_type}
-use Rattle.tree_names.specs.TechModel.WellFormed.{IsFet, IsWellFormed}
+use Rattle.tree_names.specs.TechModel.WellFormed.{IsFet}
 use Rattle.tree_names.proofs.TechModel.TypeLaws.{connects_self}
-use Rattle.tree_names.specs.LayoutModel.Layouts.{Layout, IsMaterial}
-use Rattle.tree_names.specs.LayoutModel.Places.{Place, IsNoLater}
-use Rattle.tree_names.specs.LayoutModel.Transistors.{AreOneChannel}
 use Rattle.tree_names.proofs.Offences.SpoiledLaws.{channel_is_material}
 use Rattle.tree_names.specs.TreeRecords.Names.NamedNodes.{AreOneNamedNode}
 use Rattle.tree_names.proofs.TreeRecords.CellNodes.NodePlaces.{AreOneNamedNode-sym}
-use Rattle.tree_names.specs.TreeRecords.FetRecords.{IsNoLaterName, IsOfNode}
 use Rattle.tree_names.proofs.OwnRecordLaws.PreferredNames.{later_both_ways}
-use Rattle.tree_names.specs.TreeRecords.FlatLayouts.{IsFlatName, IsOfFlatNode}
-use Rattle.tree_names.specs.TreeRecords.NamedTrees.{NamedTree}
 
 -- the type of a channel is one of the technology
 pub channel_is_type : (raw : RawTech) → IsWellFormed raw → (kind : ℕ) → IsTrue (is_channel raw kind) → IsTrue (is_type raw kind)

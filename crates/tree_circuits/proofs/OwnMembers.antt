@@ -1,29 +1,14 @@
 -- The nodes of a cell's own layout as members of its groups.
-use Rattle.std.proofs.Common.{◌≡◌, ℕ, ℤ, List, [], ◌∷◌, map, inl, refl, ◌∙◌, ap, subst}
-use Rattle.std.specs.List.{flat_map}
-use Rattle.finite_sets.specs.Lists.{In, Distinct}
-use Rattle.finite_sets.specs.Total.{Total}
-use Rattle.finite_sets.proofs.Chains.{Chain-append}
+use Rattle.tree_circuits.proofs.Common.{◌≡◌, ℕ, ℤ, List, [], ◌∷◌, map, inl, refl, ◌∙◌, ap, subst, flat_map, In, Distinct, Total, Chain-append}
+use Rattle.tree_circuits.proofs.Common.{IsLeast-iff, In-map, In-map_source, Total-iff, In-flat_map, RawTech, IsWellFormed, names_of, NodeRec, Place}
+use Rattle.tree_circuits.proofs.Common.{IsNoLater, AreOneNamedNode, IsOfNode, OwnBody, RecordedQuantity}
 use Rattle.finite_sets.proofs.Distincts.{Distinct-append_apart, Distinct-append_right}
-use Rattle.finite_sets.proofs.Leasts.{IsLeast-iff}
-use Rattle.finite_sets.proofs.Members.{In-map, In-map_source}
-use Rattle.finite_sets.proofs.Totals.{Total-iff}
-use Rattle.finite_sets.proofs.Images.{In-flat_map}
-use Rattle.tree_names.specs.TechModel.declared.raw.RawTech.{RawTech}
-use Rattle.tree_names.specs.TechModel.WellFormed.{IsWellFormed}
-use Rattle.tree_names.specs.ExtModel.RecordNames.{names_of}
-use Rattle.tree_names.specs.ExtModel.declared.records.NodeRec.{NodeRec}
 use Rattle.tree_names.specs.LayoutModel.LayerTypes.{HasTypesOf}
-use Rattle.tree_names.specs.LayoutModel.Places.{Place, IsNoLater}
-use Rattle.tree_names.specs.Names.NamedNodes.{AreOneNamedNode}
 use Rattle.tree_names.specs.CellNodes.NodeRecords.{IsNodeRecord, AreNodeRecords}
 use Rattle.tree_names.proofs.CellNodes.NodePlaces.{AreOneNamedNode-sym, material_along}
-use Rattle.tree_names.specs.TreeRecords.FetRecords.{IsOfNode}
 use Rattle.tree_names.proofs.OwnRecordLaws.NamesDiffer.{names_differ}
 use Rattle.tree_names.proofs.OwnRecordLaws.PreferredNames.{goes_by, in_some, preferred_is_first, recorded}
-use Rattle.tree_names.specs.TreeRecords.NamedTrees.{OwnBody}
 use Rattle.tree_names.proofs.OwnNames.{goes_by_own, one_own_node}
-use Rattle.tree_circuits.specs.TreeSums.{RecordedQuantity}
 use Rattle.tree_circuits.proofs.RecordedQuantities.{IsRecordedQuantity}
 use Rattle.tree_circuits.proofs.NamedSums.{names_in}
 

@@ -1,30 +1,21 @@
 -- A channel of the flat layout of a clean cell has one owner, and own channels are channels of the flat layout with the same roles beside
 -- them.
-use Rattle.std.proofs.Common.{◌≡◌, ◌≢◌, ◌==◌, ℕ, zero, suc, Bool, List, [], ◌∷◌, map, Option, if◌then◌else◌, inl, inr}
-use Rattle.std.proofs.Common.{refl, sym, ◌∙◌, ap, subst, arith, eq-eqb, ne_eqb}
-use Rattle.std.specs.Prelude.{IsTrue, None, Some, slice_get}
+use Rattle.tree_circuits.proofs.Common.{◌≡◌, ◌==◌, ℕ, zero, suc, Bool, List, [], ◌∷◌, map, Option, if◌then◌else◌, inl, inr, refl, sym, ◌∙◌, ap}
+use Rattle.tree_circuits.proofs.Common.{subst, arith, eq-eqb, IsTrue, Some, slice_get, In, In-map, In-slice_get, RawTech, is_channel, KeepsRules}
+use Rattle.tree_circuits.proofs.Common.{IsWellFormed, Place, AreNeighbours, own_types, role_of, flat_layout, NamedTree, NamedStanding, layouts_of}
+use Rattle.tree_circuits.proofs.Common.{named_standings, place_forth, back_from_above, neighbours_above, OwnsItsChannels}
+use Rattle.std.proofs.Common.{◌≢◌}
+use Rattle.std.proofs.Common.{ne_eqb}
+use Rattle.std.specs.Prelude.{None}
 use Rattle.std.proofs.lemmas.Bool.{cases_eq}
-use Rattle.finite_sets.specs.Lists.{In}
-use Rattle.finite_sets.proofs.Members.{In-map}
-use Rattle.finite_sets.proofs.Places.{In-slice_get}
-use Rattle.tree_names.specs.TechModel.declared.raw.RawTech.{RawTech}
-use Rattle.tree_names.specs.TechModel.ChannelRoles.{is_channel}
-use Rattle.tree_names.specs.TechModel.Rules.{KeepsRules}
-use Rattle.tree_names.specs.TechModel.WellFormed.{IsWellFormed}
 use Rattle.tree_names.specs.LayoutModel.LayerTypes.{or_space}
-use Rattle.tree_names.specs.LayoutModel.Places.{Place, AreNeighbours}
-use Rattle.tree_names.specs.LayoutModel.CellTrees.{own_types}
 use Rattle.tree_names.specs.LayoutModel.FlatSets.{IsTyped, flat_sets}
 use Rattle.tree_names.specs.Offences.Offences.{is_exactly, joined_at}
-use Rattle.tree_names.specs.Offences.Roles.{role_of}
 use Rattle.tree_names.specs.HierarchyModel.CleanCells.{IsClean}
 use Rattle.tree_names.specs.HierarchyModel.Laws.{own_pairs, times}
 use Rattle.tree_names.proofs.HierarchyModel.CleanLaws.{has_flat_type, own_count}
 use Rattle.tree_names.proofs.HierarchyModel.RoleLaws.{roles_kept}
-use Rattle.tree_names.specs.TreeRecords.FlatLayouts.{flat_layout}
-use Rattle.tree_names.specs.TreeRecords.NamedTrees.{NamedTree, NamedStanding, layouts_of, named_standings, place_forth}
-use Rattle.tree_names.proofs.TreeRecords.MoveLaws.{back_from_above, neighbours_above}
-use Rattle.tree_circuits.specs.Channels.{HasOneOwner, OwnsItsChannels}
+use Rattle.tree_circuits.specs.Channels.{HasOneOwner}
 use Rattle.tree_circuits.proofs.StandingTypes.{pairs_of_standings, type_at, types_at, types_of_standings}
 
 -- ---- what stands once in a list

@@ -1,24 +1,11 @@
 -- The transistors of one cell as it stands, in the flat layout.
-use Rattle.std.proofs.Common.{◌≡◌, ℕ, List, [], ◌∷◌, map, inl, inr, refl, sym, ◌∙◌, subst}
-use Rattle.std.specs.Prelude.{IsTrue, Some, slice_get}
-use Rattle.finite_sets.specs.Lists.{In}
-use Rattle.finite_sets.proofs.Pairs.{Pairwise}
-use Rattle.finite_sets.specs.OneForOne.{AreOneForOne}
-use Rattle.tree_names.specs.TechModel.declared.raw.RawTech.{RawTech}
-use Rattle.tree_names.specs.TechModel.ChannelRoles.{is_channel}
-use Rattle.tree_names.specs.TechModel.WellFormed.{IsWellFormed}
-use Rattle.tree_names.specs.ExtModel.declared.records.FetRec.{FetRec}
-use Rattle.tree_names.specs.ExtModel.declared.records.NodeRec.{NodeRec}
-use Rattle.tree_names.specs.LayoutModel.Places.{Place, IsBefore}
-use Rattle.tree_names.specs.LayoutModel.Transistors.{AreFetsInOrder, AreOneChannel, IsTransistor}
+use Rattle.tree_circuits.proofs.Common.{◌≡◌, ℕ, List, [], ◌∷◌, map, inl, inr, refl, sym, ◌∙◌, subst, IsTrue, Some, slice_get, In, Pairwise}
+use Rattle.tree_circuits.proofs.Common.{AreOneForOne, RawTech, is_channel, IsWellFormed, FetRec, NodeRec, Place, AreOneChannel, IsTransistor}
+use Rattle.tree_circuits.proofs.Common.{Element, AreFlatFets, fets_in, IsFetRecord, IsOfNode, flat_layout, NamedTree, NamedStanding, named_standings}
+use Rattle.tree_circuits.proofs.Common.{place_forth, IsFetBefore, IsFlatFetRecord, IsOwnedFet, OwnedFet, OwnsItsChannels}
+use Rattle.tree_names.specs.LayoutModel.Places.{IsBefore}
+use Rattle.tree_names.specs.LayoutModel.Transistors.{AreFetsInOrder}
 use Rattle.tree_names.proofs.LayoutModel.PlaceLaws.{IsBefore-trans}
-use Rattle.tree_names.specs.CircuitModel.Elements.{Element}
-use Rattle.tree_names.specs.CircuitModel.FlatFets.{AreFlatFets, fets_in}
-use Rattle.tree_names.specs.TreeRecords.FetRecords.{IsFetRecord, IsOfNode}
-use Rattle.tree_names.specs.TreeRecords.FlatLayouts.{flat_layout}
-use Rattle.tree_names.specs.TreeRecords.NamedTrees.{NamedTree, NamedStanding, named_standings, place_forth}
-use Rattle.tree_names.specs.TreeRecords.TreeCircuits.{IsFetBefore, IsFlatFetRecord, IsOwnedFet, OwnedFet}
-use Rattle.tree_circuits.specs.Channels.{OwnsItsChannels}
 use Rattle.tree_circuits.proofs.FetElements.{GiveFlatNames, HasFetsOf}
 use Rattle.tree_circuits.proofs.FlatRecords.{IsMade, is_made}
 use Rattle.tree_circuits.proofs.RenamedTerminals.{Fet}

@@ -1,15 +1,8 @@
 -- What the records of a tree have in number, by the cells as they stand.
-use Rattle.std.proofs.Common.{◌≡◌, ◌+◌, ℕ, Option, Some, None, List, [], ◌∷◌, ◌++◌, map, length, sum_by, refl, sym, ◌∙◌, ap}
-use Rattle.std.proofs.lemmas.List.{length-append, length-map}
+use Rattle.tree_circuits.proofs.Common.{◌≡◌, ℕ, Option, None, List, [], ◌∷◌, ◌++◌, map, length, refl, sym, ◌∙◌, ap, length-append, length-map}
+use Rattle.tree_circuits.proofs.Common.{AreOneForOne, Transform, identity, RawTech, path_text, CellExt, NodeRec, Element, ext_of}
+use Rattle.std.proofs.Common.{◌+◌, Some, sum_by}
 use Rattle.std.proofs.lemmas.List.Sums.{sum_by-append, sum_by-cons}
-use Rattle.finite_sets.specs.OneForOne.{AreOneForOne}
-use Rattle.geo_core.specs.declared.transforms.Transform.{Transform}
-use Rattle.geo_core.specs.Images.{identity}
-use Rattle.tree_names.specs.TechModel.declared.raw.RawTech.{RawTech}
-use Rattle.tree_names.specs.ExtModel.Paths.{path_text}
-use Rattle.tree_names.specs.ExtModel.declared.records.CellExt.{CellExt}
-use Rattle.tree_names.specs.ExtModel.declared.records.NodeRec.{NodeRec}
-use Rattle.tree_names.specs.CircuitModel.Elements.{Element, ext_of}
 use Rattle.tree_circuits.specs.TreeRecords.NamedTrees.{NamedTree, NamedElements, NamedStanding, named_above, named_standings, named_standings_below}
 use Rattle.tree_circuits.specs.TreeRecords.NamedTrees.NamedTree.{named_tree}
 use Rattle.tree_circuits.specs.TreeRecords.NamedTrees.NamedElements.{no_more, element_then}

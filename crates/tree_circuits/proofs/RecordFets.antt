@@ -1,26 +1,11 @@
 -- The transistors that the records of a clean cell and of all below it mean.
-use Rattle.std.proofs.Common.{ℕ, List, subst}
+use Rattle.tree_circuits.proofs.Common.{ℕ, List, subst, AreOneForOne, RawTech, KeepsRules, IsWellFormed, CellExt, FetRec, NodeRec, Element}
+use Rattle.tree_circuits.proofs.Common.{AreFlatFets, fets_of, AreFlatNodes, AreFetRecords, IsNodeBefore, NamedTree, NamedStanding, OwnBody}
+use Rattle.tree_circuits.proofs.Common.{named_standings, AreFlatFetRecords, HasTreeRecords, IsCleanTree, IsElementFor, name_flat_nodes}
+use Rattle.tree_circuits.proofs.Common.{flat_node_names, names_one_flat_node}
 use Rattle.finite_sets.proofs.OneForOne.{AreOneForOne-weaker}
-use Rattle.finite_sets.specs.OneForOne.{AreOneForOne}
-use Rattle.tree_names.specs.TechModel.declared.raw.RawTech.{RawTech}
-use Rattle.tree_names.specs.TechModel.Rules.{KeepsRules}
-use Rattle.tree_names.specs.TechModel.WellFormed.{IsWellFormed}
-use Rattle.tree_names.specs.ExtModel.declared.records.CellExt.{CellExt}
-use Rattle.tree_names.specs.ExtModel.declared.records.FetRec.{FetRec}
-use Rattle.tree_names.specs.ExtModel.declared.records.NodeRec.{NodeRec}
-use Rattle.tree_names.specs.CircuitModel.Elements.{Element}
-use Rattle.tree_names.specs.CircuitModel.FlatFets.{AreFlatFets, fets_of}
-use Rattle.tree_names.specs.CircuitModel.FlatNodes.{AreFlatNodes}
-use Rattle.tree_names.specs.TreeRecords.FetRecords.{AreFetRecords, IsNodeBefore}
-use Rattle.tree_names.specs.TreeRecords.NamedTrees.{NamedTree, NamedStanding, OwnBody, named_standings}
-use Rattle.tree_names.specs.TreeRecords.TreeCircuits.{AreFlatFetRecords}
-use Rattle.tree_names.specs.TreeRecords.TreeRecords.{HasTreeRecords}
-use Rattle.tree_names.specs.CleanTrees.{IsCleanTree}
 use Rattle.tree_names.specs.Laws.{NamesTellFlatNodes}
-use Rattle.tree_names.specs.TreeElements.{IsElementFor}
-use Rattle.tree_names.proofs.CircuitNodes.{name_flat_nodes}
 use Rattle.tree_names.proofs.FlatNames.{flat_names_are}
-use Rattle.tree_names.proofs.NodeNames.{flat_node_names, names_one_flat_node}
 use Rattle.tree_names.proofs.RecordedNodes.{path_material}
 use Rattle.tree_circuits.proofs.FetElements.{HasFetsOf}
 use Rattle.tree_circuits.proofs.AllFets.{flat_fet_records}

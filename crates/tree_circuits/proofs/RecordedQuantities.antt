@@ -1,29 +1,21 @@
 -- What records have of a weight: nodes what the weight is on their places, and merges what groups add.
-use Rattle.std.proofs.Common.{◌≡◌, ℕ, zero, suc, ℤ, pos, ◌+ℤ◌, ◌*ℤ◌, Bool, true, List, [], ◌∷◌, map, refl, sym, ◌∙◌, ap, subst}
-use Rattle.std.specs.Prelude.{Some, slice_get, ◌&&◌}
+use Rattle.tree_circuits.proofs.Common.{◌≡◌, ℕ, zero, suc, ℤ, pos, ◌+ℤ◌, Bool, true, List, [], ◌∷◌, map, refl, sym, ◌∙◌, ap, subst, Some, slice_get}
+use Rattle.tree_circuits.proofs.Common.{sum_on, Total, Total-unique, Label, RawTech, NodeRec, Layout, IsArea, IsPerimeter, AreMeasures, Place, Class}
+use Rattle.tree_circuits.proofs.Common.{rules_of, AreOneNamedNode, measure_of, NamedTree, merge_of, RecordedQuantity, recorded_cap, recorded_area}
+use Rattle.tree_circuits.proofs.Common.{recorded_perimeter}
+use Rattle.std.proofs.Common.{◌*ℤ◌}
+use Rattle.std.specs.Prelude.{◌&&◌}
 use Rattle.std.specs.List.{list_all}
 use Rattle.std.specs.Ordering.{int_eq}
 use Rattle.std.proofs.lemmas.Bool.{and_parts}
 use Rattle.std.proofs.lemmas.Bool.Decides.{Decides-int_eq}
 use Rattle.finite_sets.specs.Lists.{Lists}
-use Rattle.finite_sets.specs.Total.{sum_on, Total}
 use Rattle.finite_sets.proofs.Sums.{sum_on-add, sum_on-zero, sum_on-scale_right}
-use Rattle.finite_sets.proofs.Totals.{Total-unique, Total-of_list}
-use Rattle.tree_names.specs.TechModel.declared.raw.Label.{Label}
-use Rattle.tree_names.specs.TechModel.declared.raw.RawTech.{RawTech}
-use Rattle.tree_names.specs.ExtModel.declared.records.NodeRec.{NodeRec}
-use Rattle.tree_names.specs.LayoutModel.Layouts.{Layout}
-use Rattle.tree_names.specs.LayoutModel.Measures.{IsArea, IsPerimeter}
-use Rattle.tree_names.specs.LayoutModel.Nodes.{AreMeasures}
-use Rattle.tree_names.specs.LayoutModel.Places.{Place}
-use Rattle.tree_names.specs.LayoutModel.Technologies.{Class, capacitance, rules_of}
-use Rattle.tree_names.specs.Names.NamedNodes.{AreOneNamedNode}
+use Rattle.finite_sets.proofs.Totals.{Total-of_list}
+use Rattle.tree_names.specs.LayoutModel.Technologies.{capacitance}
 use Rattle.tree_names.specs.CellNodes.NodeRecords.{IsNodeRecord}
-use Rattle.tree_names.specs.CircuitModel.FlatNodes.{measure_of}
-use Rattle.tree_names.specs.TreeRecords.NamedTrees.{NamedTree}
-use Rattle.tree_names.specs.TreeRecords.Merges.{Adjustment, MemberGroup, IsMemberGroup, AreAdjustments, merge_of, zero_adjustment, is_zero_adjustment}
+use Rattle.tree_names.specs.TreeRecords.Merges.{Adjustment, MemberGroup, IsMemberGroup, AreAdjustments, zero_adjustment, is_zero_adjustment}
 use Rattle.tree_names.specs.TreeRecords.PlaceWeights.{area_weight, perimeter_weight, capacitance_weight, IsAdjustment}
-use Rattle.tree_circuits.specs.TreeSums.{RecordedQuantity, recorded_cap, recorded_area, recorded_perimeter}
 
 -- what a merge with these amounts has
 abbrev pub amount_of : RecordedQuantity → Adjustment → ℤ

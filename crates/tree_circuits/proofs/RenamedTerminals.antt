@@ -1,30 +1,15 @@
 -- A transistor of an own layout is one of the flat layout, with its terminals by the names of flat nodes.
-use Rattle.std.proofs.Common.{◌≡◌, ◌↔◌, ◌-ℤ◌, ◌<ℤ◌, ◌≤ℤ◌, ℕ, ℤ, pos, Bool, true, List, [], ◌∷◌, filter}
-use Rattle.std.proofs.Common.{map, inl, inr, refl, sym, ◌∙◌, ap, subst, arith}
-use Rattle.std.specs.Prelude.{IsTrue}
-use Rattle.std.specs.Str.{bytes_eq}
-use Rattle.std.proofs.lemmas.Int.{ints}
-use Rattle.std.proofs.lemmas.Slice.Eq.{bytes_eq-Decides}
-use Rattle.finite_sets.specs.Chain.Chain.{stay}
-use Rattle.finite_sets.specs.Lists.{In, Distinct}
-use Rattle.finite_sets.specs.Total.{sum_on, Total}
-use Rattle.finite_sets.proofs.Members.{In-filter, In-filter_passes, In-filter_source, In-map, In-map_source}
+use Rattle.tree_circuits.proofs.Common.{◌≡◌, ◌↔◌, ◌-ℤ◌, ℕ, ℤ, pos, Bool, true, List, [], ◌∷◌, map, inl, inr, refl, sym, ◌∙◌, ap, subst, arith}
+use Rattle.tree_circuits.proofs.Common.{IsTrue, bytes_eq, ints, bytes_eq-Decides, stay, In, Distinct, sum_on, Total, In-map, In-map_source}
+use Rattle.tree_circuits.proofs.Common.{Total-unique, Transform, RawTech, is_channel, is_terminal, IsEdgeCount, LeadsAcross, Layout, Place}
+use Rattle.tree_circuits.proofs.Common.{AreNeighbours, AreOneChannel, IsTransistor, gate_length, place_back, place_forth, above_from_back}
+use Rattle.tree_circuits.proofs.Common.{neighbours_back, ChannelSet, IsChannelPerimeter, IsChannelSet, KeepsChannels, AreRenamed}
+use Rattle.std.proofs.Common.{◌<ℤ◌, ◌≤ℤ◌, filter}
+use Rattle.finite_sets.proofs.Members.{In-filter, In-filter_passes, In-filter_source}
 use Rattle.finite_sets.proofs.Sums.{sum_on-filter}
-use Rattle.finite_sets.proofs.Totals.{Total-unique}
 use Rattle.finite_sets.proofs.Images.{Distinct-map_filter}
-use Rattle.geo_core.specs.declared.transforms.Transform.{Transform}
-use Rattle.tree_names.specs.TechModel.declared.raw.RawTech.{RawTech}
-use Rattle.tree_names.specs.TechModel.ChannelRoles.{is_channel, is_terminal}
-use Rattle.tree_names.specs.LayoutModel.EdgeCounts.{IsEdgeCount, LeadsAcross}
-use Rattle.tree_names.specs.LayoutModel.Layouts.{Layout}
-use Rattle.tree_names.specs.LayoutModel.Places.{Place, AreNeighbours}
-use Rattle.tree_names.specs.LayoutModel.Transistors.{AreOneChannel, IsTerminalOf, IsTransistor, Transistor, gate_length}
-use Rattle.tree_names.specs.LayoutModel.CellTrees.{place_back}
+use Rattle.tree_names.specs.LayoutModel.Transistors.{IsTerminalOf, Transistor}
 use Rattle.tree_names.proofs.OwnRecordLaws.FetSizes.{edges_to_some, terminals_total}
-use Rattle.tree_names.specs.TreeRecords.NamedTrees.{place_forth}
-use Rattle.tree_names.proofs.TreeRecords.MoveLaws.{above_from_back, neighbours_back}
-use Rattle.tree_circuits.specs.Channels.{ChannelSet, IsChannelPerimeter, IsChannelSet, KeepsChannels}
-use Rattle.tree_circuits.specs.Terminals.{AreRenamed}
 use Rattle.tree_circuits.proofs.ChannelSets.{flat_set, goes_from, HasSetAt}
 use Rattle.tree_circuits.proofs.MovedSets.{edges_moved, moved_forth}
 use Rattle.tree_circuits.proofs.SameChannels.{one_type, role_there}

@@ -1,19 +1,8 @@
 -- The set of one channel of an own layout goes to the set of one channel of the flat layout, with as many squares and edges.
-use Rattle.std.proofs.Common.{◌≡◌, ℕ, sym, ◌∙◌, ap, subst}
-use Rattle.std.specs.Prelude.{IsTrue, Some}
-use Rattle.finite_sets.specs.Chain.Chain.{go, stay}
-use Rattle.finite_sets.proofs.Chains.{Chain-keeps}
-use Rattle.geo_core.specs.declared.transforms.Transform.{Transform}
-use Rattle.tree_names.specs.TechModel.declared.raw.RawTech.{RawTech}
-use Rattle.tree_names.specs.TechModel.ChannelRoles.{is_channel, is_terminal}
-use Rattle.tree_names.specs.LayoutModel.Layouts.{Layout}
-use Rattle.tree_names.specs.LayoutModel.Places.{Place, AreNeighbours}
-use Rattle.tree_names.specs.LayoutModel.Transistors.{AreOneChannel}
-use Rattle.tree_names.specs.LayoutModel.CellTrees.{place_back}
-use Rattle.tree_names.specs.Offences.Roles.{role_of}
-use Rattle.tree_names.specs.TreeRecords.NamedTrees.{place_forth}
-use Rattle.tree_names.proofs.TreeRecords.MoveLaws.{above_from_back, back_from_above, neighbours_above, neighbours_back}
-use Rattle.tree_circuits.specs.Channels.{IsSameChannel, KeepsChannels}
+use Rattle.tree_circuits.proofs.Common.{◌≡◌, ℕ, sym, ◌∙◌, ap, subst, IsTrue, Some, go, stay, Chain-keeps, Transform, RawTech, is_channel}
+use Rattle.tree_circuits.proofs.Common.{is_terminal, Layout, Place, AreNeighbours, AreOneChannel, place_back, role_of, place_forth, above_from_back}
+use Rattle.tree_circuits.proofs.Common.{back_from_above, neighbours_above, neighbours_back, KeepsChannels}
+use Rattle.tree_circuits.specs.Channels.{IsSameChannel}
 use Rattle.tree_circuits.proofs.MovedSets.{edges_moved, moved_back, moved_forth, places_moved}
 use Rattle.tree_circuits.proofs.SameRoles.{same_channel, same_terminal}
 

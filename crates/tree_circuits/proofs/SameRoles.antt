@@ -1,10 +1,7 @@
 -- What types of one role have in common.
-use Rattle.std.proofs.Common.{◌≡◌, ◌==◌, ℕ, Bool, true, false, if◌then◌else◌, inl, inr, refl, sym, ◌∙◌, ap, eq-eqb, eqb-true}
-use Rattle.std.specs.Prelude.{Some}
-use Rattle.std.proofs.lemmas.Bool.{cases_Bool}
-use Rattle.tree_names.specs.TechModel.declared.raw.RawTech.{RawTech}
-use Rattle.tree_names.specs.TechModel.ChannelRoles.{is_terminal}
-use Rattle.tree_names.specs.Offences.Roles.{Role, role_of}
+use Rattle.tree_circuits.proofs.Common.{◌≡◌, ◌==◌, ℕ, Bool, true, false, if◌then◌else◌, inl, inr, refl, sym, ◌∙◌, ap, eq-eqb, eqb-true, Some}
+use Rattle.tree_circuits.proofs.Common.{cases_Bool, RawTech, is_terminal, role_of}
+use Rattle.tree_names.specs.Offences.Roles.{Role}
 use Rattle.tree_names.specs.Offences.Roles.Role.{Channel, Other, Terminal}
 
 -- the role by two tests

@@ -1,11 +1,6 @@
 -- Groups with what their members have, and what they add to it.
-use Rattle.std.proofs.Common.{◌≡◌, ℕ, ℤ, pos, ◌+ℤ◌, ◌-ℤ◌, Bool, cond, List, [], ◌∷◌, map, inl, inr, refl, ◌∙◌, ap, arith}
-use Rattle.std.specs.List.{flat_map}
-use Rattle.std.proofs.lemmas.Int.{ints}
-use Rattle.finite_sets.specs.Lists.{In}
-use Rattle.finite_sets.specs.Total.{sum_on}
-use Rattle.finite_sets.proofs.Sums.{sum_on-append, sum_on-same}
-use Rattle.tree_circuits.specs.TreeSums.{sum_passing}
+use Rattle.tree_circuits.proofs.Common.{◌≡◌, ℕ, ℤ, pos, ◌+ℤ◌, ◌-ℤ◌, Bool, cond, List, [], ◌∷◌, map, inl, inr, refl, ◌∙◌, ap, arith, flat_map, ints}
+use Rattle.tree_circuits.proofs.Common.{In, sum_on, sum_on-append, sum_on-same, sum_passing}
 use Rattle.tree_circuits.proofs.NamedSums.{passing_sum, passing_more}
 
 -- a group by its name, with what each member has of a weight, what is to be added to these, and what the group has

@@ -1,22 +1,11 @@
 -- The nodes of the cells as they stand have paths in the tree.
-use Rattle.std.proofs.Common.{◌≡◌, ℕ, List, map, inl, inr, refl, sym, ◌∙◌, ap, subst}
-use Rattle.finite_sets.specs.Lists.{In}
-use Rattle.finite_sets.proofs.Members.{In-append_cases, In-map_source}
-use Rattle.geo_core.specs.declared.squares.Square.{Square}
-use Rattle.geo_core.specs.declared.transforms.Transform.{Transform}
-use Rattle.geo_core.specs.Images.{composed, identity}
+use Rattle.tree_circuits.proofs.Common.{◌≡◌, ℕ, List, map, inl, inr, refl, sym, ◌∙◌, ap, subst, In, In-append_cases, In-map_source, Square}
+use Rattle.tree_circuits.proofs.Common.{Transform, composed, identity, RawTech, path_text, Place, place_back, HasNodePath, NamedTree, NamedElements}
+use Rattle.tree_circuits.proofs.Common.{NamedStanding, named_above, named_standings, named_standings_below, place_forth, named_tree, no_more}
+use Rattle.tree_circuits.proofs.Common.{element_then, back_from_above}
 use Rattle.geo_core.proofs.ImageLaws.{image-composed}
 use Rattle.tree_names.proofs.ElementTree.Transforms.{image-identity}
-use Rattle.tree_names.specs.TechModel.declared.raw.RawTech.{RawTech}
-use Rattle.tree_names.specs.ExtModel.Paths.{path_text}
-use Rattle.tree_names.specs.LayoutModel.Places.{Place}
-use Rattle.tree_names.specs.LayoutModel.CellTrees.{place_back}
-use Rattle.tree_names.specs.TreeRecords.FlatLayouts.{HasNodePath, HasNodePathBelow, HasOwnName}
-use Rattle.tree_names.specs.TreeRecords.NamedTrees.{NamedTree, NamedElements, NamedStanding, named_above}
-use Rattle.tree_names.specs.TreeRecords.NamedTrees.{named_standings, named_standings_below, place_forth}
-use Rattle.tree_names.specs.TreeRecords.NamedTrees.NamedTree.{named_tree}
-use Rattle.tree_names.specs.TreeRecords.NamedTrees.NamedElements.{no_more, element_then}
-use Rattle.tree_names.proofs.TreeRecords.MoveLaws.{back_from_above}
+use Rattle.tree_names.specs.TreeRecords.FlatLayouts.{HasNodePathBelow, HasOwnName}
 use Rattle.tree_circuits.proofs.StandingTypes.{with_square}
 
 -- the identity leaves places where they are

@@ -1,20 +1,13 @@
 -- The own types at places are those of the cells as they stand, in order.
-use Rattle.std.proofs.Common.{◌≡◌, ℕ, List, [], ◌∷◌, ◌++◌, map, refl, sym, ◌∙◌, ap}
-use Rattle.std.proofs.lemmas.List.{map-append}
-use Rattle.std.proofs.lemmas.Simd.{map-map}
-use Rattle.geo_core.specs.declared.squares.Square.{Square}
-use Rattle.geo_core.specs.declared.transforms.Transform.{Transform}
-use Rattle.geo_core.specs.Images.{composed, identity, image, inverted}
+use Rattle.tree_circuits.proofs.Common.{◌≡◌, ℕ, List, [], ◌∷◌, ◌++◌, map, refl, sym, ◌∙◌, ap, map-append, map-map, Square, Transform, composed}
+use Rattle.tree_circuits.proofs.Common.{identity, image, Place, own_types, place_back, NamedTree, NamedElements, NamedStanding, layouts_of}
+use Rattle.tree_circuits.proofs.Common.{named_above, named_standings, named_standings_below, named_tree, no_more, element_then}
+use Rattle.geo_core.specs.Images.{inverted}
 use Rattle.geo_core.proofs.ImageLaws.{image-back, image-composed, image-forth}
 use Rattle.tree_names.proofs.ElementTree.Transforms.{image-identity}
-use Rattle.tree_names.specs.LayoutModel.Places.{Place}
-use Rattle.tree_names.specs.LayoutModel.CellTrees.{own_types, place_back}
 use Rattle.tree_names.specs.HierarchyModel.Laws.{own_pairs, own_pairs_below}
 use Rattle.tree_names.proofs.HierarchyModel.RoleLaws.{own_pairs_first}
-use Rattle.tree_names.specs.TreeRecords.NamedTrees.{NamedTree, NamedElements, NamedStanding, layouts_below, layouts_of, named_above, named_standings}
-use Rattle.tree_names.specs.TreeRecords.NamedTrees.{named_standings_below}
-use Rattle.tree_names.specs.TreeRecords.NamedTrees.NamedTree.{named_tree}
-use Rattle.tree_names.specs.TreeRecords.NamedTrees.NamedElements.{no_more, element_then}
+use Rattle.tree_names.specs.TreeRecords.NamedTrees.{layouts_below}
 
 -- the place on the plane of another with this square
 abbrev pub with_square : Place → Square → Place

@@ -1,6 +1,5 @@
 -- The circuit that the records of a tree mean is that of the flat layout.
-use Rattle.std.proofs.Common.{◌∙◌, length}
-use Rattle.tree_names.specs.CircuitModel.Elements.{elements_of}
+use Rattle.tree_circuits.proofs.Common.{◌∙◌, length, elements_of}
 use Rattle.tree_circuits.proofs.TreeNames.TreeElements.{elements_for, record_is, top_record}
 use Rattle.tree_circuits.proofs.RecordFets.{fets_of_records}
 use Rattle.tree_circuits.proofs.FlatNodes.{flat_nodes_are}

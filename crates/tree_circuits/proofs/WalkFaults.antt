@@ -1,20 +1,11 @@
 -- The walk through the records of a tree comes to the record of each cell and to no open cell, and its chains are no longer than the tree
 -- is deep.
-use Rattle.std.proofs.Common.{◌≡◌, ◌<◌, ◌≤◌, ℕ, zero, suc, max, Bool, false, if◌then◌else◌, Option, Some, None, List, [], ◌∷◌, map, length}
-use Rattle.std.proofs.Common.{inl, inr, refl, sym, ◌∙◌, ap, subst, arith}
-use Rattle.std.specs.Option.{option_or}
-use Rattle.std.proofs.lemmas.Bool.{cases_Bool}
-use Rattle.std.proofs.lemmas.Slice.Eq.{bytes_eq-Decides}
-use Rattle.std.specs.Str.{bytes_eq}
-use Rattle.finite_sets.specs.Lists.{In}
-use Rattle.finite_sets.proofs.Searches.{In-from_list_any}
-use Rattle.tree_names.specs.TechModel.declared.raw.RawTech.{RawTech}
-use Rattle.tree_names.specs.ExtModel.declared.records.CellExt.{CellExt}
+use Rattle.tree_circuits.proofs.Common.{◌≡◌, ◌≤◌, ℕ, zero, suc, Bool, false, if◌then◌else◌, Option, None, List, [], ◌∷◌, map, length, inl, inr, refl}
+use Rattle.tree_circuits.proofs.Common.{sym, ◌∙◌, ap, subst, arith, option_or, cases_Bool, bytes_eq-Decides, bytes_eq, In, In-from_list_any, RawTech}
+use Rattle.tree_circuits.proofs.Common.{CellExt, FlatFault, ext_of, is_among}
+use Rattle.std.proofs.Common.{◌<◌, max, Some}
 use Rattle.tree_names.specs.ExtModel.declared.records.UseRec.{UseRec}
-use Rattle.tree_names.specs.CircuitModel.declared.faults.FlatFault.{FlatFault}
 use Rattle.tree_names.specs.CircuitModel.declared.faults.FlatFault.TheVariants.{NoCell, Cycle}
-use Rattle.tree_names.specs.CircuitModel.Elements.{ext_of}
-use Rattle.tree_names.specs.CircuitModel.FlatNodes.{is_among}
 use Rattle.tree_names.specs.CircuitModel.Refusals.{chain_length, first_fault, greatest, use_fault, walk_fault}
 use Rattle.tree_circuits.specs.TreeRecords.NamedTrees.{NamedTree, NamedElements, own_body}
 use Rattle.tree_circuits.specs.TreeRecords.NamedTrees.NamedTree.{named_tree}

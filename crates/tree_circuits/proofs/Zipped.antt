@@ -1,12 +1,9 @@
 -- Lists that go along with each other, place by place.
-use Rattle.std.proofs.Common.{◌≡◌, ◌<◌, ℕ, zero, suc, List, [], ◌∷◌, ◌++◌, length, get_or, refl, sym, ap, subst, arith}
+use Rattle.tree_circuits.proofs.Common.{◌≡◌, ℕ, zero, suc, List, [], ◌∷◌, ◌++◌, length, refl, sym, ap, subst, arith, AreOneForOne, FetRec, NodeRec}
+use Rattle.tree_circuits.proofs.Common.{Element, AreFlatFets}
+use Rattle.std.proofs.Common.{◌<◌, get_or}
 use Rattle.std.proofs.lemmas.Option.{get_or_from_slice_get, slice_get_within}
-use Rattle.finite_sets.specs.OneForOne.{AreOneForOne}
 use Rattle.finite_sets.proofs.OneForOne.{AreOneForOne-from_places}
-use Rattle.tree_names.specs.ExtModel.declared.records.FetRec.{FetRec}
-use Rattle.tree_names.specs.ExtModel.declared.records.NodeRec.{NodeRec}
-use Rattle.tree_names.specs.CircuitModel.Elements.{Element}
-use Rattle.tree_names.specs.CircuitModel.FlatFets.{AreFlatFets}
 
 -- what holds at each place
 pub zip_from_places : {X Y : Type 0} (R : X → Y → Type 0) (xs : List X) (ys : List Y) → length ys ≡ length xs

@@ -1,32 +1,26 @@
 -- The merges of members that are marked by the regions of pieces are those of the groups of a clean cell.
-use Rattle.std.proofs.Common.{◌≡◌, ◌<◌, ℕ, suc, List, length, Option, Some, None, inl, refl, sym, subst, arith}
+use Rattle.tree_merges.proofs.Common.{◌≡◌, ◌<◌, ℕ, suc, List, length, Option, Some, None, inl, refl, sym, subst, arith, Covers, RawTech, Place}
+use Rattle.tree_merges.proofs.Common.{CellTree, parts_in, Regions, IsClean, NamedTree, PlaneStack, seen, PartTile, AreMeetingPieces, MOST_PARTS}
+use Rattle.tree_merges.proofs.Common.{AreMemberMarks, TileMembers, AreTileMembers, AreMarkedMerges, member_pairs, ArePieceRegions, ArePieces}
 use Rattle.geo_core.specs.declared.squares.Rect.{Rect}
-use Rattle.geo_core.specs.Covering.{Covers}
 use Rattle.flood_nodes.specs.RectContacts.Rects.{no_rect}
 use Rattle.tech_model.specs.declared.raw.Label.{Label}
-use Rattle.tech_model.specs.declared.raw.RawTech.{RawTech}
 use Rattle.tech_model.specs.Rules.{KeepsRules}
 use Rattle.tech_model.specs.WellFormed.{IsWellFormed}
 use Rattle.layout_model.specs.Layouts.{IsMaterial, Layout}
-use Rattle.layout_model.specs.Places.{Place}
-use Rattle.layout_model.specs.CellTrees.{CellTree}
-use Rattle.layout_model.specs.FlatSets.{parts_in}
 use Rattle.ext_model.specs.declared.records.MergeRec.{MergeRec}
 use Rattle.ext_model.specs.declared.records.NodeRec.{NodeRec}
 use Rattle.tile_members.specs.GroupMeetings.CellNodes.NodeRecords.{AreNodeRecords}
-use Rattle.flood_nodes.specs.declared.found.Regions.{Regions}
-use Rattle.hierarchy_model.specs.CleanCells.{IsClean}
-use Rattle.piece_groups.specs.MeetingSums.TreeRecords.NamedTrees.{NamedTree, OwnBody, layouts_of, own_body}
+use Rattle.piece_groups.specs.MeetingSums.TreeRecords.NamedTrees.{OwnBody, layouts_of, own_body}
 use Rattle.piece_groups.specs.MeetingSums.TreeRecords.Merges.{AreGroupMerges}
 use Rattle.tile_members.specs.GroupMeetings.TreeNames.CleanTrees.{IsCleanTree}
 use Rattle.piece_groups.specs.MeetingSums.LowerMeetingLaws.PartLayouts.{HoldsAllMeetings, Passes}
 use Rattle.hierarchy_model.specs.Restrictions.{IsRestriction}
-use Rattle.offences.specs.declared.plane_stacks.PlaneStack.{PlaneStack}
 use Rattle.tile_members.specs.GroupMeetings.Laws.{RecordedPartsHaveMembers}
 use Rattle.tile_members.specs.GroupMeetings.Members.{PartsHaveMembers}
 use Rattle.hier_merge.specs.CellTree.Trees.{cell_at}
 use Rattle.hier_merge.specs.CellLibrary.LayoutTrees.{tree_at}
-use Rattle.hier_merge.specs.CellLibrary.Libraries.{LibraryParts, IsLawfulLibrary, cells_seen, seen}
+use Rattle.hier_merge.specs.CellLibrary.Libraries.{LibraryParts, IsLawfulLibrary, cells_seen}
 use Rattle.hier_merge.specs.CellLibrary.OwnBoxes.{OwnBoxIs}
 use Rattle.hier_merge.specs.CellLibrary.PartCounts.{element_count}
 use Rattle.hier_merge.specs.CellLibrary.Views.{LibraryView, view_at}
@@ -35,17 +29,8 @@ use Rattle.hier_merge.proofs.CellLibrary.ViewLaws.{state_there}
 use Rattle.tile_members.specs.LibraryTrees.NamedCells.{named_tree_at, own_body_of}
 use Rattle.tile_members.specs.LibraryTrees.KeptRecords.{HaveKeptRecordsBelow, KeptRecords}
 use Rattle.tile_members.specs.LibraryTrees.RecordLaws.{KeptRecordsAreOfTheTree}
-use Rattle.hier_merge.specs.CellLibrary.declared.part_tiles.PartTile.{PartTile}
-use Rattle.hier_merge.specs.MeetingPieces.{AreMeetingPieces}
-use Rattle.piece_groups.specs.MeetingSums.declared.limits.TheConstants.{MOST_PARTS}
 use Rattle.piece_groups.specs.MemberLaws.{AreMarkedPieces}
-use Rattle.piece_groups.specs.MemberMarks.{AreMemberMarks}
 use Rattle.piece_groups.specs.Laws.{HasRecordsBelow, MarkedGroupsAreRecorded}
-use Rattle.tile_members.specs.declared.members.TileMembers.{TileMembers}
-use Rattle.tile_members.specs.TileMembers.{AreTileMembers}
-use Rattle.tree_merges.specs.steps.MarkedMerges.{AreMarkedMerges}
-use Rattle.tree_merges.specs.steps.MemberPairs.{member_pairs}
-use Rattle.tree_merges.specs.steps.Pieces.{ArePieceRegions, ArePieces}
 use Rattle.tree_merges.proofs.FlatTypes.{pieces_are_typed}
 use Rattle.tree_merges.proofs.PairLaws.{members_in_pieces}
 use Rattle.tree_merges.proofs.PieceTiles.{piece_is_tile}

@@ -1,40 +1,30 @@
 -- The flat type of each piece of a clean cell is one of the technology, and of the piece's plane.
-use Rattle.std.proofs.Common.{◌≡◌, ◌≢◌, ℕ, suc, zero, List, [], ◌∷◌, length, get_or, Option, Some, None, inl, inr, refl, sym, ap, subst, ◌∙◌, arith}
-use Rattle.std.specs.Prelude.{IsTrue, bit_or, slice_get, unwrap_or}
+use Rattle.tree_merges.proofs.Common.{◌≡◌, ℕ, suc, zero, List, [], ◌∷◌, length, get_or, Option, Some, None, inl, inr, refl, sym, ap, subst, ◌∙◌}
+use Rattle.tree_merges.proofs.Common.{arith, slice_get, slice_get-get_or, In, All-In, Covers, RawTech, Place, CellTree, parts_in, PlaneStack}
+use Rattle.tree_merges.proofs.Common.{SetLayout, IsClean, AreMeetingPieces, HasCoveringTiles, tile_of, tiles_of, PartTile}
+use Rattle.std.proofs.Common.{◌≢◌}
+use Rattle.std.specs.Prelude.{IsTrue, bit_or, unwrap_or}
 use Rattle.std.specs.Int.{bit_at}
 use Rattle.std.specs.Option.{option_map}
-use Rattle.std.proofs.lemmas.Option.{slice_get-get_or}
-use Rattle.finite_sets.specs.Lists.{In}
-use Rattle.finite_sets.proofs.Searches.{All-In}
 use Rattle.geo_core.specs.declared.squares.Square.{Square}
 use Rattle.geo_core.specs.Areas.{corner_of}
-use Rattle.geo_core.specs.Covering.{Covers}
 use Rattle.geo_core.proofs.CornerLaws.{corner_covers}
-use Rattle.tech_model.specs.declared.raw.RawTech.{RawTech}
 use Rattle.tech_model.specs.declared.raw.TypeId.{TypeId}
 use Rattle.tech_model.specs.Types.{is_type, joined, parts_of, plane_of, type_number}
 use Rattle.tech_model.proofs.JoinedLaws.{joined-found}
 use Rattle.tech_model.proofs.SetLaws.{or_bit_left, or_bit_right}
-use Rattle.layout_model.specs.Places.{Place}
-use Rattle.layout_model.specs.CellTrees.{CellTree}
-use Rattle.layout_model.specs.FlatSets.{parts_in}
-use Rattle.offences.specs.declared.plane_stacks.PlaneStack.{PlaneStack}
 use Rattle.offences.specs.Changes.{number_of}
-use Rattle.offences.specs.Offences.{Offends, SetLayout, flat_type, union_of}
+use Rattle.offences.specs.Offences.{Offends, flat_type, union_of}
 use Rattle.offences.specs.TypedStacks.{IsTypedStack, on_plane}
 use Rattle.offences.proofs.KindLaws.{kind_in-listed}
 use Rattle.offences.proofs.UnionLaws.{no_part, same_sets}
-use Rattle.hierarchy_model.specs.CleanCells.{IsClean}
 use Rattle.hierarchy_model.specs.Restrictions.{IsRestriction, PartStands}
 use Rattle.hierarchy_model.proofs.CleanLaws.{flat_defined}
 use Rattle.hierarchy_model.proofs.PartSearch.{flat_of_none, kind_stands}
 use Rattle.piece_groups.specs.MeetingSums.LowerMeetingLaws.PartLayouts.{Passes}
 use Rattle.piece_groups.proofs.MeetingSums.LowerMeetingLaws.RestrictionLaws.{none_elsewhere}
 use Rattle.flood_nodes.specs.Stacking.{AreTyped}
-use Rattle.hier_merge.specs.MeetingPieces.{AreMeetingPieces, HasCoveringTiles}
 use Rattle.hier_merge.proofs.MeetingOffences.{places_of_clean}
-use Rattle.piece_groups.specs.MeetingSums.StackTiles.{tile_of, tiles_of}
-use Rattle.hier_merge.specs.CellLibrary.declared.part_tiles.PartTile.{PartTile}
 use Rattle.tree_merges.proofs.PieceTiles.{all_tiles}
 
 -- ---- what all parts have together

@@ -1,14 +1,11 @@
 -- Pairs that are joined one after another.
-use Rattle.std.proofs.Common.{◌≡◌, ◌+◌, ◌<◌, ℕ, suc, List, [], ◌∷◌, ◌++◌, map, length, take, get_or, sym, ap, subst, ◌∙◌, arith}
+use Rattle.tree_merges.proofs.Common.{◌≡◌, ◌+◌, ◌<◌, ℕ, suc, List, [], ◌∷◌, map, length, take, get_or, sym, ap, subst, ◌∙◌, arith, slice_index}
+use Rattle.tree_merges.proofs.Common.{Divides, IsPair, RegionTile, PlaneStack, region_position, AddsPairs, pairs_from, piece_pairs}
+use Rattle.std.proofs.Common.{◌++◌}
 use Rattle.std.proofs.Common.{append_assoc, append-nil}
 use Rattle.std.proofs.lemmas.List.{length-take-le, map-append, take_more}
 use Rattle.std.proofs.lemmas.Simd.{map-map}
-use Rattle.std.specs.Prelude.{slice_index}
-use Rattle.partition.specs.Divides.{AddsPair, Divides, IsPair}
-use Rattle.layout_model.specs.declared.region_tiles.RegionTile.{RegionTile}
-use Rattle.offences.specs.declared.plane_stacks.PlaneStack.{PlaneStack}
-use Rattle.piece_groups.specs.MemberMarks.{region_position}
-use Rattle.tree_merges.specs.steps.MemberPairs.{AddsPairs, pairs_from, piece_pairs}
+use Rattle.partition.specs.Divides.{AddsPair}
 
 abbrev pub Pair : Type 0
 Pair = ℕ × ℕ

@@ -1,33 +1,12 @@
 -- The tiles of a meeting have members, and its pieces have regions.
-use Rattle.std.proofs.Common.{◌≡◌, ◌≤◌, ◌<◌, ℕ, List, [], ◌∷◌, length, map, get_or, Some, sym, ap, subst, ◌∙◌, arith}
-use Rattle.std.specs.Prelude.{slice_get, slice_index, All}
-use Rattle.std.specs.List.{range_with_len}
-use Rattle.std.proofs.lemmas.List.{length-map}
-use Rattle.std.proofs.lemmas.Option.{slice_get_within, slice_get-get_or}
-use Rattle.finite_sets.proofs.Members.{In-index}
-use Rattle.finite_sets.proofs.Searches.{All-from_In, All-In}
-use Rattle.tech_model.specs.declared.raw.RawTech.{RawTech}
-use Rattle.layout_model.specs.declared.region_tiles.RegionTile.{RegionTile}
-use Rattle.layout_model.specs.RegionTiles.{regions_of}
-use Rattle.layout_model.specs.CellTrees.{CellTree}
-use Rattle.flood_nodes.specs.declared.found.Regions.{Regions}
-use Rattle.offences.specs.declared.plane_stacks.PlaneStack.{PlaneStack}
-use Rattle.offences.specs.Offences.{SetLayout}
-use Rattle.offences.specs.PlaneStacks.{ArePlaneStacks}
-use Rattle.offences.specs.TypedStacks.{AreByPart}
-use Rattle.piece_groups.specs.MeetingSums.TreeRecords.NamedTrees.{NamedTree}
-use Rattle.hier_merge.specs.CellLibrary.declared.part_tiles.PartTile.{PartTile}
-use Rattle.hier_merge.specs.MeetingPieces.{AreMeetingPieces, HasCoveringTiles}
-use Rattle.piece_groups.specs.MeetingSums.declared.limits.TheConstants.{MOST_PARTS}
-use Rattle.piece_groups.specs.MeetingSums.Sums.{AreMeetingSums}
-use Rattle.piece_groups.specs.MemberMarks.{AreMemberMarks, mark_at}
+use Rattle.tree_merges.proofs.Common.{◌≡◌, ◌≤◌, ◌<◌, ℕ, List, [], ◌∷◌, length, map, get_or, Some, sym, ap, subst, ◌∙◌, arith, slice_get, slice_index}
+use Rattle.tree_merges.proofs.Common.{All, range_with_len, length-map, slice_get_within, slice_get-get_or, In-index, All-from_In, All-In, RawTech}
+use Rattle.tree_merges.proofs.Common.{RegionTile, regions_of, CellTree, Regions, PlaneStack, SetLayout, ArePlaneStacks, AreByPart, NamedTree}
+use Rattle.tree_merges.proofs.Common.{PartTile, AreMeetingPieces, HasCoveringTiles, MOST_PARTS, AreMeetingSums, AreMemberMarks, mark_at, TileMembers}
+use Rattle.tree_merges.proofs.Common.{AreTileMembers, member_pairs, AreNumbered, ArePieceRegions, ArePieces}
 use Rattle.piece_groups.specs.Laws.{piece_marks}
-use Rattle.tile_members.specs.declared.members.TileMembers.{TileMembers}
-use Rattle.tile_members.specs.TileMembers.{AreTileMembers}
 use Rattle.tree_merges.specs.declared.merging.MarkedSums.{MarkedSums}
 use Rattle.tree_merges.specs.steps.MarkedMerges.{AreMarkedSums}
-use Rattle.tree_merges.specs.steps.MemberPairs.{member_pairs}
-use Rattle.tree_merges.specs.steps.Pieces.{AreNumbered, ArePieceRegions, ArePieces}
 use Rattle.tree_merges.proofs.PieceTiles.{as_many}
 use Rattle.tree_merges.proofs.RegionCounts.{marks_are_few}
 

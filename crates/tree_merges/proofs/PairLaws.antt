@@ -1,20 +1,11 @@
 -- The pairs of members and pieces by the tiles that cover these: they tell which members stand in which pieces.
-use Rattle.std.proofs.Common.{◌≡◌, ◌+◌, ◌<◌, ℕ, zero, suc, List, [], ◌∷◌, length, Some, inl, inr, refl, sym, ap, subst, ◌∙◌, arith}
-use Rattle.std.specs.Prelude.{slice_get, slice_index}
-use Rattle.std.proofs.lemmas.Option.{slice_get_within, slice_get-get_or, get_or_from_slice_get}
-use Rattle.finite_sets.specs.Lists.{In}
-use Rattle.geo_core.specs.Covering.{Covers}
-use Rattle.finite_sets.proofs.Members.{In-append_cases, In-append_left, In-append_right, In-get_or, In-index, In-map, In-map_source}
-use Rattle.finite_sets.proofs.Searches.{All-In}
-use Rattle.tech_model.specs.declared.raw.RawTech.{RawTech}
-use Rattle.layout_model.specs.CellTrees.{CellTree}
-use Rattle.offences.specs.declared.plane_stacks.PlaneStack.{PlaneStack}
-use Rattle.piece_groups.specs.MeetingSums.TreeRecords.NamedTrees.{NamedTree}
-use Rattle.hier_merge.specs.MeetingPieces.{AreMeetingPieces, CoversPiece, HasCoveringTiles}
-use Rattle.hier_merge.specs.CellLibrary.declared.part_tiles.PartTile.{PartTile}
+use Rattle.tree_merges.proofs.Common.{◌≡◌, ◌+◌, ◌<◌, ℕ, zero, suc, List, [], ◌∷◌, length, Some, inl, inr, refl, sym, ap, subst, ◌∙◌, arith}
+use Rattle.tree_merges.proofs.Common.{slice_get, slice_index, slice_get_within, slice_get-get_or, get_or_from_slice_get, In, Covers, In-index}
+use Rattle.tree_merges.proofs.Common.{In-map_source, All-In, RawTech, CellTree, PlaneStack, NamedTree, AreMeetingPieces, HasCoveringTiles, PartTile}
+use Rattle.tree_merges.proofs.Common.{AreTileMembers, member_pairs, pairs_from, piece_pairs}
+use Rattle.finite_sets.proofs.Members.{In-append_cases, In-append_left, In-append_right, In-get_or, In-map}
+use Rattle.hier_merge.specs.MeetingPieces.{CoversPiece}
 use Rattle.piece_groups.specs.PieceMembers.{AreMembersInPieces, IsNumberedIn}
-use Rattle.tile_members.specs.TileMembers.{AreTileMembers}
-use Rattle.tree_merges.specs.steps.MemberPairs.{member_pairs, pairs_from, piece_pairs}
 
 -- The member with this number has the tile that covers the piece at the index, as one of the piece's own.
 record IsOfTile (numbers : List ℕ) (stacks : List PlaneStack) (number index : ℕ) : Type 0 where

@@ -1,15 +1,9 @@
 -- The marks of pieces: each is that of the region of the piece, and one of so many.
-use Rattle.std.proofs.Common.{◌≡◌, ◌+◌, ◌<◌, ℕ, List, length, map, sym, ap, subst, ◌∙◌, arith}
-use Rattle.std.specs.Prelude.{slice_index, All}
-use Rattle.std.specs.List.{range_with_len}
-use Rattle.std.proofs.lemmas.List.{get_or-map, length-map}
+use Rattle.tree_merges.proofs.Common.{◌≡◌, ◌+◌, ◌<◌, ℕ, List, length, map, sym, ap, subst, ◌∙◌, arith, slice_index, All, range_with_len, get_or-map}
+use Rattle.tree_merges.proofs.Common.{length-map, RegionTile, regions_of, no_tile, tile_at, mark_at, region_position}
 use Rattle.std.proofs.lemmas.List.FromFn.{fill_by_all, get_or-map-range_with_len, length-map-range_with_len}
 use Rattle.partition.specs.Marks.{IsNumbered}
-use Rattle.layout_model.specs.declared.region_tiles.RegionTile.{RegionTile}
-use Rattle.layout_model.specs.RegionTiles.{regions_of}
 use Rattle.flood_nodes.specs.SoundTiles.{IsSoundTile}
-use Rattle.flood_nodes.specs.TileShares.{no_tile, tile_at}
-use Rattle.piece_groups.specs.MemberMarks.{mark_at, region_position}
 
 -- the region of a tile, by its index
 pub region_at : (tiles : List RegionTile) (index : ℕ) → index < length tiles → slice_index (regions_of tiles) index ≡ (tile_at tiles index).region

@@ -1,28 +1,15 @@
 -- The pieces of parts as tiles: they lie apart, and keep their places and their contacts when they get the numbers of their regions.
-use Rattle.std.proofs.Common.{◌≡◌, ◌≤◌, ◌<◌, ℕ, List, length, get_or, Some, sym, ap, subst, ◌∙◌, arith}
-use Rattle.std.specs.Prelude.{◌↔◌, slice_get, slice_index, All, AllPairs}
-use Rattle.std.proofs.lemmas.List.{get_or-map, length-map}
-use Rattle.std.proofs.lemmas.Option.{slice_get_within, slice_get-get_or, get_or_from_slice_get}
-use Rattle.finite_sets.specs.Lists.{In, Lists}
-use Rattle.finite_sets.proofs.Members.{In-map_source}
+use Rattle.tree_merges.proofs.Common.{◌≡◌, ◌≤◌, ◌<◌, ℕ, List, length, get_or, Some, sym, ap, subst, ◌∙◌, arith, slice_get, slice_index, All}
+use Rattle.tree_merges.proofs.Common.{AllPairs, get_or-map, length-map, slice_get_within, slice_get-get_or, get_or_from_slice_get, In, Lists}
+use Rattle.tree_merges.proofs.Common.{In-map_source, All-from_In, IsNear, Covers, IsProper, RawTech, RegionTile, Place, regions_of, AreSpread}
+use Rattle.tree_merges.proofs.Common.{IsTileContact, no_tile, tile_at, PlaneStack, SetLayout, ArePlaneStacks, tile_of, tiles_of}
+use Rattle.std.specs.Prelude.{◌↔◌}
 use Rattle.finite_sets.proofs.Pairs.{AllPairs-from_Pairwise, Pairwise-from_AllPairs, Pairwise-map}
-use Rattle.finite_sets.proofs.Searches.{All-from_In}
-use Rattle.geo_core.specs.Areas.{IsNear}
-use Rattle.geo_core.specs.Covering.{Covers, IsProper}
 use Rattle.flood_nodes.specs.RectContacts.declared.contacts.Contact.{Contact}
-use Rattle.tech_model.specs.declared.raw.RawTech.{RawTech}
-use Rattle.layout_model.specs.declared.region_tiles.RegionTile.{RegionTile}
-use Rattle.layout_model.specs.Places.{Place}
-use Rattle.layout_model.specs.RegionTiles.{LieApart, LiesIn, regions_of}
+use Rattle.layout_model.specs.RegionTiles.{LieApart, LiesIn}
 use Rattle.flood_nodes.specs.Renumbered.{AreRenumbered, with_region}
-use Rattle.flood_nodes.specs.Stacking.{AreSpread}
-use Rattle.flood_nodes.specs.TileShares.{IsTileContact, no_tile, tile_at}
 use Rattle.flood_nodes.proofs.Renumbering.{numbered_contacts}
-use Rattle.offences.specs.declared.plane_stacks.PlaneStack.{PlaneStack}
-use Rattle.offences.specs.Offences.{SetLayout}
-use Rattle.offences.specs.PlaneStacks.{ArePlaneStacks}
 use Rattle.offences.specs.TypedStacks.{no_typed_stack}
-use Rattle.piece_groups.specs.MeetingSums.StackTiles.{tile_of, tiles_of}
 use Rattle.piece_groups.specs.PieceMembers.{LiesInPiece}
 
 -- what holds of each piece as a tile holds of all tiles

@@ -1,5 +1,5 @@
 -- Numbered marks are no more than the numbers that have them.
-use Rattle.std.proofs.Common.{◌≤◌, ◌<◌, ℕ, zero, suc, List, length, arith}
+use Rattle.tree_merges.proofs.Common.{◌≤◌, ◌<◌, ℕ, zero, suc, List, length, arith}
 use Rattle.finite_sets.specs.Least.{IsLeast}
 use Rattle.partition.specs.Marks.{HasMark, IsNumbered}
 

@@ -1,27 +1,9 @@
 -- The nodes that the records mean go by the names of the flat nodes.
-use Rattle.std.proofs.Common.{ℕ, List, [], inl, inr, subst}
-use Rattle.std.specs.Prelude.{◌↔◌}
-use Rattle.name_classes.specs.FiniteSets.Lists.{In}
-use Rattle.name_classes.proofs.FiniteSets.Chains.{Chain-append, Chain-either_back}
-use Rattle.name_classes.specs.FiniteSets.OneForOne.{AreOneForOne}
-use Rattle.hierarchy_model.specs.TechModel.declared.raw.RawTech.{RawTech}
-use Rattle.hierarchy_model.specs.TechModel.Rules.{KeepsRules}
-use Rattle.hierarchy_model.specs.TechModel.WellFormed.{IsWellFormed}
-use Rattle.name_classes.specs.ExtModel.declared.records.CellExt.{CellExt}
-use Rattle.name_classes.specs.ExtModel.declared.records.NodeRec.{NodeRec}
-use Rattle.name_classes.specs.ExtModel.Paths.{full_name}
-use Rattle.name_classes.specs.ExtModel.RecordNames.{names_of}
-use Rattle.own_record_laws.specs.LayoutModel.Places.{Place}
-use Rattle.name_classes.specs.CircuitModel.Elements.{Element}
+use Rattle.tree_names.proofs.Common.{ℕ, List, [], inl, inr, subst, ◌↔◌, In, Chain-append, Chain-either_back, AreOneForOne, RawTech, KeepsRules}
+use Rattle.tree_names.proofs.Common.{IsWellFormed, CellExt, NodeRec, full_name, names_of, Place, Element, AreLinked, AreOneNode, pairwise_names}
+use Rattle.tree_names.proofs.Common.{HasNodePath, IsFlatName, NamedTree, named_standings, HasTreeRecords, IsCleanTree, IsElementFor}
 use Rattle.name_classes.specs.CircuitModel.FlatNodes.{AreFlatNodes, IsFlatNode}
-use Rattle.name_classes.specs.CircuitModel.FullNames.{AreLinked, AreOneNode}
-use Rattle.name_classes.proofs.FullNames.ListOrders.{pairwise_names}
-use Rattle.own_record_laws.specs.TreeRecords.FlatLayouts.{HasNodePath, IsFlatName}
-use Rattle.own_record_laws.specs.TreeRecords.NamedTrees.{NamedTree, named_standings}
-use Rattle.own_record_laws.specs.TreeRecords.TreeRecords.{HasTreeRecords}
 use Rattle.tree_names.specs.CircuitNodes.{IsNamedAsFlatNode, NameFlatNodes}
-use Rattle.tree_names.specs.CleanTrees.{IsCleanTree}
-use Rattle.tree_names.specs.TreeElements.{IsElementFor}
 use Rattle.tree_names.proofs.FlatNames.{flat_names_are, full_path, path_full}
 use Rattle.tree_names.proofs.RecordedNodes.{path_material, some_path}
 

@@ -1,13 +1,6 @@
 -- What stands below a clean tree is clean.
-use Rattle.hierarchy_model.specs.TechModel.declared.raw.RawTech.{RawTech}
-use Rattle.name_classes.specs.GeoCore.declared.transforms.Transform.{Transform}
-use Rattle.std.proofs.Common.{ℕ, List}
-use Rattle.hierarchy_model.specs.LayoutModel.FlatSets.{AreTyped}
-use Rattle.hierarchy_model.specs.CleanCells.{AreClean}
-use Rattle.own_record_laws.specs.TreeRecords.NamedTrees.{NamedTree, NamedElements, OwnBody, layouts_below}
-use Rattle.own_record_laws.specs.TreeRecords.NamedTrees.NamedTree.{named_tree}
-use Rattle.own_record_laws.specs.TreeRecords.NamedTrees.NamedElements.{element_then}
-use Rattle.tree_names.specs.CleanTrees.{HaveElementNames, IsCleanTree}
+use Rattle.tree_names.proofs.Common.{RawTech, Transform, ℕ, List, AreTyped, AreClean, NamedTree, NamedElements, OwnBody, layouts_below, named_tree}
+use Rattle.tree_names.proofs.Common.{element_then, HaveElementNames, IsCleanTree}
 
 -- The tree of each element is clean.
 pub record AreCleanTrees (raw : RawTech) (elements : NamedElements) : Type 0 where

@@ -1,20 +1,11 @@
 -- Full names that the records of elements link are those of paths that the records of the tree join.
-use Rattle.std.proofs.Common.{◌≡◌, ◌⊎◌, ℕ, if◌then◌else◌, List, [], ◌∷◌, inl, inr, refl, sym, ◌∙◌, ap, subst}
-use Rattle.name_classes.specs.FiniteSets.Lists.{In}
-use Rattle.name_classes.proofs.FiniteSets.Members.{In-map, In-map_source}
+use Rattle.tree_names.proofs.Common.{◌≡◌, ℕ, if◌then◌else◌, List, [], ◌∷◌, inl, inr, refl, sym, ◌∙◌, ap, subst, In, In-map, In-map_source}
+use Rattle.tree_names.proofs.Common.{AreOneForOne, RawTech, CellExt, is_global, full_name, last_name, path_text, names_of, last_name-behind, Element}
+use Rattle.tree_names.proofs.Common.{AreLinked, NamedTree, NamedStanding, named_standings, ArePathsJoined, IsElementFor}
+use Rattle.std.proofs.Common.{◌⊎◌}
 use Rattle.name_classes.proofs.FiniteSets.OneForOne.{AreOneForOne-source, AreOneForOne-image}
-use Rattle.name_classes.specs.FiniteSets.OneForOne.{AreOneForOne}
-use Rattle.hierarchy_model.specs.TechModel.declared.raw.RawTech.{RawTech}
-use Rattle.name_classes.specs.ExtModel.declared.records.CellExt.{CellExt}
-use Rattle.name_classes.specs.ExtModel.NodeNames.{is_global}
-use Rattle.name_classes.specs.ExtModel.Paths.{full_name, last_name, path_text}
-use Rattle.name_classes.specs.ExtModel.RecordNames.{names_of}
-use Rattle.name_classes.proofs.ExtModel.PathNames.{last_name-behind}
-use Rattle.name_classes.specs.CircuitModel.Elements.{Element}
-use Rattle.name_classes.specs.CircuitModel.FullNames.{AreLinked, AreMerged, AreNamesOfOne, name_in}
-use Rattle.own_record_laws.specs.TreeRecords.NamedTrees.{NamedTree, NamedStanding, named_standings}
-use Rattle.tree_names.specs.PathLinks.{AreMergedIn, AreNamesOfNode, ArePathsJoined}
-use Rattle.tree_names.specs.TreeElements.{IsElementFor}
+use Rattle.name_classes.specs.CircuitModel.FullNames.{AreMerged, AreNamesOfOne, name_in}
+use Rattle.tree_names.specs.PathLinks.{AreMergedIn, AreNamesOfNode}
 use Rattle.tree_names.proofs.Standings.{joined_among, joined_there}
 use Rattle.tree_names.proofs.TreeElements.{one_record}
 

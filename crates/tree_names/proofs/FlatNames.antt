@@ -1,28 +1,11 @@
 -- The names of a flat node are the full names of records that are of one node with one of its names.
-use Rattle.std.proofs.Common.{◌≡◌, ℕ, List, [], ◌∷◌, map, inl, inr, refl, sym, ◌∙◌, ap, subst}
-use Rattle.std.specs.Prelude.{◌↔◌, Some}
-use Rattle.name_classes.specs.FiniteSets.Lists.{In}
-use Rattle.name_classes.proofs.FiniteSets.Members.{In-map, In-map_source}
-use Rattle.name_classes.proofs.FiniteSets.Images.{In-flat_map, In-flat_map_source}
+use Rattle.tree_names.proofs.Common.{◌≡◌, ℕ, List, [], ◌∷◌, map, inl, inr, refl, sym, ◌∙◌, ap, subst, ◌↔◌, Some, In, In-map, In-map_source}
+use Rattle.tree_names.proofs.Common.{In-flat_map, In-flat_map_source, AreOneForOne, RawTech, KeepsRules, IsWellFormed, CellExt, full_name, path_text}
+use Rattle.tree_names.proofs.Common.{names_of, node_names, Place, place_back, Element, ext_of, AreOneNode, HasNodePath, HasNodePathBelow, IsFlatName}
+use Rattle.tree_names.proofs.Common.{NamedTree, NamedElements, NamedStanding, named_standings, named_standings_below, named_above, named_tree}
+use Rattle.tree_names.proofs.Common.{no_more, element_then, HasTreeRecords, HaveTreeRecords, IsCleanTree, IsElementFor}
 use Rattle.name_classes.proofs.FiniteSets.OneForOne.{AreOneForOne-image}
-use Rattle.name_classes.specs.FiniteSets.OneForOne.{AreOneForOne}
-use Rattle.hierarchy_model.specs.TechModel.declared.raw.RawTech.{RawTech}
-use Rattle.hierarchy_model.specs.TechModel.Rules.{KeepsRules}
-use Rattle.hierarchy_model.specs.TechModel.WellFormed.{IsWellFormed}
-use Rattle.name_classes.specs.ExtModel.declared.records.CellExt.{CellExt}
-use Rattle.name_classes.specs.ExtModel.Paths.{full_name, path_text}
-use Rattle.name_classes.specs.ExtModel.RecordNames.{names_of, node_names}
-use Rattle.own_record_laws.specs.LayoutModel.Places.{Place}
-use Rattle.hierarchy_model.specs.LayoutModel.CellTrees.{place_back}
-use Rattle.name_classes.specs.CircuitModel.Elements.{Element, ext_of}
-use Rattle.name_classes.specs.CircuitModel.FullNames.{AreOneNode, IsFullName, name_in}
-use Rattle.own_record_laws.specs.TreeRecords.FlatLayouts.{HasNodePath, HasNodePathBelow, IsFlatName}
-use Rattle.own_record_laws.specs.TreeRecords.NamedTrees.{NamedTree, NamedElements, NamedStanding, named_standings, named_standings_below, named_above}
-use Rattle.own_record_laws.specs.TreeRecords.NamedTrees.NamedTree.{named_tree}
-use Rattle.own_record_laws.specs.TreeRecords.NamedTrees.NamedElements.{no_more, element_then}
-use Rattle.own_record_laws.specs.TreeRecords.TreeRecords.{HasTreeRecords, HaveTreeRecords}
-use Rattle.tree_names.specs.CleanTrees.{IsCleanTree}
-use Rattle.tree_names.specs.TreeElements.{IsElementFor}
+use Rattle.name_classes.specs.CircuitModel.FullNames.{IsFullName, name_in}
 use Rattle.tree_names.proofs.ElementLinks.{full_name-cell, link_joined}
 use Rattle.tree_names.proofs.JoinedPaths.{joined_share}
 use Rattle.tree_names.proofs.NodeNames.{flat_node_names, names_one_flat_node}

@@ -1,15 +1,12 @@
 -- Full names of names in one cell stand in the order of the names.
-use Rattle.std.proofs.Common.{◌≡◌, ℕ, true, false, Bool, IsTrue, if◌then◌else◌, List, [], inl, inr, sym, ◌∙◌, ap, subst}
-use Rattle.std.proofs.lemmas.Bool.{cases_Bool}
-use Rattle.name_classes.specs.ExtModel.NodeNames.{is_global, is_node_name}
-use Rattle.name_classes.specs.ExtModel.Paths.{full_name, path_text}
+use Rattle.tree_names.proofs.Common.{◌≡◌, ℕ, true, false, Bool, IsTrue, if◌then◌else◌, List, [], inl, inr, sym, ◌∙◌, ap, subst, cases_Bool}
+use Rattle.tree_names.proofs.Common.{is_global, is_node_name, full_name, path_text, last_name-whole, IsNoLaterName}
 use Rattle.name_classes.proofs.ExtModel.NameOrders.{name_cmp_total}
-use Rattle.name_classes.proofs.ExtModel.PathNames.{last_name-whole}
 use Rattle.name_classes.proofs.ExtModel.PathOrders.{paths_keep_the_order}
 use Rattle.name_classes.specs.FullNames.OwnNames.{is_marked}
 use Rattle.name_classes.proofs.FullNames.ListOrders.{not_before_itself}
 use Rattle.name_classes.proofs.FullNames.NameForms.{global_before_path, is_global-mark, last_from_form}
-use Rattle.own_record_laws.specs.TreeRecords.FetRecords.{IsNameBefore, IsNoLaterName}
+use Rattle.own_record_laws.specs.TreeRecords.FetRecords.{IsNameBefore}
 
 module _ (ids : List (List ℕ)) where
   -- the full name of a name of a node, by its mark

@@ -1,32 +1,19 @@
 -- Paths that end in global names: labels give these names, and where a label does, a path ends in its name.
-use Rattle.std.proofs.Common.{◌≡◌, not, ℕ, true, IsTrue, List, [], ◌∷◌, ◌++◌, inl, inr, refl, sym, ◌∙◌, ap, subst}
+use Rattle.tree_names.proofs.Common.{◌≡◌, ℕ, true, IsTrue, List, [], ◌∷◌, ◌++◌, inl, inr, refl, sym, ◌∙◌, ap, subst, false≢true, Chain-append}
+use Rattle.tree_names.proofs.Common.{RawTech, KeepsRules, IsWellFormed, CellExt, is_global, is_node_name, slashes_in, last_name, path_text}
+use Rattle.tree_names.proofs.Common.{last_name-behind, last_name-whole, slashes_in-node_name, Place, place_back, AreOneNamedNode-sym, AreOneFlatNode}
+use Rattle.tree_names.proofs.Common.{HasOwnName, HasNodePath, HasNodePathBelow, HasTextBelow, HasTextSomewhere, NamedTree, NamedElements, OwnBody}
+use Rattle.tree_names.proofs.Common.{place_forth, named_tree, no_more, element_then, above_from_back, HasTreeRecords, HaveTreeRecords, IsCleanTree}
+use Rattle.std.proofs.Common.{not}
 use Rattle.std.specs.Prelude.{codes}
-use Rattle.std.proofs.lemmas.Bool.{and_parts, false≢true}
-use Rattle.name_classes.proofs.FiniteSets.Chains.{Chain-append}
-use Rattle.hierarchy_model.specs.TechModel.declared.raw.RawTech.{RawTech}
-use Rattle.hierarchy_model.specs.TechModel.Rules.{KeepsRules}
+use Rattle.std.proofs.lemmas.Bool.{and_parts}
 use Rattle.hierarchy_model.specs.TechModel.Types.{first_name, layer_at, layer_of}
-use Rattle.hierarchy_model.specs.TechModel.WellFormed.{IsWellFormed}
 use Rattle.name_classes.specs.ExtModel.declared.names.TheConstants.{GENERATED_MARK, GLOBAL_MARK}
-use Rattle.name_classes.specs.ExtModel.declared.records.CellExt.{CellExt}
-use Rattle.name_classes.specs.ExtModel.NodeNames.{ends_in, is_global, is_naming_text, is_node_name, slashes_in}
-use Rattle.name_classes.specs.ExtModel.Paths.{last_name, path_text}
-use Rattle.name_classes.proofs.ExtModel.PathNames.{last_name-behind, last_name-whole}
-use Rattle.name_classes.proofs.ExtModel.RecordNameLaws.{slashes_in-node_name}
-use Rattle.own_record_laws.specs.LayoutModel.Places.{Place}
-use Rattle.hierarchy_model.specs.LayoutModel.CellTrees.{place_back}
+use Rattle.name_classes.specs.ExtModel.NodeNames.{ends_in, is_naming_text}
 use Rattle.own_record_laws.specs.Names.Attachments.{HasText, label_at}
 use Rattle.own_record_laws.specs.Names.GeneratedNames.{coordinate_text, generated_name}
 use Rattle.own_record_laws.proofs.Names.AttachLaws.{suits_material}
-use Rattle.own_record_laws.proofs.CellNodes.NodePlaces.{AreOneNamedNode-sym}
 use Rattle.own_record_laws.proofs.NodesByName.{ends_in-mark}
-use Rattle.own_record_laws.specs.TreeRecords.FlatLayouts.{AreOneFlatNode, HasOwnName, HasNodePath, HasNodePathBelow, HasTextBelow, HasTextSomewhere}
-use Rattle.own_record_laws.specs.TreeRecords.NamedTrees.{NamedTree, NamedElements, OwnBody, place_forth}
-use Rattle.own_record_laws.specs.TreeRecords.NamedTrees.NamedTree.{named_tree}
-use Rattle.own_record_laws.specs.TreeRecords.NamedTrees.NamedElements.{no_more, element_then}
-use Rattle.own_record_laws.proofs.TreeRecords.MoveLaws.{above_from_back}
-use Rattle.own_record_laws.specs.TreeRecords.TreeRecords.{HasTreeRecords, HaveTreeRecords}
-use Rattle.tree_names.specs.CleanTrees.{IsCleanTree}
 use Rattle.tree_names.proofs.CleanTrees.{AreCleanTrees, clean_below, clean_first, clean_rest}
 use Rattle.tree_names.proofs.LiftedLinks.{StandBelow, below_stands, flat_node_up, own_node_up}
 use Rattle.tree_names.proofs.OwnNames.{own_name_whole}

@@ -1,25 +1,11 @@
 -- What the merges of a record tell: each joins two members of a group, and each member of a group is joined with the group's name.
-use Rattle.std.proofs.Common.{◌≡◌, ℕ, Bool, true, false, if◌then◌else◌, List, [], ◌∷◌, inl, inr, refl, sym, ◌∙◌, ap, subst}
-use Rattle.name_classes.specs.FiniteSets.Chain.{Chain}
-use Rattle.name_classes.specs.FiniteSets.Lists.{In}
-use Rattle.name_classes.proofs.FiniteSets.Chains.{Chain-one, Chain-same}
-use Rattle.name_classes.proofs.FiniteSets.Members.{In-map, In-map_source}
-use Rattle.name_classes.proofs.FiniteSets.Images.{In-flat_map}
-use Rattle.hierarchy_model.specs.TechModel.declared.raw.RawTech.{RawTech}
-use Rattle.hierarchy_model.specs.TechModel.WellFormed.{IsWellFormed}
-use Rattle.name_classes.specs.ExtModel.declared.records.CellExt.{CellExt}
+use Rattle.tree_names.proofs.Common.{◌≡◌, ℕ, Bool, true, false, if◌then◌else◌, List, [], ◌∷◌, inl, inr, refl, sym, ◌∙◌, ap, subst, Chain, In}
+use Rattle.tree_names.proofs.Common.{Chain-one, In-map, In-map_source, In-flat_map, RawTech, IsWellFormed, CellExt, IsMaterial, Place, flat_layout}
+use Rattle.tree_names.proofs.Common.{IsGroupName, IsMemberAt, NamedTree, named_tree, HasTreeRecord, IsCleanTree, ArePathsJoined}
+use Rattle.name_classes.proofs.FiniteSets.Chains.{Chain-same}
 use Rattle.name_classes.specs.ExtModel.declared.records.MergeRec.{MergeRec}
-use Rattle.own_record_laws.specs.LayoutModel.Layouts.{IsMaterial}
-use Rattle.own_record_laws.specs.LayoutModel.Places.{Place}
 use Rattle.own_record_laws.specs.LayoutModel.Technologies.{Class, rules_of}
-use Rattle.own_record_laws.specs.TreeRecords.FlatLayouts.{flat_layout}
-use Rattle.own_record_laws.specs.TreeRecords.MemberGroups.{IsGroupName, IsMemberAt}
-use Rattle.own_record_laws.specs.TreeRecords.NamedTrees.{NamedTree}
-use Rattle.own_record_laws.specs.TreeRecords.NamedTrees.NamedTree.{named_tree}
 use Rattle.own_record_laws.specs.TreeRecords.Merges.{Adjustment, MemberGroup, group_name, merge_of, group_merges, zero_adjustment}
-use Rattle.own_record_laws.specs.TreeRecords.TreeRecords.{HasTreeRecord}
-use Rattle.tree_names.specs.CleanTrees.{IsCleanTree}
-use Rattle.tree_names.specs.PathLinks.{ArePathsJoined}
 use Rattle.tree_names.proofs.GroupNames.{one_group, one_group_name}
 
 -- the group with these members

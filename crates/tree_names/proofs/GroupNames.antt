@@ -1,21 +1,10 @@
 -- The names of groups and members: one group goes by a name, and a group goes by one name.
-use Rattle.std.proofs.Common.{◌≡◌, ℕ, List, inl, inr, refl, sym, ◌∙◌, ap, subst}
-use Rattle.name_classes.specs.FiniteSets.Lists.{Distinct}
-use Rattle.name_classes.proofs.FiniteSets.Chains.{Chain-append, Chain-one}
+use Rattle.tree_names.proofs.Common.{◌≡◌, ℕ, List, inl, inr, refl, sym, ◌∙◌, ap, subst, Distinct, Chain-append, Chain-one, RawTech, IsWellFormed}
+use Rattle.tree_names.proofs.Common.{HasTypesOf, Place, place_back, IsNoLaterName, later_both_ways, AreOneGroup, AreOneGroupBelow, IsGroupName}
+use Rattle.tree_names.proofs.Common.{IsMemberAt, IsMemberBelow, NamedTree, NamedElements, OwnBody, named_tree, no_more, element_then, IsCleanTree}
+use Rattle.tree_names.proofs.Common.{ids_in}
 use Rattle.name_classes.proofs.FiniteSets.Leasts.{IsLeast-iff, IsLeast-unique}
-use Rattle.hierarchy_model.specs.TechModel.declared.raw.RawTech.{RawTech}
-use Rattle.hierarchy_model.specs.TechModel.WellFormed.{IsWellFormed}
-use Rattle.own_record_laws.specs.LayoutModel.LayerTypes.{HasTypesOf}
-use Rattle.own_record_laws.specs.LayoutModel.Places.{Place}
-use Rattle.hierarchy_model.specs.LayoutModel.CellTrees.{place_back}
-use Rattle.own_record_laws.specs.TreeRecords.FetRecords.{IsNoLaterName}
-use Rattle.own_record_laws.proofs.PreferredNames.{later_both_ways}
 use Rattle.own_record_laws.specs.TreeRecords.Merges.{IsMemberGroup, MemberGroup, group_name}
-use Rattle.own_record_laws.specs.TreeRecords.MemberGroups.{AreOneGroup, AreOneGroupBelow, IsGroupName, IsMemberAt, IsMemberBelow}
-use Rattle.own_record_laws.specs.TreeRecords.NamedTrees.{NamedTree, NamedElements, OwnBody}
-use Rattle.own_record_laws.specs.TreeRecords.NamedTrees.NamedTree.{named_tree}
-use Rattle.own_record_laws.specs.TreeRecords.NamedTrees.NamedElements.{no_more, element_then}
-use Rattle.tree_names.specs.CleanTrees.{IsCleanTree, ids_in}
 use Rattle.tree_names.proofs.CleanTrees.{AreCleanTrees, clean_below, clean_first, clean_rest}
 use Rattle.tree_names.proofs.GroupNodes.{group_back}
 use Rattle.tree_names.proofs.OwnNames.{goes_by_own, one_own_node, own_name_whole}

@@ -1,25 +1,13 @@
 -- The places of a group are of one flat node, and belong together both ways.
-use Rattle.std.proofs.Common.{inl, inr, subst}
-use Rattle.name_classes.proofs.FiniteSets.Chains.{Chain-back, Chain-one, Chain-through}
-use Rattle.name_classes.specs.GeoCore.declared.transforms.Transform.{Transform}
-use Rattle.hierarchy_model.specs.TechModel.declared.raw.RawTech.{RawTech}
-use Rattle.hierarchy_model.specs.TechModel.Rules.{KeepsRules}
+use Rattle.tree_names.proofs.Common.{inl, inr, subst, Chain-one, Chain-through, Transform, RawTech, KeepsRules, IsWellFormed, Place, place_back}
+use Rattle.tree_names.proofs.Common.{AreTyped, IsTyped, AreOneNamedNode-sym, AreClean, IsClean, AreFlatLinked, AreOneFlatNode, flat_layout}
+use Rattle.tree_names.proofs.Common.{AreOneGroup, AreOneGroupBelow, NamedTree, NamedElements, layouts_below, layouts_of, place_forth, named_tree}
+use Rattle.tree_names.proofs.Common.{no_more, element_then, above_from_back}
+use Rattle.name_classes.proofs.FiniteSets.Chains.{Chain-back}
 use Rattle.hierarchy_model.specs.TechModel.Types.{connects}
-use Rattle.hierarchy_model.specs.TechModel.WellFormed.{IsWellFormed}
 use Rattle.hierarchy_model.proofs.TechModel.TypeLaws.{connects_back}
 use Rattle.own_record_laws.specs.LayoutModel.Links.{AreLinked}
-use Rattle.own_record_laws.specs.LayoutModel.Places.{Place}
 use Rattle.own_record_laws.proofs.LayoutModel.NodeLaws.{AreLinked-sym}
-use Rattle.hierarchy_model.specs.LayoutModel.CellTrees.{place_back}
-use Rattle.hierarchy_model.specs.LayoutModel.FlatSets.{AreTyped, IsTyped}
-use Rattle.own_record_laws.proofs.CellNodes.NodePlaces.{AreOneNamedNode-sym}
-use Rattle.hierarchy_model.specs.CleanCells.{AreClean, IsClean}
-use Rattle.own_record_laws.specs.TreeRecords.FlatLayouts.{AreFlatLinked, AreOneFlatNode, flat_layout}
-use Rattle.own_record_laws.specs.TreeRecords.MemberGroups.{AreOneGroup, AreOneGroupBelow}
-use Rattle.own_record_laws.specs.TreeRecords.NamedTrees.{NamedTree, NamedElements, layouts_below, layouts_of, place_forth}
-use Rattle.own_record_laws.specs.TreeRecords.NamedTrees.NamedTree.{named_tree}
-use Rattle.own_record_laws.specs.TreeRecords.NamedTrees.NamedElements.{no_more, element_then}
-use Rattle.own_record_laws.proofs.TreeRecords.MoveLaws.{above_from_back}
 use Rattle.tree_names.proofs.LiftedLinks.{StandsIn, StandBelow, below_stands, flat_node_up, own_node_up}
 
 -- flat links lead both ways

@@ -1,27 +1,12 @@
 -- Two paths that a record joins have places of one flat node.
-use Rattle.std.proofs.Common.{ℕ, List, inl, inr, sym, subst}
-use Rattle.name_classes.specs.FiniteSets.Chain.Chain.{stay}
-use Rattle.name_classes.specs.FiniteSets.Lists.{In}
-use Rattle.name_classes.proofs.FiniteSets.Chains.{Chain-append}
-use Rattle.name_classes.proofs.FiniteSets.Images.{In-flat_map_source}
-use Rattle.hierarchy_model.specs.TechModel.declared.raw.RawTech.{RawTech}
-use Rattle.hierarchy_model.specs.TechModel.Rules.{KeepsRules}
-use Rattle.hierarchy_model.specs.TechModel.WellFormed.{IsWellFormed}
-use Rattle.name_classes.specs.ExtModel.declared.records.CellExt.{CellExt}
-use Rattle.name_classes.specs.ExtModel.RecordNames.{names_of}
-use Rattle.own_record_laws.specs.LayoutModel.Places.{Place}
+use Rattle.tree_names.proofs.Common.{ℕ, List, inl, inr, sym, subst, stay, In, Chain-append, In-flat_map_source, RawTech, KeepsRules, IsWellFormed}
+use Rattle.tree_names.proofs.Common.{CellExt, names_of, Place, recorded, AreOneFlatNode, HasNodePath, HasNodePathBelow, AreOneGroup, NamedTree}
+use Rattle.tree_names.proofs.Common.{NamedElements, OwnBody, place_forth, named_tree, no_more, element_then, back_from_above, HasTreeRecords}
+use Rattle.tree_names.proofs.Common.{HaveTreeRecords, IsTreeRecord, IsCleanTree, ArePathsJoined, ArePathsJoinedBelow, GroupHasPath}
 use Rattle.own_record_laws.specs.LayoutModel.Technologies.{rules_of}
-use Rattle.own_record_laws.proofs.PreferredNames.{recorded}
-use Rattle.own_record_laws.specs.TreeRecords.FlatLayouts.{AreOneFlatNode, HasNodePath, HasNodePathBelow}
-use Rattle.own_record_laws.specs.TreeRecords.MemberGroups.{AreOneGroup, IsMemberOf}
-use Rattle.own_record_laws.specs.TreeRecords.NamedTrees.{NamedTree, NamedElements, OwnBody, place_forth}
-use Rattle.own_record_laws.specs.TreeRecords.NamedTrees.NamedTree.{named_tree}
-use Rattle.own_record_laws.specs.TreeRecords.NamedTrees.NamedElements.{no_more, element_then}
-use Rattle.own_record_laws.proofs.TreeRecords.MoveLaws.{back_from_above}
+use Rattle.own_record_laws.specs.TreeRecords.MemberGroups.{IsMemberOf}
 use Rattle.own_record_laws.specs.TreeRecords.Merges.{group_merges}
-use Rattle.own_record_laws.specs.TreeRecords.TreeRecords.{HasTreeRecords, HaveTreeRecords, IsTreeRecord}
-use Rattle.tree_names.specs.CleanTrees.{IsCleanTree}
-use Rattle.tree_names.specs.PathLinks.{AreMergedIn, AreNamesOfNode, ArePathsJoined, ArePathsJoinedBelow, GroupHasPath, ShareFlatNode}
+use Rattle.tree_names.specs.PathLinks.{AreMergedIn, AreNamesOfNode, ShareFlatNode}
 use Rattle.tree_names.proofs.CleanTrees.{AreCleanTrees, clean_below, clean_first, clean_rest}
 use Rattle.tree_names.proofs.GroupMerges.{merge_members}
 use Rattle.tree_names.proofs.GroupNodes.{flat_node_back, one_flat_node}

@@ -13,6 +13,7 @@ pub use Rattle.name_classes.proofs as NameClasses
 pub use Rattle.own_record_laws.proofs.TreeRecords as TreeRecords
 pub use Rattle.own_record_laws.proofs.Names as Names
 pub use Rattle.own_record_laws.proofs as OwnRecordLaws
+mod Common
 pub mod LiftedLinks
 pub mod GroupNodes
 pub mod TreeElements

@@ -1,28 +1,18 @@
 -- What a part of a clean cell has goes up to the cell: its types are within the flat type, and its links and texts are the cell's.
-use Rattle.std.proofs.Common.{◌≡◌, ◌≢◌, ℕ, suc, IsTrue, List, ◌∷◌, Option, inl, inr, refl, sym, ◌∙◌, ap, subst}
-use Rattle.std.specs.Prelude.{Some, None}
-use Rattle.name_classes.proofs.FiniteSets.Chains.{Chain-map, Chain-one, Chain-through}
-use Rattle.name_classes.specs.GeoCore.declared.transforms.Transform.{Transform}
-use Rattle.hierarchy_model.specs.TechModel.declared.raw.RawTech.{RawTech}
-use Rattle.hierarchy_model.specs.TechModel.Rules.{KeepsRules}
+use Rattle.tree_names.proofs.Common.{◌≡◌, ◌≢◌, ℕ, suc, IsTrue, List, ◌∷◌, Option, inl, inr, refl, sym, ◌∙◌, ap, subst, Some, Chain-map, Chain-one}
+use Rattle.tree_names.proofs.Common.{Chain-through, Transform, RawTech, KeepsRules, IsWellFormed, or_space, IsMaterial, Place, place_back, IsTyped}
+use Rattle.tree_names.proofs.Common.{AreOneNamedNode, IsClean, AreOneFlatNode, HasTextBelow, HasTextSomewhere, flat_layout, NamedTree, NamedElements}
+use Rattle.tree_names.proofs.Common.{OwnBody, layouts_below, layouts_of, place_forth, named_tree, no_more, element_then, back_from_above}
+use Rattle.std.specs.Prelude.{None}
 use Rattle.hierarchy_model.specs.TechModel.Types.{connects, is_within}
-use Rattle.hierarchy_model.specs.TechModel.WellFormed.{IsWellFormed}
 use Rattle.hierarchy_model.proofs.TechModel.WithinLaws.{within_space}
-use Rattle.own_record_laws.specs.LayoutModel.LayerTypes.{or_space}
-use Rattle.own_record_laws.specs.LayoutModel.Layouts.{Layout, IsMaterial}
+use Rattle.own_record_laws.specs.LayoutModel.Layouts.{Layout}
 use Rattle.own_record_laws.specs.LayoutModel.Links.{AreLinked}
-use Rattle.own_record_laws.specs.LayoutModel.Places.{Place, AreNeighbours, AreStacked}
-use Rattle.hierarchy_model.specs.LayoutModel.CellTrees.{place_back}
-use Rattle.hierarchy_model.specs.LayoutModel.FlatSets.{flat_sets, sets_in, element_parts, IsTyped}
-use Rattle.own_record_laws.specs.Names.NamedNodes.{AreOneNamedNode}
+use Rattle.own_record_laws.specs.LayoutModel.Places.{AreNeighbours, AreStacked}
+use Rattle.hierarchy_model.specs.LayoutModel.FlatSets.{flat_sets, sets_in, element_parts}
 use Rattle.hierarchy_model.specs.Offences.Offences.{SetLayout, HasKind, joined_at}
-use Rattle.hierarchy_model.specs.CleanCells.{IsClean}
 use Rattle.hierarchy_model.proofs.CleanLaws.{part_within, flat_of_parts, first_kind, later_kind, own_within}
-use Rattle.own_record_laws.specs.TreeRecords.FlatLayouts.{AreOneFlatNode, HasTextBelow, HasTextSomewhere, flat_layout}
-use Rattle.own_record_laws.specs.TreeRecords.NamedTrees.{NamedTree, NamedElements, OwnBody, layouts_below, layouts_of, place_forth}
-use Rattle.own_record_laws.specs.TreeRecords.NamedTrees.NamedTree.{named_tree}
-use Rattle.own_record_laws.specs.TreeRecords.NamedTrees.NamedElements.{no_more, element_then}
-use Rattle.own_record_laws.proofs.TreeRecords.MoveLaws.{back_from_above, neighbours_above, stacked_above}
+use Rattle.own_record_laws.proofs.TreeRecords.MoveLaws.{neighbours_above, stacked_above}
 use Rattle.tree_names.specs.PartLinks.{LinksGoUp, PartsKeepLinks}
 
 -- a type that is not space is defined

@@ -1,26 +1,11 @@
 -- Full names are of one node exactly where places with their paths are of one flat node.
-use Rattle.std.proofs.Common.{◌≡◌, ℕ, true, false, Bool, if◌then◌else◌, List, [], inl, inr, refl, sym, ◌∙◌, ap, subst}
-use Rattle.std.proofs.lemmas.Bool.{cases_Bool, false≢true}
+use Rattle.tree_names.proofs.Common.{◌≡◌, ℕ, true, false, Bool, if◌then◌else◌, List, [], inl, inr, refl, sym, ◌∙◌, ap, subst, cases_Bool, false≢true}
+use Rattle.tree_names.proofs.Common.{Chain-append, Chain-either_back, Chain-map, Chain-one, AreOneForOne, RawTech, KeepsRules, IsWellFormed, CellExt}
+use Rattle.tree_names.proofs.Common.{is_global, full_name, last_name, last_name-whole, Place, Element, AreLinked, AreOneNode, AreFlatLinked}
+use Rattle.tree_names.proofs.Common.{AreOneFlatNode, HasNodePath, HasTextSomewhere, IsGroupName, NamedTree, named_standings, HasTreeRecords}
+use Rattle.tree_names.proofs.Common.{IsCleanTree, ArePathsJoined, IsElementFor}
 use Rattle.name_classes.specs.FiniteSets.Chain.{EitherWay}
-use Rattle.name_classes.proofs.FiniteSets.Chains.{Chain-append, Chain-carries, Chain-either_back, Chain-map, Chain-one}
-use Rattle.name_classes.specs.FiniteSets.OneForOne.{AreOneForOne}
-use Rattle.hierarchy_model.specs.TechModel.declared.raw.RawTech.{RawTech}
-use Rattle.hierarchy_model.specs.TechModel.Rules.{KeepsRules}
-use Rattle.hierarchy_model.specs.TechModel.WellFormed.{IsWellFormed}
-use Rattle.name_classes.specs.ExtModel.declared.records.CellExt.{CellExt}
-use Rattle.name_classes.specs.ExtModel.NodeNames.{is_global}
-use Rattle.name_classes.specs.ExtModel.Paths.{full_name, last_name}
-use Rattle.name_classes.proofs.ExtModel.PathNames.{last_name-whole}
-use Rattle.own_record_laws.specs.LayoutModel.Places.{Place}
-use Rattle.name_classes.specs.CircuitModel.Elements.{Element}
-use Rattle.name_classes.specs.CircuitModel.FullNames.{AreLinked, AreOneNode}
-use Rattle.own_record_laws.specs.TreeRecords.FlatLayouts.{AreFlatLinked, AreOneFlatNode, HasNodePath, HasTextSomewhere}
-use Rattle.own_record_laws.specs.TreeRecords.MemberGroups.{IsGroupName}
-use Rattle.own_record_laws.specs.TreeRecords.NamedTrees.{NamedTree, named_standings}
-use Rattle.own_record_laws.specs.TreeRecords.TreeRecords.{HasTreeRecords}
-use Rattle.tree_names.specs.CleanTrees.{IsCleanTree}
-use Rattle.tree_names.specs.PathLinks.{ArePathsJoined}
-use Rattle.tree_names.specs.TreeElements.{IsElementFor}
+use Rattle.name_classes.proofs.FiniteSets.Chains.{Chain-carries}
 use Rattle.tree_names.proofs.ElementLinks.{joined_link, link_joined}
 use Rattle.tree_names.proofs.GlobalPaths.{global_is_given, global_whole, text_has_path}
 use Rattle.tree_names.proofs.GroupMerges.{has_group}

@@ -1,44 +1,25 @@
 -- The nodes that the records mean lie where the flat nodes do: at the node of the first cell that has one with the preferred name.
-use Rattle.std.proofs.Common.{◌≡◌, ℕ, Bool, List, map, slice_get, inl, inr, refl, sym, ◌∙◌, ap, subst}
-use Rattle.std.specs.Prelude.{Some}
+use Rattle.tree_names.proofs.Common.{◌≡◌, ℕ, Bool, List, map, inl, inr, refl, sym, ◌∙◌, ap, subst, Some, In, Chain-one, In-append_cases, In-map}
+use Rattle.tree_names.proofs.Common.{In-map_source, In-flat_map, AreOneForOne, Square, RawTech, IsWellFormed, CellExt, NodeRec, full_name, names_of}
+use Rattle.tree_names.proofs.Common.{node_names, HasTypesOf, Place, AreTyped, IsTyped, Element, AreOneNode, pairwise_names, IsNoLaterName, name_form}
+use Rattle.tree_names.proofs.Common.{later_both_ways, preferred_is_first, recorded, NamedTree, NamedElements, OwnBody, NamedStanding, layouts_below}
+use Rattle.tree_names.proofs.Common.{layouts_of, named_standings, named_standings_below, named_above, named_tree, no_more, element_then}
+use Rattle.tree_names.proofs.Common.{IsElementFor}
+use Rattle.std.proofs.Common.{slice_get}
 use Rattle.std.specs.List.{position_or_len}
 use Rattle.std.proofs.lemmas.List.Folds.{find_at}
 use Rattle.std.proofs.lemmas.List.Sums.{fails_before_first}
 use Rattle.std.proofs.lemmas.Option.{get_or_from_slice_get}
 use Rattle.std.proofs.lemmas.Slice.Eq.{bytes_eq-Decides}
 use Rattle.std.specs.Str.{bytes_eq}
-use Rattle.name_classes.specs.FiniteSets.Lists.{In}
-use Rattle.name_classes.proofs.FiniteSets.Chains.{Chain-one}
-use Rattle.name_classes.proofs.FiniteSets.Members.{In-append_cases, In-map, In-map_source}
 use Rattle.name_classes.proofs.FiniteSets.Searches.{find-In, find-passes, In-from_list_any, absent-from_list_any}
-use Rattle.name_classes.proofs.FiniteSets.Images.{In-flat_map}
 use Rattle.name_classes.proofs.FiniteSets.Places.{In-slice_get}
 use Rattle.name_classes.proofs.FiniteSets.OneForOne.{AreOneForOne-there, AreOneForOne-back}
-use Rattle.name_classes.specs.FiniteSets.OneForOne.{AreOneForOne}
-use Rattle.name_classes.specs.GeoCore.declared.squares.Square.{Square}
-use Rattle.hierarchy_model.specs.TechModel.declared.raw.RawTech.{RawTech}
-use Rattle.hierarchy_model.specs.TechModel.WellFormed.{IsWellFormed}
-use Rattle.name_classes.specs.ExtModel.declared.records.CellExt.{CellExt}
-use Rattle.name_classes.specs.ExtModel.declared.records.NodeRec.{NodeRec}
-use Rattle.name_classes.specs.ExtModel.Paths.{full_name}
-use Rattle.name_classes.specs.ExtModel.RecordNames.{names_of, node_names}
-use Rattle.own_record_laws.specs.LayoutModel.LayerTypes.{HasTypesOf}
-use Rattle.own_record_laws.specs.LayoutModel.Places.{Place}
-use Rattle.hierarchy_model.specs.LayoutModel.FlatSets.{AreTyped, IsTyped}
 use Rattle.own_record_laws.specs.CellNodes.NodeRecords.{AreNodeRecords, IsNodeRecord}
-use Rattle.name_classes.specs.CircuitModel.Elements.{Element, ids_of, placed}
+use Rattle.name_classes.specs.CircuitModel.Elements.{ids_of, placed}
 use Rattle.name_classes.specs.CircuitModel.FlatNodes.{IsFlatNode, gives_name, is_among}
-use Rattle.name_classes.specs.CircuitModel.FullNames.{AreOneNode, full_names, name_in}
-use Rattle.name_classes.proofs.FullNames.ListOrders.{pairwise_names}
-use Rattle.own_record_laws.specs.TreeRecords.FetRecords.{IsNoLaterName}
-use Rattle.own_record_laws.proofs.NameForms.{name_form}
-use Rattle.own_record_laws.proofs.PreferredNames.{later_both_ways, preferred_is_first, recorded}
-use Rattle.own_record_laws.specs.TreeRecords.NamedTrees.{NamedTree, NamedElements, OwnBody, NamedStanding, layouts_below, layouts_of, named_standings, named_standings_below}
-use Rattle.own_record_laws.specs.TreeRecords.NamedTrees.{named_above}
-use Rattle.own_record_laws.specs.TreeRecords.NamedTrees.NamedTree.{named_tree}
-use Rattle.own_record_laws.specs.TreeRecords.NamedTrees.NamedElements.{no_more, element_then}
+use Rattle.name_classes.specs.CircuitModel.FullNames.{full_names, name_in}
 use Rattle.own_record_laws.specs.TreeRecords.TreeCircuits.{HasNodeNamed, IsPointOf}
-use Rattle.tree_names.specs.TreeElements.{IsElementFor}
 use Rattle.tree_names.proofs.FullOrders.{full_no_later}
 use Rattle.tree_names.proofs.RecordedNodes.{record_at}
 

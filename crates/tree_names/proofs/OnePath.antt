@@ -1,16 +1,7 @@
 -- Places with one path are of one flat node.
-use Rattle.std.proofs.Common.{ℕ, List, inl, inr, refl, sym, ◌∙◌, subst}
-use Rattle.name_classes.specs.FiniteSets.Lists.{Distinct}
-use Rattle.hierarchy_model.specs.TechModel.declared.raw.RawTech.{RawTech}
-use Rattle.hierarchy_model.specs.TechModel.Rules.{KeepsRules}
-use Rattle.hierarchy_model.specs.TechModel.WellFormed.{IsWellFormed}
-use Rattle.own_record_laws.specs.LayoutModel.Places.{Place}
-use Rattle.hierarchy_model.specs.LayoutModel.CellTrees.{place_back}
-use Rattle.own_record_laws.specs.TreeRecords.FlatLayouts.{AreOneFlatNode, HasNodePath, HasNodePathBelow}
-use Rattle.own_record_laws.specs.TreeRecords.NamedTrees.{NamedTree, NamedElements}
-use Rattle.own_record_laws.specs.TreeRecords.NamedTrees.NamedTree.{named_tree}
-use Rattle.own_record_laws.specs.TreeRecords.NamedTrees.NamedElements.{no_more, element_then}
-use Rattle.tree_names.specs.CleanTrees.{IsCleanTree, ids_in}
+use Rattle.tree_names.proofs.Common.{ℕ, List, inl, inr, refl, sym, ◌∙◌, subst, Distinct, RawTech, KeepsRules, IsWellFormed, Place, place_back}
+use Rattle.tree_names.proofs.Common.{AreOneFlatNode, HasNodePath, HasNodePathBelow, NamedTree, NamedElements, named_tree, no_more, element_then}
+use Rattle.tree_names.proofs.Common.{IsCleanTree, ids_in}
 use Rattle.tree_names.proofs.CleanTrees.{AreCleanTrees, clean_below, clean_first, clean_rest}
 use Rattle.tree_names.proofs.GroupNodes.{flat_node_above}
 use Rattle.tree_names.proofs.LiftedLinks.{StandBelow, below_stands, own_node_up}

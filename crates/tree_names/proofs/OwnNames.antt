@@ -1,19 +1,8 @@
 -- The names of the nodes of an own layout: one node goes by a name, and a node goes by one preferred name.
-use Rattle.std.proofs.Common.{◌≡◌, ℕ, List}
-use Rattle.name_classes.proofs.FiniteSets.Chains.{Chain-append}
-use Rattle.hierarchy_model.specs.TechModel.declared.raw.RawTech.{RawTech}
-use Rattle.hierarchy_model.specs.TechModel.WellFormed.{IsWellFormed}
-use Rattle.name_classes.specs.ExtModel.NodeNames.{slashes_in}
-use Rattle.name_classes.proofs.ExtModel.RecordNameLaws.{slashes_in-node_name}
-use Rattle.own_record_laws.specs.LayoutModel.LayerTypes.{HasTypesOf}
-use Rattle.own_record_laws.specs.LayoutModel.Places.{Place}
-use Rattle.own_record_laws.specs.Names.NamedNodes.{AreOneNamedNode}
-use Rattle.own_record_laws.proofs.CellNodes.NodePlaces.{AreOneNamedNode-sym, material_along}
-use Rattle.own_record_laws.specs.TreeRecords.FetRecords.{IsOfNode}
-use Rattle.own_record_laws.proofs.NameForms.{name_form}
+use Rattle.tree_names.proofs.Common.{◌≡◌, ℕ, List, Chain-append, RawTech, IsWellFormed, slashes_in, slashes_in-node_name, HasTypesOf, Place}
+use Rattle.tree_names.proofs.Common.{AreOneNamedNode, AreOneNamedNode-sym, IsOfNode, name_form, HasOwnName, OwnBody}
+use Rattle.own_record_laws.proofs.CellNodes.NodePlaces.{material_along}
 use Rattle.own_record_laws.proofs.NodesByName.{one_name_one_node}
-use Rattle.own_record_laws.specs.TreeRecords.FlatLayouts.{HasOwnName}
-use Rattle.own_record_laws.specs.TreeRecords.NamedTrees.{OwnBody}
 
 -- the preferred name is one of the node's names
 pub goes_by_own : (raw : RawTech) (own : OwnBody) (place : Place) (name : List ℕ) → IsOfNode raw own.layout own.labels name place

@@ -1,15 +1,10 @@
 -- Paths cut at their first slash.
-use Rattle.std.proofs.Common.{◌≡◌, ℕ, List, [], ◌∷◌, ◌++◌, inl, inr, sym, ◌∙◌, ap, subst, arith}
-use Rattle.name_classes.specs.FiniteSets.Lists.{In}
+use Rattle.tree_names.proofs.Common.{◌≡◌, ℕ, List, [], ◌∷◌, ◌++◌, inl, inr, sym, ◌∙◌, ap, subst, arith, In, slashes_in, path_text, NamedElements}
+use Rattle.tree_names.proofs.Common.{no_more, element_then, HaveElementNames, ids_in}
 use Rattle.name_classes.specs.ExtModel.declared.names.TheConstants.{SLASH}
-use Rattle.name_classes.specs.ExtModel.NodeNames.{slashes_in}
-use Rattle.name_classes.specs.ExtModel.Paths.{path_text}
 use Rattle.name_classes.proofs.ExtModel.PathOrders.{slashes_in-behind}
 use Rattle.name_classes.specs.CircuitModel.Refusals.{after_slash, before_slash}
 use Rattle.name_classes.proofs.PathLaws.{after-split, before-split}
-use Rattle.own_record_laws.specs.TreeRecords.NamedTrees.{NamedElements}
-use Rattle.own_record_laws.specs.TreeRecords.NamedTrees.NamedElements.{no_more, element_then}
-use Rattle.tree_names.specs.CleanTrees.{HaveElementNames, ids_in}
 
 -- the first slash tells an element's name from the path behind it
 pub one_split : (id other path behind : List ℕ) → slashes_in id ≡ 0 → slashes_in other ≡ 0 → id ++ SLASH ∷ path ≡ other ++ SLASH ∷ behind

@@ -1,39 +1,21 @@
 -- The nodes of a cell's record, at the places of its own layout, and the paths of places with material.
-use Rattle.std.proofs.Common.{◌≡◌, ◌≢◌, ℕ, List, [], ◌∷◌, inl, inr, refl, sym, ◌∙◌, ap, subst}
-use Rattle.name_classes.specs.FiniteSets.Chain.Chain.{stay}
-use Rattle.name_classes.specs.FiniteSets.Lists.{In}
-use Rattle.name_classes.proofs.FiniteSets.Chains.{Chain-append}
+use Rattle.tree_names.proofs.Common.{◌≡◌, ◌≢◌, ℕ, List, [], ◌∷◌, inl, inr, refl, sym, ◌∙◌, ap, subst, stay, In, Chain-append, RawTech, KeepsRules}
+use Rattle.tree_names.proofs.Common.{IsWellFormed, CellExt, NodeRec, names_of, or_space, IsMaterial, Place, place_back, AreOneNamedNode, path_text}
+use Rattle.tree_names.proofs.Common.{AreOneNamedNode-sym, IsOfNode, preferred_is_first, HasOwnName, HasNodePath, HasNodePathBelow, flat_layout}
+use Rattle.tree_names.proofs.Common.{NamedTree, NamedElements, OwnBody, layouts_below, layouts_of, place_forth, named_tree, no_more, element_then}
+use Rattle.tree_names.proofs.Common.{above_from_back, HasTreeRecords, HaveTreeRecords, IsCleanTree}
 use Rattle.name_classes.proofs.FiniteSets.Leasts.{IsLeast-iff}
-use Rattle.hierarchy_model.specs.TechModel.declared.raw.RawTech.{RawTech}
-use Rattle.hierarchy_model.specs.TechModel.Rules.{KeepsRules}
 use Rattle.hierarchy_model.specs.TechModel.Types.{parts_of}
-use Rattle.hierarchy_model.specs.TechModel.WellFormed.{IsWellFormed}
 use Rattle.hierarchy_model.proofs.TechModel.JoinedLaws.{joined-found}
-use Rattle.name_classes.specs.ExtModel.declared.records.CellExt.{CellExt}
-use Rattle.name_classes.specs.ExtModel.declared.records.NodeRec.{NodeRec}
-use Rattle.name_classes.specs.ExtModel.RecordNames.{names_of}
-use Rattle.own_record_laws.specs.LayoutModel.LayerTypes.{or_space}
-use Rattle.own_record_laws.specs.LayoutModel.Layouts.{IsMaterial}
-use Rattle.own_record_laws.specs.LayoutModel.Places.{Place, IsNoLater}
-use Rattle.hierarchy_model.specs.LayoutModel.CellTrees.{place_back}
+use Rattle.own_record_laws.specs.LayoutModel.Places.{IsNoLater}
 use Rattle.hierarchy_model.specs.LayoutModel.FlatSets.{flat_sets, sets_below, sets_in}
 use Rattle.hierarchy_model.proofs.LayoutModel.SetUnions.{union_some}
-use Rattle.own_record_laws.specs.Names.NamedNodes.{AreOneNamedNode, IsNameOf}
-use Rattle.name_classes.specs.ExtModel.Paths.{path_text}
+use Rattle.own_record_laws.specs.Names.NamedNodes.{IsNameOf}
 use Rattle.own_record_laws.specs.CellNodes.NodeRecords.{AreNodeRecords}
-use Rattle.own_record_laws.proofs.CellNodes.NodePlaces.{AreOneNamedNode-sym}
 use Rattle.hierarchy_model.specs.Offences.Offences.{joined_at}
 use Rattle.hierarchy_model.proofs.CleanLaws.{has_flat_type}
 use Rattle.hierarchy_model.proofs.KindLaws.{defined_or_not, material_set}
-use Rattle.own_record_laws.specs.TreeRecords.FetRecords.{IsOfNode}
-use Rattle.own_record_laws.proofs.PreferredNames.{in_some, one_least, preferred_is_first}
-use Rattle.own_record_laws.specs.TreeRecords.FlatLayouts.{HasOwnName, HasNodePath, HasNodePathBelow, flat_layout}
-use Rattle.own_record_laws.specs.TreeRecords.NamedTrees.{NamedTree, NamedElements, OwnBody, layouts_below, layouts_of, place_forth}
-use Rattle.own_record_laws.specs.TreeRecords.NamedTrees.NamedTree.{named_tree}
-use Rattle.own_record_laws.specs.TreeRecords.NamedTrees.NamedElements.{no_more, element_then}
-use Rattle.own_record_laws.proofs.TreeRecords.MoveLaws.{above_from_back}
-use Rattle.own_record_laws.specs.TreeRecords.TreeRecords.{HasTreeRecords, HaveTreeRecords}
-use Rattle.tree_names.specs.CleanTrees.{IsCleanTree}
+use Rattle.own_record_laws.proofs.PreferredNames.{in_some, one_least}
 use Rattle.tree_names.proofs.CleanTrees.{AreCleanTrees, clean_below, clean_first, clean_rest}
 use Rattle.tree_names.proofs.LiftedLinks.{StandBelow, below_stands, material_defined, material_up, own_fits}
 use Rattle.tree_names.proofs.OwnNames.{goes_by_own}

@@ -1,17 +1,7 @@
 -- The name of a group, and that of a member, is the path of a node in the group.
-use Rattle.std.proofs.Common.{ℕ, List, inl, inr, sym, subst}
-use Rattle.name_classes.proofs.FiniteSets.Chains.{Chain-append, Chain-one}
-use Rattle.name_classes.specs.FiniteSets.Chain.Chain.{stay}
-use Rattle.hierarchy_model.specs.TechModel.declared.raw.RawTech.{RawTech}
-use Rattle.own_record_laws.specs.LayoutModel.Places.{Place}
-use Rattle.hierarchy_model.specs.LayoutModel.CellTrees.{place_back}
-use Rattle.own_record_laws.specs.TreeRecords.FlatLayouts.{HasNodePath, HasNodePathBelow}
-use Rattle.own_record_laws.specs.TreeRecords.MemberGroups.{AreOneGroup, AreOneGroupBelow, IsGroupName, IsMemberAt, IsMemberBelow}
-use Rattle.own_record_laws.specs.TreeRecords.NamedTrees.{NamedTree, NamedElements, place_forth}
-use Rattle.own_record_laws.specs.TreeRecords.NamedTrees.NamedTree.{named_tree}
-use Rattle.own_record_laws.specs.TreeRecords.NamedTrees.NamedElements.{no_more, element_then}
-use Rattle.own_record_laws.proofs.TreeRecords.MoveLaws.{back_from_above}
-use Rattle.tree_names.specs.PathLinks.{GroupHasPath}
+use Rattle.tree_names.proofs.Common.{ℕ, List, inl, inr, sym, subst, Chain-append, Chain-one, stay, RawTech, Place, place_back, HasNodePath}
+use Rattle.tree_names.proofs.Common.{HasNodePathBelow, AreOneGroup, AreOneGroupBelow, IsGroupName, IsMemberAt, IsMemberBelow, NamedTree}
+use Rattle.tree_names.proofs.Common.{NamedElements, place_forth, named_tree, no_more, element_then, back_from_above, GroupHasPath}
 use Rattle.tree_names.proofs.OwnNames.{goes_by_own}
 
 -- A place of the member below has the path.

@@ -1,14 +1,9 @@
 -- Paths that the records of cells as they stand join.
-use Rattle.std.proofs.Common.{◌≡◌, ℕ, List, [], ◌∷◌, map, inl, inr, refl, ◌∙◌, ap, subst}
-use Rattle.name_classes.specs.FiniteSets.Lists.{In}
-use Rattle.name_classes.proofs.FiniteSets.Members.{In-append_cases, In-append_left, In-append_right, In-map, In-map_source}
-use Rattle.name_classes.specs.GeoCore.declared.transforms.Transform.{Transform}
-use Rattle.name_classes.specs.ExtModel.declared.records.CellExt.{CellExt}
-use Rattle.name_classes.specs.ExtModel.Paths.{path_text}
-use Rattle.own_record_laws.specs.TreeRecords.NamedTrees.{NamedTree, NamedElements, NamedStanding, named_standings, named_standings_below, named_above}
-use Rattle.own_record_laws.specs.TreeRecords.NamedTrees.NamedTree.{named_tree}
-use Rattle.own_record_laws.specs.TreeRecords.NamedTrees.NamedElements.{no_more, element_then}
-use Rattle.tree_names.specs.PathLinks.{AreJoinedIn, ArePathsJoined, ArePathsJoinedBelow}
+use Rattle.tree_names.proofs.Common.{◌≡◌, ℕ, List, [], ◌∷◌, map, inl, inr, refl, ◌∙◌, ap, subst, In, In-append_cases, In-map, In-map_source}
+use Rattle.tree_names.proofs.Common.{Transform, CellExt, path_text, NamedTree, NamedElements, NamedStanding, named_standings, named_standings_below}
+use Rattle.tree_names.proofs.Common.{named_above, named_tree, no_more, element_then, ArePathsJoined, ArePathsJoinedBelow}
+use Rattle.name_classes.proofs.FiniteSets.Members.{In-append_left, In-append_right}
+use Rattle.tree_names.specs.PathLinks.{AreJoinedIn}
 
 -- The record of a cell among these joins two names or paths, whose paths from the top are these.
 pub record AreJoinedAmong (exts : List CellExt) (cells : List NamedStanding) (first second : List ℕ) : Type 0 where

@@ -1,22 +1,9 @@
 -- Each path of a place is joined with the name of the place's group.
-use Rattle.std.proofs.Common.{ℕ, List, [], ◌∷◌, inl, inr, refl, sym, subst}
-use Rattle.name_classes.specs.FiniteSets.Chain.{Chain}
-use Rattle.name_classes.proofs.FiniteSets.Chains.{Chain-append, Chain-map, Chain-one, Chain-push, Chain-weaker}
-use Rattle.hierarchy_model.specs.TechModel.declared.raw.RawTech.{RawTech}
-use Rattle.hierarchy_model.specs.TechModel.Rules.{KeepsRules}
-use Rattle.hierarchy_model.specs.TechModel.WellFormed.{IsWellFormed}
-use Rattle.name_classes.specs.ExtModel.declared.records.CellExt.{CellExt}
-use Rattle.name_classes.specs.ExtModel.Paths.{path_text}
-use Rattle.own_record_laws.specs.LayoutModel.Places.{Place}
-use Rattle.hierarchy_model.specs.LayoutModel.CellTrees.{place_back}
-use Rattle.own_record_laws.specs.TreeRecords.FlatLayouts.{HasNodePath, HasNodePathBelow}
-use Rattle.own_record_laws.specs.TreeRecords.MemberGroups.{IsGroupName, IsMemberBelow}
-use Rattle.own_record_laws.specs.TreeRecords.NamedTrees.{NamedTree, NamedElements}
-use Rattle.own_record_laws.specs.TreeRecords.NamedTrees.NamedTree.{named_tree}
-use Rattle.own_record_laws.specs.TreeRecords.NamedTrees.NamedElements.{no_more, element_then}
-use Rattle.own_record_laws.specs.TreeRecords.TreeRecords.{HasTreeRecords, HaveTreeRecords}
-use Rattle.tree_names.specs.CleanTrees.{IsCleanTree}
-use Rattle.tree_names.specs.PathLinks.{ArePathsJoined, ArePathsJoinedBelow}
+use Rattle.tree_names.proofs.Common.{ℕ, List, [], ◌∷◌, inl, inr, refl, sym, subst, Chain, Chain-append, Chain-map, Chain-one, RawTech, KeepsRules}
+use Rattle.tree_names.proofs.Common.{IsWellFormed, CellExt, path_text, Place, place_back, HasNodePath, HasNodePathBelow, IsGroupName, IsMemberBelow}
+use Rattle.tree_names.proofs.Common.{NamedTree, NamedElements, named_tree, no_more, element_then, HasTreeRecords, HaveTreeRecords, IsCleanTree}
+use Rattle.tree_names.proofs.Common.{ArePathsJoined, ArePathsJoinedBelow}
+use Rattle.name_classes.proofs.FiniteSets.Chains.{Chain-push, Chain-weaker}
 use Rattle.tree_names.proofs.CleanTrees.{AreCleanTrees, clean_below, clean_first, clean_rest}
 use Rattle.tree_names.proofs.GroupMerges.{has_group, to_member}
 use Rattle.tree_names.proofs.RecordedNodes.{path_material, record_at}

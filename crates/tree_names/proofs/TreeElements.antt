@@ -1,25 +1,21 @@
 -- The elements of the records of a tree are the cells of the tree as they stand.
-use Rattle.std.proofs.Common.{◌≡◌, ◌≤◌, ℕ, zero, suc, Some, List, [], ◌∷◌, ◌++◌, map, Option, refl, sym, ◌∙◌, ap, subst, arith, append_assoc}
+use Rattle.tree_names.proofs.Common.{◌≡◌, ℕ, suc, List, [], ◌∷◌, ◌++◌, map, Option, refl, sym, ◌∙◌, ap, subst, arith, AreOneForOne, Square}
+use Rattle.tree_names.proofs.Common.{Transform, RawTech, CellExt, Element, elements_of, ext_of, NamedTree, NamedElements, NamedStanding}
+use Rattle.tree_names.proofs.Common.{named_standings, named_standings_below, named_above, named_tree, no_more, element_then, HasTreeRecord}
+use Rattle.tree_names.proofs.Common.{HasTreeRecords, HaveTreeRecords, IsTreeRecord, IsElementFor}
+use Rattle.std.proofs.Common.{◌≤◌, zero, Some, append_assoc}
 use Rattle.std.specs.List.{flat_map}
 use Rattle.std.proofs.lemmas.List.{append-nil}
 use Rattle.name_classes.proofs.FiniteSets.OneForOne.{AreOneForOne-append, AreOneForOne-map, AreOneForOne-weaker}
-use Rattle.name_classes.specs.FiniteSets.OneForOne.{AreOneForOne}
-use Rattle.name_classes.specs.GeoCore.declared.squares.Square.{Square}
-use Rattle.name_classes.specs.GeoCore.declared.transforms.Transform.{Transform}
 use Rattle.name_classes.specs.GeoCore.Images.{image, six_of}
 use Rattle.name_classes.proofs.GeoCore.ImageLaws.{image-composed}
-use Rattle.hierarchy_model.specs.TechModel.declared.raw.RawTech.{RawTech}
-use Rattle.name_classes.specs.ExtModel.declared.records.CellExt.{CellExt}
 use Rattle.name_classes.specs.ExtModel.declared.records.UseRec.{UseRec}
 use Rattle.name_classes.specs.CircuitModel.declared.limits.TheConstants.{LONGEST_CHAIN}
-use Rattle.name_classes.specs.CircuitModel.Elements.{Element, elements_below, elements_of, ext_of, of_option, placed}
+use Rattle.name_classes.specs.CircuitModel.Elements.{elements_below, of_option, placed}
 use Rattle.name_classes.proofs.ElementTree.Transforms.{image-identity, transform_of-six}
-use Rattle.own_record_laws.specs.TreeRecords.NamedTrees.{NamedTree, NamedElements, NamedStanding, named_standings, named_standings_below, own_body, named_above}
-use Rattle.own_record_laws.specs.TreeRecords.NamedTrees.NamedTree.{named_tree}
-use Rattle.own_record_laws.specs.TreeRecords.NamedTrees.NamedElements.{no_more, element_then}
-use Rattle.own_record_laws.specs.TreeRecords.TreeRecords.{HasTreeRecord, HasTreeRecords, HaveTreeRecords, IsTreeRecord, use_records}
+use Rattle.own_record_laws.specs.TreeRecords.NamedTrees.{own_body}
+use Rattle.own_record_laws.specs.TreeRecords.TreeRecords.{use_records}
 use Rattle.tree_names.specs.CleanTrees.{depth_of, depth_below}
-use Rattle.tree_names.specs.TreeElements.{IsElementFor}
 
 -- the record of the cell at the top
 pub top_record : (raw : RawTech) (exts : List CellExt) (tree : NamedTree) → HasTreeRecords raw exts tree → HasTreeRecord raw exts tree

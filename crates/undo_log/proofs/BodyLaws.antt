@@ -1,22 +1,13 @@
 -- What a cell had is brought back: its uses and its labels.
-use Rattle.std.proofs.Common.{◌≡◌, ◌-◌, ◌<◌, ◌≤◌, ℕ, zero, suc, true, false, Bool, List, [], ◌∷◌, ◌++◌, length, map, filter, take, drop, insert, remove}
-use Rattle.std.proofs.Common.{refl, sym, ap, subst, ◌∙◌, inl, inr, arith, true≢false, ℤ, ◌+ℤ◌, neg_ℤ}
-use Rattle.std.specs.Prelude.{Option, Some, not, ◌||◌, slice_get, if◌then◌else◌}
-use Rattle.std.specs.Str.{bytes_eq}
-use Rattle.std.proofs.lemmas.Bool.{cases_Bool}
-use Rattle.std.proofs.lemmas.Int.{ints}
-use Rattle.std.proofs.lemmas.List.{length-append, take-append-drop, take_at}
+use Rattle.undo_log.proofs.Common.{◌≡◌, ◌-◌, ◌<◌, ◌≤◌, ℕ, zero, suc, true, false, Bool, List, [], ◌∷◌, ◌++◌, length, map, filter, take, drop, insert}
+use Rattle.undo_log.proofs.Common.{refl, sym, ap, subst, ◌∙◌, inl, inr, arith, true≢false, ℤ, ◌+ℤ◌, neg_ℤ, Option, Some, not, ◌||◌, slice_get}
+use Rattle.undo_log.proofs.Common.{if◌then◌else◌, bytes_eq, cases_Bool, ints, length-append, take-append-drop, slice_get_within, bytes_eq-Decides}
+use Rattle.undo_log.proofs.Common.{In, Distinct, Label, Grid, UseBody, moved_use, with_use_changed, has_id, id_same, use_in}
+use Rattle.std.proofs.Common.{remove}
+use Rattle.std.proofs.lemmas.List.{take_at}
 use Rattle.std.proofs.lemmas.List.Edits.{insert_end, length-remove}
 use Rattle.std.proofs.lemmas.List.Elements.{filter-append}
-use Rattle.std.proofs.lemmas.Option.{slice_get_within}
-use Rattle.std.proofs.lemmas.Slice.Eq.{bytes_eq-Decides}
-use Rattle.geo_core.specs.FiniteSets.Lists.{In, Distinct}
-use Rattle.tech_model.specs.declared.raw.Label.{Label}
-use Rattle.geo_core.specs.declared.grids.Grid.{Grid}
-use Rattle.cell_tree.specs.declared.use_tables.UseBody.{UseBody}
-use Rattle.edit_script.specs.CellLibrary.Edits.{moved_use, with_use_changed}
-use Rattle.edit_script.specs.CellLibrary.Refusals.{has_id}
-use Rattle.edit_script.proofs.CellLibrary.UseLists.{id_same, removed_use, use_in}
+use Rattle.edit_script.proofs.CellLibrary.UseLists.{removed_use}
 
 -- uses with their ids
 abbrev pub Uses : Type 0

@@ -1,26 +1,19 @@
 -- Cells come to a library: inverses lead on from it as before.
-use Rattle.std.proofs.Common.{◌≡◌, ◌<◌, ◌≤◌, ◌-◌, ◌+◌, ℕ, zero, suc, List, [], ◌∷◌, ◌++◌, length, map, drop, refl, sym, ap, subst, ◌∙◌, arith}
-use Rattle.std.specs.Prelude.{All, slice_get, slice_index_or}
-use Rattle.std.proofs.lemmas.List.{drop-map, drop_at, get_or-append_right, get_or_append_left, length-append, length-map, map-append}
-use Rattle.std.proofs.lemmas.Option.{get_or_from_slice_get, slice_get_within}
-use Rattle.geo_core.specs.FiniteSets.Lists.{Distinct}
+use Rattle.undo_log.proofs.Common.{◌≡◌, ◌<◌, ◌≤◌, ◌-◌, ◌+◌, ℕ, zero, suc, List, [], ◌∷◌, ◌++◌, length, map, drop, refl, sym, ap, subst, ◌∙◌, arith}
+use Rattle.undo_log.proofs.Common.{All, slice_get, slice_index_or, length-append, map-append, get_or_from_slice_get, slice_get_within, Distinct}
+use Rattle.undo_log.proofs.Common.{UseBody, Held, IsLawfulLibrary, LibraryParts, seen, IsLawfulView, CellView, LibraryView, changed_at, no_cell}
+use Rattle.undo_log.proofs.Common.{view_at, count_seen, Change, Repaint, InsertUse, DeleteUse, MoveUse, SetGrid, AddLabel, DropLabel, SetLabels}
+use Rattle.undo_log.proofs.Common.{Inverse, CellsCame, LeadTo, SpeaksOf, changed, Version}
+use Rattle.std.proofs.lemmas.List.{drop-map, drop_at, get_or-append_right, get_or_append_left, length-map}
 use Rattle.geo_core.proofs.FiniteSets.Places.{All-slice_get}
 use Rattle.tech_model.specs.declared.raw.RawTech.{RawTech}
-use Rattle.cell_tree.specs.declared.use_tables.UseBody.{UseBody}
 use Rattle.cell_tree.specs.Sizes.{CellState}
 use Rattle.cell_tree.specs.Trees.{cell_at, empty_cell}
-use Rattle.edit_script.specs.CellLibrary.Contents.{Held}
-use Rattle.edit_script.specs.CellLibrary.Libraries.{IsLawfulLibrary, LibraryParts, cells_seen, seen, uses_in}
-use Rattle.edit_script.specs.CellLibrary.LawfulViews.{IsLawfulView}
-use Rattle.edit_script.specs.CellLibrary.Views.{CellView, LibraryView, changed_at, names_of, no_cell, view_at}
+use Rattle.edit_script.specs.CellLibrary.Libraries.{cells_seen, uses_in}
+use Rattle.edit_script.specs.CellLibrary.Views.{names_of}
 use Rattle.edit_script.proofs.CellLibrary.UseEdits.{uses_here}
-use Rattle.edit_script.proofs.CellLibrary.ViewLaws.{count_seen, names_seen}
-use Rattle.undo_log.specs.declared.changes.Change.{Change}
-use Rattle.undo_log.specs.declared.changes.Change.TheVariants.{Repaint, InsertUse, DeleteUse, MoveUse, SetGrid, AddLabel, DropLabel, SetLabels}
-use Rattle.undo_log.specs.declared.changes.Inverse.{Inverse}
-use Rattle.undo_log.specs.Inverses.{CellsCame, LeadTo, SpeaksOf, changed}
+use Rattle.edit_script.proofs.CellLibrary.ViewLaws.{names_seen}
 use Rattle.undo_log.specs.Laws.{CellsMayCome}
-use Rattle.undo_log.specs.Versions.{Version}
 use Rattle.undo_log.proofs.CellLaws.{count_kept}
 use Rattle.undo_log.proofs.ChangeLaws.{changed_is, remade}
 use Rattle.undo_log.proofs.MoreCells.{StandApart, more_lawful, more_seen, with_more}

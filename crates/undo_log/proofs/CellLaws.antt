@@ -1,7 +1,7 @@
 -- One cell of a library is changed.
-use Rattle.std.proofs.Common.{◌≡◌, ◌≢◌, ◌<◌, ℕ, zero, suc, List, [], ◌∷◌, length, refl, ap}
-use Rattle.std.specs.Prelude.{slice_index_or}
-use Rattle.edit_script.specs.CellLibrary.Views.{CellView, LibraryView, changed_at, no_cell, view_at, with_cell_changed}
+use Rattle.undo_log.proofs.Common.{◌≡◌, ◌<◌, ℕ, zero, suc, List, [], ◌∷◌, length, refl, ap, slice_index_or, CellView, LibraryView, changed_at}
+use Rattle.undo_log.proofs.Common.{no_cell, view_at, with_cell_changed}
+use Rattle.std.proofs.Common.{◌≢◌}
 use Rattle.edit_script.proofs.CellLibrary.UndoneEdits.{changed_there}
 use Rattle.edit_script.proofs.CellLibrary.ViewLaws.{length-changed_at}
 

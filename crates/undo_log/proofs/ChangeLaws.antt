@@ -1,28 +1,16 @@
 -- Changes of one cell, and what takes each of them back.
-use Rattle.std.proofs.Common.{◌≡◌, ◌<◌, ℕ, ℤ, true, false, List, [], ◌∷◌, ◌++◌, length, filter, insert, take, refl, sym, ap, subst, ◌∙◌, ◌-◌, neg_ℤ}
-use Rattle.std.specs.Prelude.{Bool, Option, not, if◌then◌else◌}
-use Rattle.std.specs.Str.{bytes_eq}
-use Rattle.geo_core.specs.declared.grids.Grid.{Grid}
-use Rattle.geo_core.specs.declared.squares.Rect.{Rect}
+use Rattle.undo_log.proofs.Common.{◌≡◌, ◌<◌, ℕ, ℤ, true, false, List, [], ◌∷◌, ◌++◌, length, filter, insert, take, refl, sym, ap, subst, ◌∙◌, ◌-◌}
+use Rattle.undo_log.proofs.Common.{neg_ℤ, Option, not, if◌then◌else◌, bytes_eq, Grid, Rect, is_covered, Layout, Place, Label, UseBody, moved_use}
+use Rattle.undo_log.proofs.Common.{with_use_changed, has_id, IsLawfulView, CellView, LibraryView, view_at, with_cell_changed, Change, Repaint}
+use Rattle.undo_log.proofs.Common.{InsertUse, DeleteUse, MoveUse, SetGrid, AddLabel, DropLabel, SetLabels, SpeaksOf, TakesBack, changed, AddsLast}
+use Rattle.undo_log.proofs.Common.{BringsAgain, GivesGrid, PutsBack}
+use Rattle.std.specs.Prelude.{Bool}
 use Rattle.geo_core.specs.declared.squares.Piece.{Piece}
-use Rattle.geo_core.specs.Covering.{is_covered}
-use Rattle.edit_script.specs.CellLibrary.LayoutModel.Layouts.{Layout}
-use Rattle.edit_script.specs.CellLibrary.LayoutModel.Places.{Place}
-use Rattle.tech_model.specs.declared.raw.Label.{Label}
-use Rattle.cell_tree.specs.declared.use_tables.UseBody.{UseBody}
 use Rattle.cell_paint.specs.Paints.{IsSoundPaint}
 use Rattle.cell_paint.specs.Pieces.{kind_by, with_pieces}
 use Rattle.cell_paint.proofs.PieceLaws.{taken_brings_back}
 use Rattle.edit_script.specs.CellLibrary.Contents.{without_last}
-use Rattle.edit_script.specs.CellLibrary.Edits.{moved_use, with_use_changed}
-use Rattle.edit_script.specs.CellLibrary.Refusals.{has_id}
-use Rattle.edit_script.specs.CellLibrary.LawfulViews.{IsLawfulView}
-use Rattle.edit_script.specs.CellLibrary.Views.{CellView, LibraryView, view_at, with_cell_changed}
 use Rattle.edit_script.proofs.CellLibrary.UndoneEdits.{cell_back}
-use Rattle.undo_log.specs.declared.changes.Change.{Change}
-use Rattle.undo_log.specs.declared.changes.Change.TheVariants.{Repaint, InsertUse, DeleteUse, MoveUse, SetGrid, AddLabel, DropLabel, SetLabels}
-use Rattle.undo_log.specs.Inverses.{SpeaksOf, TakesBack, changed}
-use Rattle.undo_log.specs.steps.Makings.{AddsLast, BringsAgain, GivesGrid, PutsBack}
 use Rattle.undo_log.proofs.BodyLaws.{Uses, added_goes, added_some, changed_has, deleted_comes, deleted_place, inserted_goes, inserted_has, moved_back}
 use Rattle.undo_log.proofs.BodyLaws.{regridded_back}
 use Rattle.undo_log.proofs.CellLaws.{cell_here, count_kept}

@@ -1,15 +1,11 @@
 -- After an edit and its undo each cell has what it had, and redo gives back what undo took.
-use Rattle.std.proofs.Common.{◌≡◌, ◌<◌, ℕ, true, [], ◌∷◌, length, refl, sym, ap, subst, ◌∙◌, inl, inr, arith}
-use Rattle.std.specs.Prelude.{Option, Some, IfSome}
-use Rattle.std.proofs.lemmas.Bool.{cases_eq}
-use Rattle.edit_script.specs.CellLibrary.Views.{CellView, LibraryView, view_at}
-use Rattle.edit_script.specs.ScriptLines.declared.commands.Command.{Command}
+use Rattle.undo_log.proofs.Common.{◌≡◌, ◌<◌, ℕ, true, [], ◌∷◌, length, refl, sym, ap, subst, ◌∙◌, inl, inr, arith, Option, Some, cases_eq, CellView}
+use Rattle.undo_log.proofs.Common.{LibraryView, view_at, Command, Editing, applied, Versions, is_edit, version_of, versions_after, with_version}
+use Rattle.std.specs.Prelude.{IfSome}
 use Rattle.edit_script.specs.ScriptLines.declared.commands.Command.TheVariants as command
-use Rattle.edit_script.specs.Editing.{Editing}
-use Rattle.edit_script.specs.Edits.{applied}
 use Rattle.edit_script.proofs.KeptCells.{KeepsButCurrent, KeepsOthers, cells_kept}
 use Rattle.undo_log.specs.Laws.{AreAlike, EditsAreTakenBack, HaveTheSame}
-use Rattle.undo_log.specs.Versions.{Versions, is_edit, undone, version_of, versions_after, with_version}
+use Rattle.undo_log.specs.Versions.{undone}
 use Rattle.undo_log.proofs.CellLaws.{cell_here, cell_other, count_kept}
 use Rattle.undo_log.proofs.LeadLaws.{edit_versions}
 

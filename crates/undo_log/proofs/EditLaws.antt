@@ -1,44 +1,26 @@
 -- Commands that edit: what takes each of them back where it is accepted, and which are never accepted.
-use Rattle.std.proofs.Common.{◌≡◌, ◌<◌, ◌&&◌, ℕ, ℤ, true, false, List, [], ◌∷◌, ◌++◌, length, filter, insert, refl, sym, ap, subst, ◌∙◌, inl}
-use Rattle.std.proofs.Common.{inr, neg_ℤ, true≢false}
-use Rattle.std.specs.Prelude.{MatchOption, Option, None, Some, not}
-use Rattle.std.specs.Option.{option_map_or}
-use Rattle.std.specs.Str.{bytes_eq}
-use Rattle.std.proofs.lemmas.Bool.{and_from, cases_Bool, cases_eq}
+use Rattle.undo_log.proofs.Common.{◌≡◌, ◌<◌, ◌&&◌, ℕ, ℤ, true, false, List, [], ◌∷◌, ◌++◌, length, filter, insert, refl, sym, ap, subst, ◌∙◌, inl}
+use Rattle.undo_log.proofs.Common.{inr, neg_ℤ, true≢false, MatchOption, Option, None, Some, not, option_map_or, bytes_eq, and_from, cases_Bool}
+use Rattle.undo_log.proofs.Common.{cases_eq, Grid, Rect, has_square, is_covered, Label, Layout, Place, is_in_range, LibFault, Edits, MOST_EDITS}
+use Rattle.undo_log.proofs.Common.{Hull, GoesPast, labelled, single_use, DeleteIsRefused, LabelIsRefused, MoveIsRefused, has_id, IsLawfulView}
+use Rattle.undo_log.proofs.Common.{CellView, LibraryView, view_at, with_cell_changed, Editing, applied, grid_of, Change, DeleteUse, DropLabel}
+use Rattle.undo_log.proofs.Common.{MoveUse, SetLabels, TakesBack, Accepts, BringsAgain, GivesGrid, PutsBack}
 use Rattle.std.proofs.lemmas.List.Edits.{insert_end}
-use Rattle.geo_core.specs.declared.grids.Grid.{Grid}
-use Rattle.geo_core.specs.declared.squares.Rect.{Rect}
 use Rattle.geo_core.specs.declared.transforms.Transform.{Transform}
-use Rattle.geo_core.specs.Areas.{has_square}
-use Rattle.geo_core.specs.Covering.{is_covered}
-use Rattle.tech_model.specs.declared.raw.Label.{Label}
 use Rattle.tech_model.specs.declared.raw.LayerId.{LayerId}
 use Rattle.tech_model.specs.Columns.{erased_column, painted_column}
 use Rattle.tech_model.specs.Types.{layer_named}
-use Rattle.edit_script.specs.CellLibrary.LayoutModel.Layouts.{Layout}
-use Rattle.edit_script.specs.CellLibrary.LayoutModel.Places.{Place}
-use Rattle.cell_paint.specs.Painting.{is_in_range, with_erased, with_paint}
-use Rattle.edit_script.specs.CellLibrary.declared.faults.LibFault.{LibFault}
+use Rattle.cell_paint.specs.Painting.{with_erased, with_paint}
 use Rattle.edit_script.specs.CellLibrary.declared.faults.LibFault.TheVariants as library
-use Rattle.edit_script.specs.CellLibrary.declared.limits.LibraryLimit.TheVariants.{Edits}
-use Rattle.edit_script.specs.CellLibrary.declared.limits.TheConstants.{MOST_EDITS}
-use Rattle.cell_tree.specs.declared.sizes.Dimension.TheVariants.{Hull}
-use Rattle.edit_script.specs.CellLibrary.Limits.{GoesPast}
-use Rattle.edit_script.specs.CellLibrary.Edits.{erased, labelled, painted, placed, single_use, transform_of, with_grid}
-use Rattle.edit_script.specs.CellLibrary.Refusals.{ArrayIsRefused, DeleteIsRefused, EditIsRefused, EraseIsRefused, LabelIsRefused, MoveIsRefused, PaintIsRefused}
-use Rattle.edit_script.specs.CellLibrary.Refusals.{AreaIsRefused, FirstOf, NothingElse, PlaceIsRefused, has_id}
-use Rattle.edit_script.specs.CellLibrary.LawfulViews.{IsLawfulView}
-use Rattle.edit_script.specs.CellLibrary.Views.{CellView, LibraryView, cell_named, view_at, with_cell_changed}
+use Rattle.edit_script.specs.CellLibrary.Edits.{erased, painted, placed, transform_of, with_grid}
+use Rattle.edit_script.specs.CellLibrary.Refusals.{ArrayIsRefused, EditIsRefused, EraseIsRefused, PaintIsRefused}
+use Rattle.edit_script.specs.CellLibrary.Refusals.{AreaIsRefused, FirstOf, NothingElse, PlaceIsRefused}
+use Rattle.edit_script.specs.CellLibrary.Views.{cell_named}
 use Rattle.edit_script.specs.ScriptLines.declared.commands.Command.TheVariants as command
 use Rattle.edit_script.specs.declared.faults.EditFault.{EditFault}
 use Rattle.edit_script.specs.declared.faults.EditFault.TheVariants.{NoCell, NoLayer}
-use Rattle.edit_script.specs.Editing.{Editing}
-use Rattle.edit_script.specs.Edits.{applied, grid_of, label_layer, label_of}
+use Rattle.edit_script.specs.Edits.{label_layer, label_of}
 use Rattle.edit_script.specs.Refusals.{LibraryRefuses, with_word}
-use Rattle.undo_log.specs.declared.changes.Change.{Change}
-use Rattle.undo_log.specs.declared.changes.Change.TheVariants.{DeleteUse, DropLabel, MoveUse, SetLabels}
-use Rattle.undo_log.specs.Inverses.{TakesBack}
-use Rattle.undo_log.specs.steps.Makings.{Accepts, BringsAgain, GivesGrid, PutsBack}
 use Rattle.undo_log.proofs.BodyLaws.{Uses}
 use Rattle.edit_script.proofs.CellLibrary.OwnRestorations.{columns_outside}
 use Rattle.edit_script.proofs.CellLibrary.ViewLaws.{changed_at-same}

@@ -1,21 +1,11 @@
 -- What holds of libraries that some lawful library is seen as.
-use Rattle.std.proofs.Common.{◌≡◌, ◌<◌, ℕ, List, length, map, sym, subst}
-use Rattle.std.specs.Prelude.{All, Some, slice_get}
-use Rattle.geo_core.specs.FiniteSets.Lists.{Distinct}
-use Rattle.edit_script.specs.CellLibrary.CellBodies.Bodies.{IsLabel}
-use Rattle.cell_tree.specs.declared.sizes.Dimension.{Dimension}
-use Rattle.cell_tree.specs.declared.use_tables.UseBody.{UseBody}
-use Rattle.cell_tree.specs.Uses.{IsLawfulUse}
+use Rattle.undo_log.proofs.Common.{◌≡◌, ◌<◌, ℕ, List, length, map, sym, subst, All, Some, slice_get, Distinct, IsLabel, Dimension, UseBody}
+use Rattle.undo_log.proofs.Common.{IsLawfulUse, LibraryParts, IsLawfulLibrary, seen, GoesPast, IsLawfulView, LibraryView, view_at, count_seen}
 use Rattle.edit_script.specs.CellLibrary.Contents.{no_held}
-use Rattle.edit_script.specs.CellLibrary.Libraries.{LibraryParts, IsLawfulLibrary, seen}
-use Rattle.edit_script.specs.CellLibrary.Limits.{GoesPast}
-use Rattle.edit_script.specs.CellLibrary.LawfulViews.{IsLawfulView}
-use Rattle.edit_script.specs.CellLibrary.Views.{LibraryView, view_at}
 use Rattle.edit_script.proofs.CellLibrary.ElementCounts.{use_is_lawful}
 use Rattle.edit_script.proofs.CellLibrary.LimitLaws.{never_past}
 use Rattle.edit_script.proofs.CellLibrary.OwnEdits.{labels_here}
 use Rattle.edit_script.proofs.CellLibrary.UseEdits.{ids_differ, uses_here}
-use Rattle.edit_script.proofs.CellLibrary.ViewLaws.{count_seen}
 
 -- a fact of each cell of a lawful library is one of each cell that is seen
 of_each : (P : LibraryView → ℕ → Type 0)

@@ -1,18 +1,11 @@
 -- Inverses that lead from a library to versions: one more of them, one fewer, and more cells.
-use Rattle.std.proofs.Common.{◌≡◌, ◌<◌, ℕ, true, Bool, List, [], ◌∷◌, length, refl, sym, ap, subst, ◌∙◌}
-use Rattle.std.specs.Prelude.{Option, Some, if◌then◌else◌}
-use Rattle.std.specs.Option.{option_map_or}
-use Rattle.ext_model.specs.declared.tables.CellKey.{CellKey}
-use Rattle.edit_script.specs.CellLibrary.Libraries.{IsLawfulLibrary, IsNextEdit, LibraryParts, seen}
-use Rattle.edit_script.specs.CellLibrary.LawfulViews.{IsLawfulView}
-use Rattle.edit_script.specs.CellLibrary.Views.{LibraryView, view_at, with_cell_changed}
-use Rattle.edit_script.specs.ScriptLines.declared.commands.Command.{Command}
-use Rattle.edit_script.specs.Editing.{Editing}
-use Rattle.undo_log.specs.declared.changes.Change.{Change}
-use Rattle.undo_log.specs.declared.changes.Inverse.{Inverse}
-use Rattle.undo_log.specs.Inverses.{CanBeMade, Inverses, IsReturned, Keeps, LeadTo, TakesBack, changed, led_to}
+use Rattle.undo_log.proofs.Common.{◌≡◌, ◌<◌, ℕ, true, Bool, List, [], ◌∷◌, length, refl, sym, ap, subst, ◌∙◌, Option, Some, if◌then◌else◌}
+use Rattle.undo_log.proofs.Common.{option_map_or, CellKey, IsLawfulLibrary, LibraryParts, seen, IsLawfulView, LibraryView, view_at}
+use Rattle.undo_log.proofs.Common.{with_cell_changed, Command, Editing, Change, Inverse, CanBeMade, Inverses, Keeps, LeadTo, TakesBack, changed}
+use Rattle.undo_log.proofs.Common.{Version, Versions, after_edit, is_edit, version_of, versions_after, with_version}
+use Rattle.edit_script.specs.CellLibrary.Libraries.{IsNextEdit}
+use Rattle.undo_log.specs.Inverses.{IsReturned, led_to}
 use Rattle.undo_log.specs.Laws.{KeptVersionsAreUnique, NothingIsKept}
-use Rattle.undo_log.specs.Versions.{Version, Versions, after_edit, is_edit, version_of, versions_after, with_version}
 use Rattle.undo_log.proofs.CellLaws.{cell_alike, cell_here}
 use Rattle.undo_log.proofs.ChangeLaws.{changed_is, remade}
 

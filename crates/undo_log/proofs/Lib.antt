@@ -4,6 +4,7 @@ mod BodyLaws
 pub mod CameLaws
 mod CellLaws
 mod ChangeLaws
+mod Common
 mod DesignerLaws
 mod EditLaws
 mod LawfulLaws

@@ -1,30 +1,17 @@
 -- A change that can be made is refused for want of memory alone, and where there were too many edits.
-use Rattle.std.proofs.Common.{◌≡◌, ◌<◌, ◌&&◌, ◌||◌, ℕ, suc, ℤ, pos, neg_ℤ, ◌≤ℤ◌, true, false, Bool, List, [], ◌∷◌, ◌++◌, length, refl, sym, ap, subst, ◌∙◌}
-use Rattle.std.proofs.Common.{inl, inr, arith, true≢false}
-use Rattle.std.specs.Prelude.{IsTrue, Result, Ok, Err, Some, not, slice_get, slice_index_or}
-use Rattle.std.specs.Int.{w64}
-use Rattle.std.specs.Str.{bytes_eq}
-use Rattle.std.proofs.lemmas.Bool.{and_from, and_parts, cases_Bool}
-use Rattle.std.proofs.lemmas.Grind.{common_steps}
-use Rattle.std.proofs.lemmas.Int.{ints, to_z-of_z}
-use Rattle.std.proofs.lemmas.List.{get_or_push, length-append}
-use Rattle.std.proofs.lemmas.Slice.Eq.{bytes_eq-Decides}
-use Rattle.edit_script.specs.CellLibrary.CellBodies.Bodies.{IsLabel}
+use Rattle.undo_log.proofs.Common.{◌≡◌, ◌<◌, ◌&&◌, ℕ, suc, ℤ, neg_ℤ, true, false, Bool, List, [], ◌∷◌, ◌++◌, length, refl, sym, ap, subst, ◌∙◌, inl}
+use Rattle.undo_log.proofs.Common.{inr, arith, true≢false, Some, not, slice_get, slice_index_or, w64, bytes_eq, and_from, cases_Bool, common_steps}
+use Rattle.undo_log.proofs.Common.{ints, to_z-of_z, length-append, bytes_eq-Decides, IsLabel, Label, is_in_range, Hull, UseBody, IsLawfulUse}
+use Rattle.undo_log.proofs.Common.{LibFault, Edits, MOST_EDITS, labelled, moved, moved_use, with_use_changed, DeleteIsRefused, LabelIsRefused}
+use Rattle.undo_log.proofs.Common.{MoveIsRefused, has_id, IsLawfulView, CellView, LibraryView, view_at}
+use Rattle.std.proofs.Common.{◌||◌, pos, ◌≤ℤ◌}
+use Rattle.std.specs.Prelude.{IsTrue, Result, Ok, Err}
+use Rattle.std.proofs.lemmas.Bool.{and_parts}
+use Rattle.std.proofs.lemmas.List.{get_or_push}
 use Rattle.edit_script.specs.CellLibrary.CellBodies.Numbers.{has_sides, is_displacement, is_index}
-use Rattle.tech_model.specs.declared.raw.Label.{Label}
-use Rattle.cell_paint.specs.Painting.{is_in_range}
-use Rattle.cell_tree.specs.declared.sizes.Dimension.TheVariants.{Hull}
-use Rattle.cell_tree.specs.declared.use_tables.UseBody.{UseBody}
-use Rattle.cell_tree.specs.Uses.{IsLawfulUse}
-use Rattle.edit_script.specs.CellLibrary.declared.faults.LibFault.{LibFault}
 use Rattle.edit_script.specs.CellLibrary.declared.faults.LibFault.TheVariants.{TooMany}
-use Rattle.edit_script.specs.CellLibrary.declared.limits.LibraryLimit.TheVariants.{Edits}
-use Rattle.edit_script.specs.CellLibrary.declared.limits.TheConstants.{MOST_EDITS}
-use Rattle.edit_script.specs.CellLibrary.Edits.{labelled, moved, moved_use, with_use_changed}
-use Rattle.edit_script.specs.CellLibrary.Refusals.{Answers, AnswersOrLacksMemory, DeleteIsRefused, EditIsRefused, LabelIsRefused, MoveIsRefused}
-use Rattle.edit_script.specs.CellLibrary.Refusals.{NothingElse, has_id, moves_too_far, stands_in_range}
-use Rattle.edit_script.specs.CellLibrary.LawfulViews.{IsLawfulView}
-use Rattle.edit_script.specs.CellLibrary.Views.{CellView, LibraryView, view_at}
+use Rattle.edit_script.specs.CellLibrary.Refusals.{Answers, AnswersOrLacksMemory, EditIsRefused}
+use Rattle.edit_script.specs.CellLibrary.Refusals.{NothingElse, moves_too_far, stands_in_range}
 use Rattle.edit_script.proofs.CellLibrary.FaultLaws.{not_first}
 use Rattle.undo_log.proofs.BodyLaws.{Uses}
 use Rattle.undo_log.proofs.CellLaws.{cell_here, count_kept}

@@ -1,22 +1,18 @@
 -- A lawful library gets the cells that another one has more, where these use none of those before them.
-use Rattle.std.proofs.Common.{◌≡◌, ◌<◌, ◌≤◌, ℕ, zero, suc, List, [], ◌∷◌, ◌++◌, length, map, drop, refl, sym, ap, subst, ◌∙◌, inl, inr, arith}
-use Rattle.std.specs.Prelude.{All, Option, None, Some, slice_get, slice_index_or}
+use Rattle.undo_log.proofs.Common.{◌≡◌, ◌<◌, ◌≤◌, ℕ, zero, suc, List, [], ◌∷◌, ◌++◌, length, map, drop, refl, sym, ap, subst, ◌∙◌, inl, inr, arith}
+use Rattle.undo_log.proofs.Common.{All, Option, None, Some, slice_get, slice_index_or, length-append, map-append, Distinct, Dimension, UseBody, Held}
+use Rattle.undo_log.proofs.Common.{IsLawfulLibrary, IsLawfulScale, LibraryParts, CellView}
 use Rattle.std.proofs.lemmas.Bool.{cases_lt}
-use Rattle.std.proofs.lemmas.List.{length-append, length-drop, length-map, map-append, get_or_append_left}
+use Rattle.std.proofs.lemmas.List.{length-drop, length-map, get_or_append_left}
 use Rattle.std.proofs.lemmas.List.Elements.{All-append, All-drop}
-use Rattle.geo_core.specs.FiniteSets.Lists.{Distinct}
 use Rattle.geo_core.proofs.FiniteSets.Places.{slice_get-append_front}
 use Rattle.cell_tree.specs.declared.limits.TheConstants.{MOST_USES}
-use Rattle.cell_tree.specs.declared.sizes.Dimension.{Dimension}
 use Rattle.cell_tree.specs.declared.sizes.Size.{Size}
-use Rattle.cell_tree.specs.declared.use_tables.UseBody.{UseBody}
 use Rattle.cell_tree.specs.Sizes.{CellState, AreSizes, AreUsesBelow, IsWithin, no_size, size_at}
 use Rattle.cell_tree.specs.Trees.{IsLawfulCell, IsLawfulTree, Tree, stamp_at}
-use Rattle.edit_script.specs.CellLibrary.Contents.{Held}
-use Rattle.edit_script.specs.CellLibrary.Libraries.{HasUseIds, IsLawfulHeld, IsLawfulLibrary, IsLawfulScale, LibraryParts, cells_seen, uses_in}
+use Rattle.edit_script.specs.CellLibrary.Libraries.{HasUseIds, IsLawfulHeld, cells_seen, uses_in}
 use Rattle.edit_script.specs.CellLibrary.Limits.{AreStatesOf}
 use Rattle.edit_script.specs.CellLibrary.Seen.{cell_views}
-use Rattle.edit_script.specs.CellLibrary.Views.{CellView}
 use Rattle.edit_script.proofs.CellLibrary.AddedCells.{states_append, views_append}
 use Rattle.edit_script.proofs.CellLibrary.SizeLaws.{size_same}
 

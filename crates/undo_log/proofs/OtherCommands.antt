@@ -1,19 +1,12 @@
 -- Commands that change no cell, or come where there is none to change: a log keeps its versions.
-use Rattle.std.proofs.Common.{◌≡◌, ◌⊎◌, ◌<◌, ℕ, zero, suc, true, false, Bool, List, [], ◌∷◌, length, refl, sym, ap, subst, ◌∙◌, inl, inr, arith, true≢false}
-use Rattle.std.specs.Prelude.{Option, None, Some, if◌then◌else◌, slice_index_or, unwrap_or}
-use Rattle.std.specs.Option.{option_map_or}
-use Rattle.ext_model.specs.declared.tables.CellKey.{CellKey}
-use Rattle.cell_tree.specs.declared.use_tables.UseBody.{UseBody}
+use Rattle.undo_log.proofs.Common.{◌≡◌, ◌<◌, ℕ, zero, suc, true, false, Bool, List, [], ◌∷◌, length, refl, sym, ap, subst, ◌∙◌, inl, inr, arith}
+use Rattle.undo_log.proofs.Common.{true≢false, Option, None, Some, if◌then◌else◌, slice_index_or, option_map_or, CellKey, UseBody, IsLawfulLibrary}
+use Rattle.undo_log.proofs.Common.{IsLawfulScale, LibraryParts, seen, CellView, LibraryView, count_seen, Command, Editing, editing_of, applied}
+use Rattle.undo_log.proofs.Common.{CellsCame, Inverses, Keeps, Versions, after_edit, is_edit, versions_after}
+use Rattle.std.proofs.Common.{◌⊎◌}
+use Rattle.std.specs.Prelude.{unwrap_or}
 use Rattle.edit_script.specs.CellLibrary.Edits.{empty_cell, with_new_cell}
-use Rattle.edit_script.specs.CellLibrary.Libraries.{IsLawfulLibrary, IsLawfulScale, LibraryParts, seen}
-use Rattle.edit_script.specs.CellLibrary.Views.{CellView, LibraryView}
-use Rattle.edit_script.proofs.CellLibrary.ViewLaws.{count_seen}
-use Rattle.edit_script.specs.ScriptLines.declared.commands.Command.{Command}
 use Rattle.edit_script.specs.ScriptLines.declared.commands.Command.TheVariants as command
-use Rattle.edit_script.specs.Editing.{Editing, editing_of}
-use Rattle.edit_script.specs.Edits.{applied}
-use Rattle.undo_log.specs.Inverses.{CellsCame, Inverses, Keeps}
-use Rattle.undo_log.specs.Versions.{Versions, after_edit, is_edit, versions_after}
 use Rattle.undo_log.proofs.CameLaws.{cells_come}
 
 -- a new cell is one that came

@@ -1,32 +1,19 @@
 -- Uses that a lawful library has: which move far, and which ids are new.
-use Rattle.std.proofs.Common.{◌≡◌, ◌+◌, ◌<◌, ◌≤◌, ◌^◌, ℕ, zero, suc, ℤ, pos, neg_ℤ, ◌+ℤ◌, ◌-ℤ◌, ◌≤ℤ◌, true, false, Bool, List, [], ◌∷◌, ◌++◌, length}
-use Rattle.std.proofs.Common.{map, take, drop, insert}
-use Rattle.std.proofs.Common.{refl, sym, ap, subst, ◌∙◌, inl, inr, arith, true≢false}
-use Rattle.std.specs.Prelude.{FitsSigned, None, Some, ◌||◌, slice_get, if◌then◌else◌}
-use Rattle.std.specs.Int.{w64}
+use Rattle.undo_log.proofs.Common.{◌≡◌, ◌+◌, ◌<◌, ◌≤◌, ℕ, zero, suc, ℤ, neg_ℤ, ◌+ℤ◌, true, false, Bool, List, [], ◌∷◌, ◌++◌, length, map, take, drop}
+use Rattle.undo_log.proofs.Common.{insert, refl, sym, ap, subst, ◌∙◌, inl, inr, arith, true≢false, None, Some, ◌||◌, slice_get, if◌then◌else◌, w64}
+use Rattle.undo_log.proofs.Common.{bytes_eq, cases_Bool, common_steps, ints, to_z-of_z, map-append, take-append-drop, get_or_from_slice_get}
+use Rattle.undo_log.proofs.Common.{bytes_eq-Decides, In, Distinct, UseBody, IsLawfulUse, moved, moved_use, single_use, with_use_changed, has_id}
+use Rattle.undo_log.proofs.Common.{IsLawfulView, CellView, LibraryView, view_at, id_same, use_in}
+use Rattle.std.proofs.Common.{◌^◌, pos, ◌-ℤ◌, ◌≤ℤ◌}
+use Rattle.std.specs.Prelude.{FitsSigned}
 use Rattle.std.specs.List.{position_or_len}
-use Rattle.std.specs.Str.{bytes_eq}
-use Rattle.std.proofs.lemmas.Bool.{cases_Bool}
-use Rattle.std.proofs.lemmas.Grind.{common_steps}
-use Rattle.std.proofs.lemmas.Int.{ints, to_z-of_z}
-use Rattle.std.proofs.lemmas.List.{map-append, take-append-drop}
 use Rattle.std.proofs.lemmas.List.Quantifiers.{position-Some}
-use Rattle.std.proofs.lemmas.Option.{get_or_from_slice_get}
-use Rattle.std.proofs.lemmas.Slice.Eq.{bytes_eq-Decides}
-use Rattle.geo_core.specs.FiniteSets.Lists.{In, Distinct}
 use Rattle.geo_core.specs.Images.{identity}
 use Rattle.geo_core.proofs.FiniteSets.Places.{slice_get-below}
 use Rattle.geo_core.proofs.FiniteSets.Distincts.{Distinct-cut}
 use Rattle.edit_script.specs.ScriptLines.Forms.{IsNumber}
-use Rattle.cell_tree.specs.declared.use_tables.UseBody.{UseBody}
-use Rattle.cell_tree.specs.Uses.{IsLawfulUse}
-use Rattle.edit_script.specs.CellLibrary.Edits.{moved, moved_use, single_use, with_use_changed}
 use Rattle.edit_script.specs.CellLibrary.PutBackUses.{place_of}
-use Rattle.edit_script.specs.CellLibrary.Refusals.{has_id}
-use Rattle.edit_script.specs.CellLibrary.LawfulViews.{IsLawfulView}
-use Rattle.edit_script.specs.CellLibrary.Views.{CellView, LibraryView, view_at}
 use Rattle.edit_script.proofs.CellLibrary.ContentLaws.{position_past}
-use Rattle.edit_script.proofs.CellLibrary.UseLists.{id_same, use_in}
 use Rattle.undo_log.proofs.BodyLaws.{Uses}
 use Rattle.undo_log.proofs.CellLaws.{cell_here, count_kept}
 use Rattle.undo_log.proofs.LawfulLaws.{lawful_uses}

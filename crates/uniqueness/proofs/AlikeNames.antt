@@ -1,15 +1,8 @@
 -- What a line of a vector file says rests on which name has which node, and not on how the names are listed.
-use Rattle.std.proofs.Common.{◌≡◌, ℕ, List, [], ◌∷◌, inl, inr, refl, sym, ap, ◌∙◌}
-use Rattle.std.specs.Prelude.{Option, Some, None}
-use Rattle.std.specs.Str.{bytes_eq}
-use Rattle.std.proofs.lemmas.Bool.{cases_Bool}
-use Rattle.std.proofs.lemmas.Slice.Eq.{bytes_eq-Decides}
-use Rattle.switch_net.specs.Names.{HasName, NameOneNodeEach}
-use Rattle.vector_runs.specs.VectorFiles.LineForms.{node_named}
+use Rattle.uniqueness.proofs.Common.{◌≡◌, ℕ, List, [], ◌∷◌, inl, inr, refl, sym, ap, ◌∙◌, Option, Some, None, bytes_eq, cases_Bool, bytes_eq-Decides}
+use Rattle.uniqueness.proofs.Common.{HasName, NameOneNodeEach, node_named, name_stands, NameAlike}
 use Rattle.vector_runs.specs.VectorFiles.NodeLookup.{IsLikeNamed, ground_name, is_either_node, power_name}
 use Rattle.vector_runs.proofs.VectorFiles.Rails.{rail_found}
-use Rattle.vector_runs.proofs.RailStates.{name_stands}
-use Rattle.uniqueness.specs.Networks.{NameAlike}
 
 -- a name with a node is found
 is_found : (names : List (List ℕ × ℕ)) → NameOneNodeEach names → (name : List ℕ) (v : ℕ) → HasName names v name → node_named names name ≡ Some v

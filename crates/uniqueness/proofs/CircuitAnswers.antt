@@ -1,19 +1,10 @@
 -- What answers a run on the network of a circuit.
-use Rattle.std.proofs.Common.{◌≡◌, inl, inr, ℕ, List, length, Ok, Err, sym, ap, ◌∙◌, subst, arith}
-use Rattle.std.specs.Prelude.{Result}
-use Rattle.text_form.specs.declared.reading.At.{At}
-use Rattle.session_model.specs.declared.report.ReportLine.{ReportLine}
-use Rattle.ext_model.specs.declared.circuits.Circuit.{Circuit}
+use Rattle.uniqueness.proofs.Common.{◌≡◌, inl, inr, ℕ, List, length, Ok, Err, sym, ap, ◌∙◌, subst, arith, Result, At, ReportLine, Circuit, Network}
+use Rattle.uniqueness.proofs.Common.{SimRecords, records_of, Outcome, VecFault, vectors_in, IsNumbered}
 use Rattle.circuit_commands.specs.SimRecords.SimRecords.{sim_of}
-use Rattle.switch_net.specs.Network.{Network}
-use Rattle.switch_net.specs.SimRecords.{SimRecords}
-use Rattle.network_commands.specs.SimNetworks.SimNetworks.{records_of}
-use Rattle.network_commands.specs.StackRuns.declared.outcomes.Outcome.{Outcome}
 use Rattle.network_commands.specs.StackRuns.Outcomes.{IsOutcome}
-use Rattle.vector_runs.specs.VectorFiles.declared.faults.VecFault.{VecFault}
 use Rattle.vector_runs.specs.VectorFiles.declared.files.Vectors.{Vectors as VectorFile}
-use Rattle.vector_runs.specs.VectorFiles.VectorFiles.{vectors_in}
-use Rattle.uniqueness.specs.Networks.{IsNumbered, NetworksAreUnique}
+use Rattle.uniqueness.specs.Networks.{NetworksAreUnique}
 use Rattle.uniqueness.specs.VectorRuns.{FaultsAreUnique, GradesAreUnique, VectorFilesAreUnique}
 use Rattle.uniqueness.proofs.AlikeNames.{like_named}
 use Rattle.uniqueness.proofs.SameNetworks.{nodes_below, one_node_each}

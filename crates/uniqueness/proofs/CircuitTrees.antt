@@ -1,19 +1,10 @@
 -- The circuit files of a tree are read to one end.
-use Rattle.std.proofs.Common.{◌≡◌, inl, inr, ◌<◌, ◌≤◌, ℕ, List, [], ◌∷◌, length, sym, ap, ◌∙◌, subst, arith}
-use Rattle.std.specs.Prelude.{slice_index_or}
-use Rattle.std.proofs.lemmas.Bool.{cases_lt}
-use Rattle.std.proofs.lemmas.List.{get_or_default, get_or_past, length-map}
-use Rattle.finite_sets.specs.Least.{IsLeast}
-use Rattle.finite_sets.specs.Lists.{In}
-use Rattle.finite_sets.proofs.Leasts.{IsLeast-unique}
-use Rattle.outside_io.specs.Files.{Files}
+use Rattle.uniqueness.proofs.Common.{◌≡◌, inl, inr, ◌<◌, ◌≤◌, ℕ, List, [], ◌∷◌, length, sym, ap, ◌∙◌, subst, arith, slice_index_or, cases_lt}
+use Rattle.uniqueness.proofs.Common.{get_or_default, get_or_past, length-map, IsLeast, In, IsLeast-unique, Files, FileIsRefused, Reading}
+use Rattle.uniqueness.proofs.Common.{ReadingIsOne, All, Stopped, fetched_by, ArrayExt, ExtLoadFault, circuit_files}
 use Rattle.use_orders.specs.NewCells.{IsOwnDescendant}
-use Rattle.session_model.specs.FileTrees.{FileIsRefused, Reading, ReadingIsOne, All, Stopped, fetched_by}
-use Rattle.ext_model.specs.declared.arrays.ArrayExt.{ArrayExt}
-use Rattle.circuit_commands.specs.ExtLoading.declared.faults.ExtLoadFault.{ExtLoadFault}
 use Rattle.circuit_commands.specs.ExtLoading.declared.faults.ExtLoadFault.TheVariants.{Cycle}
 use Rattle.circuit_commands.specs.ExtLoading.Loads.{AreRead, LoadIsRefused, TreeIsRefused, children_in, positions_used}
-use Rattle.circuit_commands.specs.ExtLoading.Readings.{circuit_files}
 
 -- ---- what reading came to
 

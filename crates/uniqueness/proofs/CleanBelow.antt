@@ -1,30 +1,20 @@
 -- Where a cell of a lawful library is clean, so is each cell below it.
-use Rattle.std.proofs.Common.{◌≡◌, ◌<◌, ℕ, ℤ, inl, inr, List, [], ◌∷◌, length, refl, sym, subst, arith}
-use Rattle.std.specs.Prelude.{Option, Some, None}
+use Rattle.uniqueness.proofs.Common.{◌≡◌, ◌<◌, ℕ, ℤ, inl, inr, List, [], ◌∷◌, length, refl, sym, subst, arith, Option, Some, None, stay, go, In}
+use Rattle.uniqueness.proofs.Common.{Chain-one, In-map_source, Grid, Rect, RawTech, UseBody, children_in, IsLawfulLibrary, LibraryParts, seen}
+use Rattle.uniqueness.proofs.Common.{view_at, IsCleanCell, IsUncleanBelow}
 use Rattle.finite_sets.specs.Chain.{Chain}
-use Rattle.finite_sets.specs.Chain.Chain.{stay, go}
-use Rattle.finite_sets.specs.Lists.{In}
-use Rattle.finite_sets.proofs.Chains.{Chain-one}
-use Rattle.finite_sets.proofs.Members.{In-append_right, In-map_source}
-use Rattle.geo_core.specs.declared.grids.Grid.{Grid}
-use Rattle.geo_core.specs.declared.squares.Rect.{Rect}
+use Rattle.finite_sets.proofs.Members.{In-append_right}
 use Rattle.geo_core.specs.declared.transforms.Transform.{Transform}
 use Rattle.geo_core.proofs.ElementLaws.{length-elements_of}
-use Rattle.tech_model.specs.declared.raw.RawTech.{RawTech}
 use Rattle.use_orders.specs.Uses.{UsesCell}
 use Rattle.use_orders.proofs.Visiting.{library_order-lists}
 use Rattle.cell_loading.specs.LayoutModel.CellTrees.{CellTree, Elements}
 use Rattle.tree_circuits.specs.HierarchyModel.CleanCells.{AreClean, IsClean}
-use Rattle.cell_loading.specs.CellTree.declared.use_tables.UseBody.{UseBody}
 use Rattle.cell_loading.specs.CellTree.Uses.{displacements}
-use Rattle.edit_script.specs.CellLibrary.Additions.{children_in}
 use Rattle.edit_script.specs.CellLibrary.LayoutTrees.{elements_at, elements_from, tree_at}
-use Rattle.edit_script.specs.CellLibrary.Libraries.{IsLawfulLibrary, LibraryParts, seen}
-use Rattle.edit_script.specs.CellLibrary.Views.{view_at}
 use Rattle.edit_script.proofs.CellLibrary.GridSteps.{displacement_count}
 use Rattle.edit_script.proofs.CellLibrary.LayoutTreeLaws.{tree_unfolds}
 use Rattle.edit_script.proofs.CellLibrary.ChildLaws.{below_there, child_of, children_at}
-use Rattle.hier_merge.specs.UncleanCells.{IsCleanCell, IsUncleanBelow}
 
 -- a use has some element
 some_element : (grid : Option Grid) → 0 < length (displacements grid)

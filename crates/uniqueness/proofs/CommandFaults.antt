@@ -1,19 +1,15 @@
 -- Each command that edits is refused for one fault.
-use Rattle.std.proofs.Common.{◌≡◌, ℕ, ℤ, List, ap, sym, ◌∙◌}
-use Rattle.edit_script.specs.CellLibrary.declared.faults.LibFault.{LibFault}
+use Rattle.uniqueness.proofs.Common.{◌≡◌, ℕ, ℤ, List, ap, sym, ◌∙◌, LibFault, Grid, Option, EditFault, IsForOneFault}
 use Rattle.edit_script.specs.CellLibrary.Views.{cell_named}
-use Rattle.geo_core.specs.declared.grids.Grid.{Grid}
 use Rattle.tech_model.specs.declared.raw.LayerId.{LayerId}
 use Rattle.tech_model.specs.Types.{layer_named}
-use Rattle.std.specs.Prelude.{Option}
 use Rattle.edit_script.specs.ScriptLines.declared.commands.Command.TheVariants as command
-use Rattle.edit_script.specs.declared.faults.EditFault.{EditFault}
 use Rattle.edit_script.specs.declared.faults.EditFault.TheVariants.{NoCell, NoCurrent, NoLayer}
 use Rattle.edit_script.specs.Editing.{Editing}
 use Rattle.edit_script.specs.Edits.{grid_of, label_layer, label_of}
 use Rattle.edit_script.specs.Refusals.{CellIsRefused, CurrentIsRefused, GridIsRefused, LabelLayerIsRefused, LayerIsRefused}
 use Rattle.edit_script.specs.Refusals.{LibraryRefuses, with_word}
-use Rattle.uniqueness.specs.Refusals.{CommandFaultsAreUnique, IsForOneFault}
+use Rattle.uniqueness.specs.Refusals.{CommandFaultsAreUnique}
 use Rattle.uniqueness.proofs.LibraryFaults.{one_array, one_delete, one_erase, one_label, one_move, one_new, one_paint, one_place, one_unlabel}
 use Rattle.uniqueness.proofs.OneFault.{first_of, of_found, this_fault}
 

@@ -1,8 +1,8 @@
 -- What comes of a command is one.
-use Rattle.std.proofs.Common.{◌≡◌, ◌≢◌, ◌⊎◌, inl, inr, sym, ◌∙◌}
-use Rattle.edit_script.specs.declared.faults.EditFault.{EditFault}
+use Rattle.uniqueness.proofs.Common.{◌≡◌, ◌⊎◌, inl, inr, sym, ◌∙◌, EditFault, IsForOneFault}
+use Rattle.std.proofs.Common.{◌≢◌}
 use Rattle.edit_script.specs.declared.faults.EditFault.TheVariants.{Memory}
-use Rattle.uniqueness.specs.Refusals.{CommandsHaveOneOutcome, IsForOneFault}
+use Rattle.uniqueness.specs.Refusals.{CommandsHaveOneOutcome}
 use Rattle.uniqueness.proofs.CommandFaults.{one_refusal}
 use Rattle.edit_script.specs.Editing.{editing_of}
 

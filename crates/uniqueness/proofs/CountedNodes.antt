@@ -1,9 +1,6 @@
 -- Sim records have as many nodes as a network of theirs.
-use Rattle.std.proofs.Common.{◌<◌, ℕ, List, inl, inr, arith}
+use Rattle.uniqueness.proofs.Common.{◌<◌, ℕ, List, inl, inr, arith, cases_lt, Network, IsNetworkOf, SimRecords}
 use Rattle.std.specs.Prelude.{◌↔◌}
-use Rattle.std.proofs.lemmas.Bool.{cases_lt}
-use Rattle.switch_net.specs.Network.{Network}
-use Rattle.switch_net.specs.SimRecords.{IsNetworkOf, SimRecords}
 use Rattle.network_commands.specs.SimNetworks.steps.Numbering.{AreNodesOf}
 use Rattle.network_commands.specs.SimNetworks.SimNetworks.{HasMoreNodesThan}
 use Rattle.network_commands.proofs.SimNetworks.CountLaws.{few_nodes, many_nodes}

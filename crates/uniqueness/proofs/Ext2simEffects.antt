@@ -1,16 +1,7 @@
 -- `ext2sim` has one effect.
-use Rattle.std.proofs.Common.{◌≡◌, inl, inr, ℕ, List, refl, sym, ap, ◌∙◌, subst}
-use Rattle.outside_io.specs.Files.{Files}
-use Rattle.session_model.specs.FileTrees.{All, ReadingIsOne, fetched_by}
-use Rattle.ext_model.specs.declared.arrays.ArrayExt.{ArrayExt}
-use Rattle.ext_model.specs.declared.circuits.Circuit.{Circuit}
-use Rattle.circuit_commands.specs.CircuitModel.declared.faults.FlatFault.{FlatFault}
-use Rattle.circuit_commands.specs.CircuitModel.Refusals.{IsFlatFaultOf, IsFlatOf}
+use Rattle.uniqueness.proofs.Common.{◌≡◌, inl, inr, ℕ, List, refl, sym, ap, ◌∙◌, subst, Files, All, ReadingIsOne, fetched_by, ArrayExt, Circuit}
+use Rattle.uniqueness.proofs.Common.{FlatFault, IsFlatFaultOf, IsFlatOf, ExtLoadFault, circuit_files, FreeEffect, refused, Written}
 use Rattle.circuit_commands.specs.PlainRecords.Plains.{plains}
-use Rattle.circuit_commands.specs.ExtLoading.declared.faults.ExtLoadFault.{ExtLoadFault}
-use Rattle.circuit_commands.specs.ExtLoading.Readings.{circuit_files}
-use Rattle.circuit_commands.specs.LineAnswers.LineEffects.{FreeEffect, refused}
-use Rattle.circuit_commands.specs.declared.circuits.Written.{Written}
 use Rattle.circuit_commands.specs.Circuits.{IsSimWritten, lines_of, stores_of}
 use Rattle.circuit_commands.specs.CommandExt2sim.{Ext2simMeans, RefusesRecords, RefusesTree, WritesTree}
 use Rattle.circuit_commands.specs.Refusals.{flat_refusal, tree_refusal}

@@ -1,16 +1,9 @@
 -- Records that are reached alike mean one circuit, or have one fault.
-use Rattle.std.proofs.Common.{◌≡◌, ℕ, List, [], sym, ap, ◌∙◌, subst}
-use Rattle.std.specs.Prelude.{Option, Some, None}
-use Rattle.finite_sets.specs.Chain.Chain.{stay}
-use Rattle.ext_model.specs.declared.circuits.Circuit.{Circuit}
-use Rattle.ext_model.specs.declared.records.CellExt.{CellExt}
-use Rattle.circuit_commands.specs.CircuitModel.declared.faults.FlatFault.{FlatFault}
+use Rattle.uniqueness.proofs.Common.{◌≡◌, ℕ, List, [], sym, ap, ◌∙◌, subst, Option, Some, None, stay, Circuit, CellExt, FlatFault, Element}
+use Rattle.uniqueness.proofs.Common.{elements_of, ext_of, IsFlatFaultOf, IsFlatOf, flat_fault, AgreeBelow}
 use Rattle.circuit_commands.specs.CircuitModel.declared.limits.TheConstants.{LONGEST_CHAIN}
 use Rattle.circuit_commands.specs.CircuitModel.Circuits.{IsCircuitOf}
-use Rattle.circuit_commands.specs.CircuitModel.Elements.{Element, elements_of, ext_of}
-use Rattle.circuit_commands.specs.CircuitModel.Refusals.{IsFlatFaultOf, IsFlatOf, flat_fault}
 use Rattle.circuit_commands.specs.CircuitLaws.CircuitLaws.{CircuitsAreUnique}
-use Rattle.uniqueness.specs.FlatCircuits.{AgreeBelow}
 use Rattle.uniqueness.proofs.ReachedElements.{same_elements}
 use Rattle.uniqueness.proofs.ReachedFaults.{same_flat_fault}
 

@@ -1,14 +1,6 @@
 -- The uses of a lawful library lead to its cells.
-use Rattle.std.proofs.Common.{inl, inr, ◌<◌, ◌≤◌, ℕ, List, [], length, map, subst, ◌∙◌, arith}
-use Rattle.std.proofs.lemmas.Bool.{cases_lt}
-use Rattle.std.proofs.lemmas.List.{get_or_past, length-map}
-use Rattle.finite_sets.specs.Lists.{In}
-use Rattle.finite_sets.proofs.Chains.{Chain-one}
-use Rattle.use_orders.specs.Uses.{AreCells}
-use Rattle.cell_loading.specs.CellTree.declared.use_tables.UseBody.{UseBody}
-use Rattle.edit_script.specs.CellLibrary.Additions.{children_in}
-use Rattle.edit_script.specs.CellLibrary.Libraries.{IsLawfulLibrary, LibraryParts, seen}
-use Rattle.edit_script.specs.CellLibrary.Views.{CellView}
+use Rattle.uniqueness.proofs.Common.{inl, inr, ◌<◌, ◌≤◌, ℕ, List, [], length, map, subst, ◌∙◌, arith, cases_lt, get_or_past, length-map, In}
+use Rattle.uniqueness.proofs.Common.{Chain-one, AreCells, UseBody, children_in, IsLawfulLibrary, LibraryParts, seen, CellView}
 use Rattle.edit_script.proofs.CellLibrary.ViewLaws.{count_seen}
 use Rattle.edit_script.proofs.CellLibrary.ChildLaws.{below_there}
 

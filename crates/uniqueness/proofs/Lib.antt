@@ -4,6 +4,7 @@ pub use Rattle.cell_loading.proofs as CellLoading
 pub use Rattle.edit_script.proofs as EditScript
 pub use Rattle.library_trees.proofs as LibraryTrees
 pub use Rattle.circuit_commands.proofs as CircuitCommands
+mod Common
 mod SameTexts
 pub mod SameNodes
 mod SameTransistors

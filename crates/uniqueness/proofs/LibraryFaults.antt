@@ -1,18 +1,12 @@
 -- Each edit of a library is refused for one fault.
-use Rattle.std.proofs.Common.{◌≡◌, inl, inr, ℕ, ℤ, List, map, ap, sym, ◌∙◌}
-use Rattle.std.proofs.lemmas.Bool.{cases_order}
-use Rattle.geo_core.specs.declared.grids.Grid.{Grid}
-use Rattle.geo_core.specs.declared.squares.Rect.{Rect}
-use Rattle.tech_model.specs.declared.raw.Label.{Label}
+use Rattle.uniqueness.proofs.Common.{◌≡◌, inl, inr, ℕ, ℤ, List, map, ap, sym, ◌∙◌, cases_order, Grid, Rect, Label, CellBody, AddAllIsRefused}
+use Rattle.uniqueness.proofs.Common.{with_all, LibraryView, view_at, IsForOneFault}
 use Rattle.cell_loading.specs.CellTree.Additions.{IsFirstBelowItself}
 use Rattle.cell_loading.specs.CellTree.Sizes.{CellState}
-use Rattle.cell_loading.specs.CellBodies.declared.bodies.CellBody.{CellBody}
 use Rattle.edit_script.specs.CellLibrary.declared.faults.LibFault.TheVariants.{Cycle}
-use Rattle.edit_script.specs.CellLibrary.Additions.{AddAllIsRefused, with_all}
 use Rattle.edit_script.specs.CellLibrary.Refusals.{ArrayIsRefused, DeleteIsRefused, EraseIsRefused, LabelIsRefused, MoveIsRefused, NewCellIsRefused}
 use Rattle.edit_script.specs.CellLibrary.Refusals.{PaintIsRefused, PlaceIsRefused, UnlabelIsRefused, uses_of}
-use Rattle.edit_script.specs.CellLibrary.Views.{LibraryView, view_at}
-use Rattle.uniqueness.specs.Refusals.{IsForOneFault, LibraryFaultsAreUnique}
+use Rattle.uniqueness.specs.Refusals.{LibraryFaultsAreUnique}
 use Rattle.uniqueness.proofs.OneFault.{first_of, nothing_else}
 
 pub one_new : (view : LibraryView) (name : List ℕ) → IsForOneFault (NewCellIsRefused view name)

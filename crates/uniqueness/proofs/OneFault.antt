@@ -1,9 +1,6 @@
 -- The first fault of a chain is one: each condition holds or does not, and the later faults are looked at in the one case alone.
-use Rattle.std.proofs.Common.{◌≡◌, inl, inr, sym, ◌∙◌}
-use Rattle.std.specs.Prelude.{Option, Some, None, MatchOption}
-use Rattle.edit_script.specs.CellLibrary.declared.faults.LibFault.{LibFault}
-use Rattle.edit_script.specs.CellLibrary.Refusals.{FirstOf, NothingElse}
-use Rattle.uniqueness.specs.Refusals.{IsForOneFault}
+use Rattle.uniqueness.proofs.Common.{◌≡◌, inl, inr, sym, ◌∙◌, Option, Some, None, MatchOption, LibFault, FirstOf, IsForOneFault}
+use Rattle.edit_script.specs.CellLibrary.Refusals.{NothingElse}
 
 pub nothing_else : IsForOneFault NothingElse
 nothing_else told other p q = absurd p

@@ -1,15 +1,10 @@
 -- A cell of a library has one hull.
-use Rattle.std.proofs.Common.{◌≡◌, ◌<◌, ℕ, zero, suc, List, [], ◌∷◌, length, map, sym, ap, ◌∙◌, subst, arith}
-use Rattle.std.specs.Prelude.{Option, Some, slice_get, slice_index_or}
-use Rattle.std.proofs.lemmas.List.{length-map}
-use Rattle.use_orders.specs.Uses.{AreCells}
-use Rattle.geo_core.specs.declared.squares.Rect.{Rect}
+use Rattle.uniqueness.proofs.Common.{◌≡◌, ◌<◌, ℕ, zero, suc, List, [], ◌∷◌, length, map, sym, ap, ◌∙◌, subst, arith, Option, Some, slice_get}
+use Rattle.uniqueness.proofs.Common.{slice_index_or, length-map, AreCells, Rect, UseBody, children_in, CellView, LibraryView, view_at}
 use Rattle.cell_loading.specs.CellTree.declared.sizes.Size.{Size}
-use Rattle.cell_loading.specs.CellTree.declared.use_tables.UseBody.{UseBody}
 use Rattle.cell_loading.specs.CellTree.Sizes.{AreSizes, CellState}
-use Rattle.edit_script.specs.CellLibrary.Additions.{children_in}
 use Rattle.edit_script.specs.CellLibrary.Limits.{AreStatesOf, HullIs}
-use Rattle.edit_script.specs.CellLibrary.Views.{CellView, LibraryView, no_cell, view_at}
+use Rattle.edit_script.specs.CellLibrary.Views.{no_cell}
 use Rattle.edit_script.proofs.CellLibrary.LimitLaws.{states_unique}
 use Rattle.edit_script.proofs.CellLibrary.SizeLaws.{HaveChildren, one_size}
 use Rattle.edit_script.proofs.CellLibrary.ViewLaws.{length-states}

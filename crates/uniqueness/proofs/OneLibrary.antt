@@ -1,16 +1,11 @@
 -- A library sees of bodies no more than what the texts say.
-use Rattle.std.proofs.Common.{◌≡◌, ℕ, suc, List, [], ◌∷◌, ◌++◌, length, map, refl, ap, ◌∙◌}
-use Rattle.std.specs.Prelude.{Option, Some}
-use Rattle.std.proofs.Math.Path.{fun_ext}
-use Rattle.std.specs.Option.{option_or}
-use Rattle.tech_model.specs.declared.raw.Label.{Label}
-use Rattle.tech_model.specs.declared.raw.RawTech.{RawTech}
+use Rattle.uniqueness.proofs.Common.{◌≡◌, ℕ, suc, List, [], ◌∷◌, ◌++◌, length, map, refl, ap, ◌∙◌, Option, Some, fun_ext, option_or, Label, RawTech}
+use Rattle.uniqueness.proofs.Common.{CellBody, with_all, CellView, LibraryView}
 use Rattle.cell_loading.specs.LayoutModel.Layouts.{Layout}
 use Rattle.cell_loading.specs.CellPaint.Paints.{layout_of}
-use Rattle.cell_loading.specs.CellBodies.declared.bodies.CellBody.{CellBody}
 use Rattle.cell_loading.specs.CellBodies.declared.bodies.CellUse.{CellUse}
-use Rattle.edit_script.specs.CellLibrary.Additions.{first_scale, kept_cell, kept_use, names_with, with_all}
-use Rattle.edit_script.specs.CellLibrary.Views.{CellView, LibraryView, names_of}
+use Rattle.edit_script.specs.CellLibrary.Additions.{first_scale, kept_cell, kept_use, names_with}
+use Rattle.edit_script.specs.CellLibrary.Views.{names_of}
 use Rattle.cell_loading.specs.MagText.Drawings.{painted_all}
 use Rattle.cell_loading.specs.MagText.MagTexts.{HasAllOf}
 use Rattle.cell_loading.specs.CellFiles.{ReadCell, names_read, scale_of_first}

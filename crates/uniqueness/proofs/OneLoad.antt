@@ -1,18 +1,14 @@
 -- A load has one outcome.
-use Rattle.std.proofs.Common.{◌≡◌, ◌⊎◌, inl, inr, ℕ, List, [], ◌∷◌, length, sym, ap, ◌∙◌, subst}
-use Rattle.outside_io.specs.Files.{Files}
-use Rattle.session_model.specs.FileTrees.{FileIsRefused, Reading, All, Stopped, fetched_by}
+use Rattle.uniqueness.proofs.Common.{◌≡◌, ◌⊎◌, inl, inr, ℕ, List, [], ◌∷◌, length, sym, ap, ◌∙◌, subst, Files, FileIsRefused, Reading, All, Stopped}
+use Rattle.uniqueness.proofs.Common.{fetched_by, CellBody, LibFault, AddAllIsRefused, with_all, FirstOf, LibraryView, view_at}
 use Rattle.session_model.proofs.FileTreeLaws.{one_reading}
 use Rattle.cell_loading.specs.CellTree.declared.sizes.Dimension.TheVariants.{Depth as DepthOf, Elements as ElementsOf, Hull}
-use Rattle.cell_loading.specs.CellBodies.declared.bodies.CellBody.{CellBody}
-use Rattle.edit_script.specs.CellLibrary.declared.faults.LibFault.{LibFault}
 use Rattle.edit_script.specs.CellLibrary.declared.faults.LibFault.TheVariants.{OutOfRange, Cycle, TooMany}
 use Rattle.edit_script.specs.CellLibrary.declared.limits.LibraryLimit.TheVariants.{Depth, Edits, Elements}
 use Rattle.edit_script.specs.CellLibrary.declared.limits.TheConstants.{MOST_EDITS}
-use Rattle.edit_script.specs.CellLibrary.Additions.{AddAllIsRefused, IsBelowItself, IsFirstBelowItself, with_all}
+use Rattle.edit_script.specs.CellLibrary.Additions.{IsBelowItself, IsFirstBelowItself}
 use Rattle.edit_script.specs.CellLibrary.Limits.{GoesPast}
-use Rattle.edit_script.specs.CellLibrary.Refusals.{EditIsRefused, FirstOf, NothingElse}
-use Rattle.edit_script.specs.CellLibrary.Views.{LibraryView, view_at}
+use Rattle.edit_script.specs.CellLibrary.Refusals.{EditIsRefused, NothingElse}
 use Rattle.uniqueness.proofs.LibraryFaults.{one_add_all}
 use Rattle.uniqueness.proofs.OneFault.{first_of}
 use Rattle.cell_loading.specs.declared.faults.LoadFault.{LoadFault}

@@ -1,13 +1,10 @@
 -- A clean cell of a library has one record.
-use Rattle.std.proofs.Common.{◌≡◌, ℕ, List, sym, ◌∙◌, ap, subst}
-use Rattle.ext_model.specs.declared.records.CellExt.{CellExt}
-use Rattle.ext_model.specs.declared.records.MergeRec.{MergeRec}
+use Rattle.uniqueness.proofs.Common.{◌≡◌, ℕ, List, sym, ◌∙◌, ap, subst, CellExt, MergeRec, IsLawfulLibrary, LibraryParts, seen}
 use Rattle.ext_model.specs.Plain.{plain}
 use Rattle.ext_model.specs.Rows.{AreRowsOf}
 use Rattle.merge_rows.proofs.UniqueRows.{rows_unique}
 use Rattle.edit_script.specs.CellLibrary.LayoutModel.FlatSets.{IsTyped}
 use Rattle.edit_script.specs.CellLibrary.LayoutTrees.{tree_at}
-use Rattle.edit_script.specs.CellLibrary.Libraries.{IsLawfulLibrary, LibraryParts, seen}
 use Rattle.uniqueness.proofs.SameTreeRecords.{tree_records_are_one}
 use Rattle.library_trees.specs.NamedCells.{named_tree_at}
 use Rattle.library_trees.proofs.CleanTrees.{clean_tree}

@@ -1,19 +1,11 @@
 -- A cell has one text.
-use Rattle.std.proofs.Common.{◌≡◌, ◌<◌, ℕ, suc, List, [], ◌∷◌, ◌++◌, length, refl, sym, ap, ◌∙◌, arith}
-use Rattle.std.specs.Prelude.{Option, Some, slice_get, slice_index_or}
-use Rattle.std.specs.List.{flat_map}
-use Rattle.std.proofs.lemmas.List.{same_lists}
-use Rattle.use_orders.specs.Uses.{AreCells}
+use Rattle.uniqueness.proofs.Common.{◌≡◌, ◌<◌, ℕ, suc, List, [], ◌∷◌, ◌++◌, length, refl, sym, ap, ◌∙◌, arith, Option, Some, slice_get}
+use Rattle.uniqueness.proofs.Common.{slice_index_or, flat_map, same_lists, AreCells, Label, RawTech, UseBody, children_in, LibraryView, view_at}
 use Rattle.geo_core.specs.Planes.{HasValue}
 use Rattle.geo_strips.proofs.StripListLaws.{one_list}
-use Rattle.tech_model.specs.declared.raw.Label.{Label}
-use Rattle.tech_model.specs.declared.raw.RawTech.{RawTech}
 use Rattle.tech_model.specs.Types.{plane_of}
 use Rattle.cell_loading.specs.LayoutModel.Layouts.{Layout}
 use Rattle.cell_loading.specs.CellPaint.Painting.{kinds_on}
-use Rattle.cell_loading.specs.CellTree.declared.use_tables.UseBody.{UseBody}
-use Rattle.edit_script.specs.CellLibrary.Additions.{children_in}
-use Rattle.edit_script.specs.CellLibrary.Views.{LibraryView, view_at}
 use Rattle.cell_loading.specs.MagText.declared.written.LayerStrips.{LayerStrips}
 use Rattle.cell_loading.specs.MagText.declared.written.WrittenUse.{WrittenUse}
 use Rattle.cell_loading.specs.MagText.CellTexts.{AreWrittenUses, IsCellText, IsWrittenUse}

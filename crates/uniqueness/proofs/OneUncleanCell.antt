@@ -1,15 +1,12 @@
 -- One cell is the first of an order that is not clean, and the squares of it that offend have one list of strips.
-use Rattle.std.proofs.Common.{◌≡◌, ℕ, zero, suc, List, [], ◌∷◌, ◌++◌, map, sym, ap, ◌∙◌, subst}
+use Rattle.uniqueness.proofs.Common.{◌≡◌, ℕ, zero, suc, List, [], ◌∷◌, ◌++◌, map, sym, ap, ◌∙◌, subst, All-head, All-tail, Rect, children_in}
+use Rattle.uniqueness.proofs.Common.{LibraryView, IsCleanCell, IsUncleanBelow}
 use Rattle.std.specs.Prelude.{All}
-use Rattle.std.proofs.lemmas.List.Elements.{All-head, All-tail}
-use Rattle.geo_core.specs.declared.squares.Rect.{Rect}
 use Rattle.geo_core.specs.declared.squares.Square.{Square}
 use Rattle.geo_strips.proofs.StripListLaws.{one_list}
 use Rattle.use_orders.proofs.Visiting.{Visits-unique}
-use Rattle.edit_script.specs.CellLibrary.Additions.{children_in}
-use Rattle.edit_script.specs.CellLibrary.Views.{LibraryView}
 use Rattle.hier_merge.specs.StripLists.{AreStripsFrom}
-use Rattle.hier_merge.specs.UncleanCells.{AreOffendingOf, IsCleanCell, IsFirstUnclean, IsUncleanBelow}
+use Rattle.hier_merge.specs.UncleanCells.{AreOffendingOf, IsFirstUnclean}
 use Rattle.uniqueness.specs.UncleanCells.{OffendingSquaresAreUnique}
 
 -- sets on planes have one list of strips

@@ -1,15 +1,8 @@
 -- The elements of a tree rest on the records of the cells that uses lead to from the root.
-use Rattle.std.proofs.Common.{◌≡◌, ℕ, zero, suc, List, [], ◌∷◌, ◌++◌, inl, inr, refl, ap, ◌∙◌, subst}
-use Rattle.std.specs.Prelude.{Option, Some, None}
-use Rattle.std.specs.List.{flat_map}
-use Rattle.finite_sets.specs.Chain.Chain.{stay, go}
-use Rattle.finite_sets.specs.Lists.{In}
+use Rattle.uniqueness.proofs.Common.{◌≡◌, ℕ, zero, suc, List, [], ◌∷◌, ◌++◌, inl, inr, refl, ap, ◌∙◌, subst, Option, Some, None, flat_map, stay, go}
+use Rattle.uniqueness.proofs.Common.{In, In-map, CellExt, UseRec, Element, ext_of, AgreeBelow}
 use Rattle.finite_sets.proofs.Images.{In-flat_map_source}
-use Rattle.finite_sets.proofs.Members.{In-map}
-use Rattle.ext_model.specs.declared.records.CellExt.{CellExt}
-use Rattle.ext_model.specs.declared.records.UseRec.{UseRec}
-use Rattle.circuit_commands.specs.CircuitModel.Elements.{Element, elements_below, ext_of, of_option}
-use Rattle.uniqueness.specs.FlatCircuits.{AgreeBelow}
+use Rattle.circuit_commands.specs.CircuitModel.Elements.{elements_below, of_option}
 
 -- lists that are alike for each thing are alike one behind the other
 flat_map-same : {X Y : Type 0} (f g : X → List Y) (xs : List X) → ((x : X) → In x xs → f x ≡ g x) → flat_map f xs ≡ flat_map g xs

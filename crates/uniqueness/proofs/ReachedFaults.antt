@@ -1,31 +1,22 @@
 -- The fault of records rests on those that uses lead to from the root.
-use Rattle.std.proofs.Common.{◌≡◌, ◌<◌, ◌≤◌, ◌+◌, ℕ, zero, suc, Bool, true, false, if◌then◌else◌, List, [], ◌∷◌, map, length, inl, inr, refl, sym, ap}
-use Rattle.std.proofs.Common.{◌∙◌, subst, arith}
-use Rattle.std.specs.Prelude.{Option, Some, None, find}
-use Rattle.std.specs.Option.{option_or}
-use Rattle.std.specs.Str.{bytes_eq}
-use Rattle.std.proofs.lemmas.List.{length-map}
-use Rattle.std.proofs.lemmas.Slice.Eq.{bytes_eq-Decides}
+use Rattle.uniqueness.proofs.Common.{◌≡◌, ◌<◌, ◌≤◌, ℕ, zero, suc, Bool, true, false, List, [], ◌∷◌, map, length, inl, inr, refl, sym, ap, ◌∙◌, subst}
+use Rattle.uniqueness.proofs.Common.{arith, Option, Some, None, option_or, bytes_eq, length-map, bytes_eq-Decides, Distinct, In, In-map, CellExt}
+use Rattle.uniqueness.proofs.Common.{UseRec, FlatFault, Element, elements_of, ext_of, flat_fault, AgreeBelow}
+use Rattle.std.proofs.Common.{◌+◌, if◌then◌else◌}
+use Rattle.std.specs.Prelude.{find}
 use Rattle.finite_sets.specs.First.{first_some}
-use Rattle.finite_sets.specs.Lists.{Distinct, In}
 use Rattle.finite_sets.proofs.Distincts.{length-distinct}
 use Rattle.finite_sets.proofs.Firsts.{first_some-none_In}
 use Rattle.finite_sets.proofs.Images.{map-same}
-use Rattle.finite_sets.proofs.Members.{In-map}
 use Rattle.finite_sets.proofs.Searches.{absent-from_list_any, find-In, find-passes}
 use Rattle.ext_model.specs.NodeNames.{slashes_in}
-use Rattle.ext_model.specs.declared.records.CellExt.{CellExt}
-use Rattle.ext_model.specs.declared.records.UseRec.{UseRec}
-use Rattle.circuit_commands.specs.CircuitModel.declared.faults.FlatFault.{FlatFault}
 use Rattle.circuit_commands.specs.CircuitModel.declared.faults.FlatFault.TheVariants.{Cycle, NoCell, NoPath}
 use Rattle.circuit_commands.specs.CircuitModel.declared.limits.CircuitLimit.TheVariants.{Depth, Elements, Merges, Names, Nodes}
 use Rattle.circuit_commands.specs.CircuitModel.declared.limits.TheConstants.{LONGEST_CHAIN, MOST_FLAT_ELEMENTS, MOST_MERGES, MOST_NAME_BYTES, MOST_NODES}
-use Rattle.circuit_commands.specs.CircuitModel.Elements.{Element, elements_of, ext_of}
 use Rattle.circuit_commands.specs.CircuitModel.FlatNodes.{is_among}
-use Rattle.circuit_commands.specs.CircuitModel.Refusals.{after_slash, before_slash, chain_length, class_fault, count_fault, depth_of, element_fault, first_fault, flat_fault}
+use Rattle.circuit_commands.specs.CircuitModel.Refusals.{after_slash, before_slash, chain_length, class_fault, count_fault, depth_of, element_fault, first_fault}
 use Rattle.circuit_commands.specs.CircuitModel.Refusals.{greatest, leads, merge_count, merge_fault, name_bytes, node_count, past, path_fault, use_fault, walk_fault}
 use Rattle.circuit_commands.proofs.PlainRecords.ElementTree.RecordWalks.{at_use}
-use Rattle.uniqueness.specs.FlatCircuits.{AgreeBelow}
 use Rattle.uniqueness.proofs.ReachedElements.{IsReached, child_reached, elements_reached, same_child, same_elements}
 
 -- things that give the same give the same first

@@ -1,27 +1,19 @@
 -- A layout with labels has one list of transistor records.
-use Rattle.std.proofs.Common.{◌≡◌, ◌<◌, ℕ, ℤ, pos, List, [], map, length, get_or, sym, ◌∙◌, ap, subst}
+use Rattle.uniqueness.proofs.Common.{◌≡◌, ◌<◌, ℕ, ℤ, pos, List, [], map, length, get_or, sym, ◌∙◌, ap, subst, length-map, same_lists, IsLeast}
+use Rattle.uniqueness.proofs.Common.{Distinct, same_by_order, IsLeast-unique, Pairwise-from_AllPairs, Label, RawTech, name_cmp_total}
+use Rattle.uniqueness.proofs.Common.{not_before_itself, Layout, Place, IsBefore, IsBefore-irreflexive, IsBefore-trans, IsNoLater-antisym}
 use Rattle.std.specs.Prelude.{AllPairs}
-use Rattle.std.proofs.lemmas.List.{get_or-map, length-map, same_lists}
+use Rattle.std.proofs.lemmas.List.{get_or-map}
 use Rattle.finite_sets.specs.Laws.{IsTransitive}
-use Rattle.finite_sets.specs.Least.{IsLeast}
-use Rattle.finite_sets.specs.Lists.{Distinct}
 use Rattle.finite_sets.proofs.Images.{one_from_Distinct}
-use Rattle.finite_sets.proofs.InOrder.{same_by_order}
-use Rattle.finite_sets.proofs.Leasts.{IsLeast-unique}
 use Rattle.finite_sets.proofs.Members.{In-get_or}
-use Rattle.finite_sets.proofs.Pairs.{Pairwise, Pairwise-from_AllPairs, Pairwise-unmap}
+use Rattle.finite_sets.proofs.Pairs.{Pairwise, Pairwise-unmap}
 use Rattle.tech_model.specs.declared.raw.FetRule.{FetRule}
-use Rattle.tech_model.specs.declared.raw.Label.{Label}
-use Rattle.tech_model.specs.declared.raw.RawTech.{RawTech}
 use Rattle.ext_model.specs.declared.records.FetRec.{FetRec}
 use Rattle.ext_model.specs.declared.records.TermRec.{TermRec}
-use Rattle.ext_model.proofs.NameOrders.{name_cmp_total}
-use Rattle.tree_circuits.proofs.FullNames.ListOrders.{not_before_itself}
-use Rattle.tree_circuits.specs.OwnRecordLaws.CellNodes.LayoutModel.Layouts.{Layout}
-use Rattle.tree_circuits.specs.OwnRecordLaws.CellNodes.LayoutModel.Places.{Place, IsBefore, IsNoLater}
+use Rattle.tree_circuits.specs.OwnRecordLaws.CellNodes.LayoutModel.Places.{IsNoLater}
 use Rattle.tree_circuits.specs.OwnRecordLaws.CellNodes.LayoutModel.Transistors.{gate_length}
 use Rattle.tree_circuits.specs.OwnRecordLaws.TreeRecords.FetRecords.{AreFetRecords, IsFetRecord, IsNameBefore, IsNodeBefore, IsOfNode, terminal_names}
-use Rattle.tree_circuits.proofs.OwnRecordLaws.CellNodes.LayoutModel.PlaceLaws.{IsBefore-irreflexive, IsBefore-trans, IsNoLater-antisym}
 use Rattle.tree_circuits.proofs.OwnRecordLaws.SameFets.{side_of}
 use Rattle.uniqueness.specs.OwnUniqueness.{FetRecordsAreUnique}
 use Rattle.uniqueness.proofs.SameNodes.{origin}

@@ -1,16 +1,12 @@
 -- How vectors grade faults rests on the network and on which name has which node, and not on how the names are listed.
-use Rattle.std.proofs.Common.{◌≡◌, ℕ, Bool, List, [], ◌∷◌, Option, Some, None, refl, sym, ap, subst}
-use Rattle.std.proofs.Math.Path.{fun_ext}
-use Rattle.std.specs.Prelude.{MatchOption}
+use Rattle.uniqueness.proofs.Common.{◌≡◌, ℕ, Bool, List, [], ◌∷◌, refl, sym, ap, subst, fun_ext, MatchOption, Network, Vectors, NameAlike}
+use Rattle.std.proofs.Common.{Option, Some, None}
 use Rattle.std.specs.List.{AllZip}
-use Rattle.switch_net.specs.Network.{Network}
-use Rattle.vector_runs.specs.VectorFiles.declared.files.Vectors.{Vectors}
 use Rattle.vector_runs.specs.VectorFiles.LineForms.{is_rail}
 use Rattle.vector_runs.specs.declared.stuck_faults.StuckFault.{StuckFault}
 use Rattle.network_commands.specs.FaultGrade.declared.grading.Graded.{Graded}
 use Rattle.network_commands.specs.FaultGrade.Grades.{AreGrades, Detects, IsDetectedAt, IsGrade, IsUndetected, faults_but, faults_of}
 use Rattle.network_commands.specs.FaultGrade.Laws as Grading
-use Rattle.uniqueness.specs.Networks.{NameAlike}
 use Rattle.uniqueness.proofs.SameReplies.{begins_alike}
 
 -- names that are alike are so the other way round

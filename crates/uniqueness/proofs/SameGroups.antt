@@ -1,13 +1,7 @@
 -- Groups of a cell with one name are one.
-use Rattle.std.proofs.Common.{◌≡◌, ℕ, List, sym, subst}
-use Rattle.finite_sets.specs.Lists.{In}
-use Rattle.tech_model.specs.declared.raw.RawTech.{RawTech}
-use Rattle.tech_model.specs.WellFormed.{IsWellFormed}
-use Rattle.tree_circuits.specs.TreeNames.CleanTrees.{IsCleanTree}
+use Rattle.uniqueness.proofs.Common.{◌≡◌, ℕ, List, sym, subst, In, RawTech, IsWellFormed, IsCleanTree, rules_of, NamedTree}
 use Rattle.tree_circuits.specs.TreeNames.TreeRecords.LayoutModel.Places.{Place}
-use Rattle.tree_circuits.specs.TreeNames.TreeRecords.LayoutModel.Technologies.{rules_of}
 use Rattle.tree_circuits.specs.TreeNames.TreeRecords.MemberGroups.{AreOneGroup, IsGroupName, IsMemberOf}
-use Rattle.tree_circuits.specs.TreeNames.TreeRecords.NamedTrees.{NamedTree}
 use Rattle.tree_circuits.specs.TreeRecords.Merges.{AreAdjustments, IsMemberGroup, MemberGroup}
 use Rattle.tree_circuits.specs.TreeRecords.PlaceWeights.{IsAdjustment, capacitance_weight}
 use Rattle.tree_circuits.proofs.FullNames.ListOrders.{same_in_order}

@@ -1,22 +1,13 @@
 -- The groups of a clean cell have one list of merges.
-use Rattle.std.proofs.Common.{◌≡◌, ℕ, Bool, true, false, cond, List, [], ◌∷◌, ◌++◌, filter, inl, inr, refl, sym, ◌∙◌, ap, subst}
-use Rattle.std.specs.List.{flat_map}
-use Rattle.std.proofs.lemmas.Bool.{cases_Bool, false≢true}
-use Rattle.finite_sets.specs.Lists.{In}
-use Rattle.finite_sets.proofs.InOrder.{same_by_order}
+use Rattle.uniqueness.proofs.Common.{◌≡◌, ℕ, Bool, true, false, List, [], ◌∷◌, ◌++◌, inl, inr, refl, sym, ◌∙◌, ap, subst, flat_map, cases_Bool, In}
+use Rattle.uniqueness.proofs.Common.{same_by_order, Pairwise-from_AllPairs, RawTech, KeepsRules, IsWellFormed, MergeRec, name_cmp_total, IsCleanTree}
+use Rattle.uniqueness.proofs.Common.{Class, rules_of, NamedTree, not_before_itself}
+use Rattle.std.proofs.Common.{cond, filter}
+use Rattle.std.proofs.lemmas.Bool.{false≢true}
 use Rattle.finite_sets.proofs.Members.{In-filter, In-filter_passes, In-filter_source}
-use Rattle.finite_sets.proofs.Pairs.{Pairwise, Pairwise-filter, Pairwise-from_AllPairs}
-use Rattle.tech_model.specs.declared.raw.RawTech.{RawTech}
-use Rattle.tech_model.specs.Rules.{KeepsRules}
-use Rattle.tech_model.specs.WellFormed.{IsWellFormed}
-use Rattle.ext_model.specs.declared.records.MergeRec.{MergeRec}
-use Rattle.ext_model.proofs.NameOrders.{name_cmp_total}
-use Rattle.tree_circuits.specs.TreeNames.CleanTrees.{IsCleanTree}
-use Rattle.tree_circuits.specs.TreeNames.TreeRecords.LayoutModel.Technologies.{Class, rules_of}
-use Rattle.tree_circuits.specs.TreeNames.TreeRecords.NamedTrees.{NamedTree}
+use Rattle.finite_sets.proofs.Pairs.{Pairwise, Pairwise-filter}
 use Rattle.tree_circuits.specs.TreeNames.TreeRecords.FetRecords.{IsNameBefore}
 use Rattle.tree_circuits.specs.TreeRecords.Merges.{AreGroupMerges, MemberGroup, group_merges, group_name, is_zero_adjustment, merge_of}
-use Rattle.tree_circuits.proofs.FullNames.ListOrders.{not_before_itself}
 use Rattle.tree_circuits.proofs.MaterialPlaces.{named_place}
 use Rattle.tree_circuits.proofs.TreeNames.GroupNames.{group_name_is, one_group_name}
 use Rattle.uniqueness.specs.RecordUniqueness.{GroupMergesAreUnique}

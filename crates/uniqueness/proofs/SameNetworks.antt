@@ -1,26 +1,18 @@
 -- Sim records have one network: a node that has a name in the one has that number in the other.
-use Rattle.std.proofs.Common.{◌≡◌, inl, inr, ◌<◌, ◌≤◌, ℕ, zero, suc, Bool, true, false, List, [], ◌∷◌, length, refl, sym, ◌∙◌, ap, subst, arith}
-use Rattle.std.specs.Prelude.{Option, Some, slice_get}
-use Rattle.std.proofs.lemmas.Bool.{cases_lt, cases_order}
-use Rattle.std.proofs.lemmas.List.{get_or_default, same_lists}
+use Rattle.uniqueness.proofs.Common.{◌≡◌, inl, inr, ◌<◌, ◌≤◌, ℕ, zero, suc, Bool, true, false, List, [], ◌∷◌, length, refl, sym, ◌∙◌, ap, subst}
+use Rattle.uniqueness.proofs.Common.{arith, Option, Some, slice_get, cases_lt, cases_order, get_or_default, same_lists, stay, IsLeast, In, In-index}
+use Rattle.uniqueness.proofs.Common.{HasName, NameNodesBelow, NameOneNodeEach, Network, IsNetworkOf, SimRecords, IsNumbered, NameAlike}
 use Rattle.std.proofs.lemmas.Option.{slice_get-get_or}
-use Rattle.finite_sets.specs.Chain.Chain.{stay}
-use Rattle.finite_sets.specs.Least.{IsLeast}
-use Rattle.finite_sets.specs.Lists.{In}
 use Rattle.finite_sets.proofs.Leasts.{IsLeast-iff}
-use Rattle.finite_sets.proofs.Members.{In-index}
 use Rattle.switch_net.specs.declared.switches.Switch.{Switch}
 use Rattle.switch_net.specs.declared.switches.SwitchKind.{SwitchKind}
 use Rattle.switch_net.specs.declared.switches.SwitchKind.TheVariants.{N, P, D}
-use Rattle.switch_net.specs.Names.{HasName, NameNodesBelow, NameOneNodeEach}
-use Rattle.switch_net.specs.Network.{Network}
 use Rattle.switch_net.specs.Path.{is_input}
-use Rattle.switch_net.specs.SimRecords.{AreOfOneNode, AreTransistors, IsLetterOf, IsNetworkOf, SimRecords, TransistorLine}
+use Rattle.switch_net.specs.SimRecords.{AreOfOneNode, AreTransistors, IsLetterOf, TransistorLine}
 use Rattle.network_commands.specs.SimNetworks.steps.Numbering.{arrivals}
 use Rattle.network_commands.specs.SimNetworks.SimNetworks.{StandsAt}
 use Rattle.network_commands.proofs.SimNetworks.NodeLaws.{to_arrivals}
 use Rattle.vector_runs.proofs.RailStates.{same_networks}
-use Rattle.uniqueness.specs.Networks.{IsNumbered, NameAlike}
 
 -- ---- names
 

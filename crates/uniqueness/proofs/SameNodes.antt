@@ -1,21 +1,14 @@
 -- A layout with labels has one list of node records.
-use Rattle.std.proofs.Common.{◌≡◌, ◌<◌, ℕ, pos, List, [], length, get_or, drop, sym, ◌∙◌, ap, subst}
-use Rattle.std.proofs.lemmas.List.{same_lists}
-use Rattle.finite_sets.specs.Lists.{In}
-use Rattle.finite_sets.proofs.InOrder.{same_by_order}
-use Rattle.finite_sets.proofs.Members.{In-index}
-use Rattle.finite_sets.proofs.Pairs.{Pairwise-from_AllPairs}
-use Rattle.tech_model.specs.declared.raw.Label.{Label}
-use Rattle.tech_model.specs.declared.raw.RawTech.{RawTech}
+use Rattle.uniqueness.proofs.Common.{◌≡◌, ◌<◌, ℕ, pos, List, [], length, get_or, sym, ◌∙◌, ap, subst, same_lists, In, same_by_order, In-index}
+use Rattle.uniqueness.proofs.Common.{Pairwise-from_AllPairs, Label, RawTech, Layout, Place, IsBefore, IsBefore-irreflexive, IsBefore-trans}
+use Rattle.uniqueness.proofs.Common.{IsNoLater-antisym}
+use Rattle.std.proofs.Common.{drop}
 use Rattle.ext_model.specs.declared.records.NodeRec.{NodeRec}
 use Rattle.ext_model.specs.RecordNames.{names_of}
 use Rattle.tree_circuits.proofs.FullNames.ListOrders.{StandsBefore, names_in_order, same_in_order}
-use Rattle.tree_circuits.specs.OwnRecordLaws.CellNodes.LayoutModel.Layouts.{Layout}
-use Rattle.tree_circuits.specs.OwnRecordLaws.CellNodes.LayoutModel.Places.{Place, IsBefore}
 use Rattle.tree_circuits.specs.OwnRecordLaws.CellNodes.LayoutModel.Technologies.{capacitance, rules_of}
 use Rattle.tree_circuits.specs.OwnRecordLaws.CellNodes.NodeRecords.{AreNodeRecords, IsNodeRecord}
 use Rattle.tree_circuits.specs.OwnRecordLaws.Names.NamedNodes.{AreOneNamedNode}
-use Rattle.tree_circuits.proofs.OwnRecordLaws.CellNodes.LayoutModel.PlaceLaws.{IsBefore-irreflexive, IsBefore-trans, IsNoLater-antisym}
 use Rattle.tree_circuits.proofs.OwnRecordLaws.CellNodes.NodePlaces.{AreOneNamedNode-sym}
 use Rattle.tree_circuits.proofs.OwnRecordLaws.CellNodes.LayoutModel.NodeLaws.{same_measures}
 use Rattle.uniqueness.specs.OwnUniqueness.{NodeRecordsAreUnique}

@@ -1,5 +1,5 @@
 -- A cell without uses has one record.
-use Rattle.std.proofs.Common.{◌≡◌, sym, ◌∙◌}
+use Rattle.uniqueness.proofs.Common.{◌≡◌, sym, ◌∙◌}
 use Rattle.uniqueness.specs.OwnUniqueness.{OwnRecordsAreUnique}
 use Rattle.uniqueness.proofs.SameFets.{fet_records_are_one}
 use Rattle.uniqueness.proofs.SameNodes.{same_nodes}

@@ -1,16 +1,9 @@
 -- What vectors reply rests on the network and on which name has which node, and not on how the names are listed.
-use Rattle.std.proofs.Common.{◌≡◌, ℕ, List, Ok, sym, subst}
-use Rattle.switch_net.specs.declared.switches.Level.{Level}
-use Rattle.switch_net.specs.Names.{NameNodesBelow}
-use Rattle.switch_net.specs.Network.{Network, IsSound}
+use Rattle.uniqueness.proofs.Common.{◌≡◌, ℕ, List, Ok, sym, subst, Level, NameNodesBelow, Network, IsSound, Vectors, vectors_in, VecReply, NameAlike}
 use Rattle.switch_net.specs.SimRecords.{AreStarts, IsStartOf}
-use Rattle.vector_runs.specs.VectorFiles.declared.files.Vectors.{Vectors}
-use Rattle.vector_runs.specs.VectorFiles.VectorFiles.{vectors_in}
 use Rattle.vector_runs.proofs.VectorFiles.FittingLines.{vectors_in-within}
-use Rattle.vector_runs.specs.declared.replies.VecReply.{VecReply}
 use Rattle.vector_runs.specs.Laws.{EachRunHasOneOutcome}
 use Rattle.vector_runs.specs.Runs.{IsRun}
-use Rattle.uniqueness.specs.Networks.{NameAlike}
 
 module _ (names others : List (List ℕ × ℕ)) (alike : NameAlike names others) where
   -- a node begins in the state that the other list gives it

@@ -1,8 +1,5 @@
 -- The texts of labels that name no place are one list.
-use Rattle.std.proofs.Common.{◌≡◌, ◌<◌, ℕ, List, map, sym, ◌∙◌, ap, arith}
-use Rattle.finite_sets.proofs.InOrder.{same_by_order}
-use Rattle.finite_sets.proofs.Pairs.{Pairwise-from_AllPairs}
-use Rattle.tech_model.specs.declared.raw.Label.{Label}
+use Rattle.uniqueness.proofs.Common.{◌≡◌, ◌<◌, ℕ, List, map, sym, ◌∙◌, ap, arith, same_by_order, Pairwise-from_AllPairs, Label}
 use Rattle.tree_circuits.specs.OwnRecordLaws.Names.Attachments.{AreTextsOf, IsUnattached, label_at}
 use Rattle.uniqueness.specs.OwnUniqueness.{UnattachedTextsAreUnique}
 

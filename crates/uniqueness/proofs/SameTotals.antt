@@ -1,17 +1,13 @@
 -- A member has one total, and a group adds one number to its members.
-use Rattle.std.proofs.Common.{◌≡◌, ℕ, ℤ, ◌-ℤ◌, List, [], ◌∷◌, inl, inr, refl, sym, ◌∙◌, subst}
-use Rattle.finite_sets.specs.Lists.{Distinct}
+use Rattle.uniqueness.proofs.Common.{◌≡◌, ℕ, ℤ, List, [], ◌∷◌, inl, inr, refl, sym, ◌∙◌, subst, Distinct, RawTech, IsWellFormed, IsCleanTree, Class}
+use Rattle.uniqueness.proofs.Common.{NamedTree, named_tree, element_then, no_more}
+use Rattle.std.proofs.Common.{◌-ℤ◌}
 use Rattle.finite_sets.specs.Total.{sum_on}
 use Rattle.finite_sets.proofs.Totals.{Total-unique}
-use Rattle.tech_model.specs.declared.raw.RawTech.{RawTech}
-use Rattle.tech_model.specs.WellFormed.{IsWellFormed}
-use Rattle.tree_circuits.specs.TreeNames.CleanTrees.{HaveElementNames, IsCleanTree, ids_in}
+use Rattle.tree_circuits.specs.TreeNames.CleanTrees.{HaveElementNames, ids_in}
 use Rattle.tree_circuits.specs.TreeNames.TreeRecords.FlatLayouts.{flat_layout}
-use Rattle.tree_circuits.specs.TreeNames.TreeRecords.LayoutModel.Technologies.{Class}
 use Rattle.tree_circuits.specs.TreeNames.TreeRecords.MemberGroups.{IsGroupName}
-use Rattle.tree_circuits.specs.TreeNames.TreeRecords.NamedTrees.{NamedElements, NamedTree, named_elements_in}
-use Rattle.tree_circuits.specs.TreeNames.TreeRecords.NamedTrees.NamedTree.{named_tree}
-use Rattle.tree_circuits.specs.TreeNames.TreeRecords.NamedTrees.NamedElements.{element_then, no_more}
+use Rattle.tree_circuits.specs.TreeNames.TreeRecords.NamedTrees.{NamedElements, named_elements_in}
 use Rattle.tree_circuits.specs.TreeNames.TreeRecords.FetRecords.{IsOfNode}
 use Rattle.tree_circuits.specs.TreeRecords.Merges.{AreAdjustments}
 use Rattle.tree_circuits.specs.TreeRecords.PlaceWeights.{AreMemberTotals, IsAdjustment, IsGroupTotal, IsMemberTotal, IsOwnTotal, IsTotalBelow}

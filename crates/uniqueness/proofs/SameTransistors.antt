@@ -1,21 +1,17 @@
 -- Two transistors with one least place are one, but for the order of their terminals, and a layout has one list of least places of transistors.
-use Rattle.std.proofs.Common.{◌≡◌, ℕ, ℤ, pos, IsTrue, List, map, sym, ◌∙◌, ap, subst}
-use Rattle.finite_sets.specs.Lists.{In}
+use Rattle.uniqueness.proofs.Common.{◌≡◌, ℕ, ℤ, pos, List, map, sym, ◌∙◌, ap, subst, In, same_by_order, In-map, In-map_source, Label, RawTech}
+use Rattle.uniqueness.proofs.Common.{Layout, Place, IsBefore, IsBefore-irreflexive, IsBefore-trans, IsNoLater-antisym}
+use Rattle.std.proofs.Common.{IsTrue}
 use Rattle.finite_sets.specs.Total.{Total}
 use Rattle.finite_sets.proofs.Chains.{Chain-back}
-use Rattle.finite_sets.proofs.InOrder.{Pairwise-from_order, same_by_order}
-use Rattle.finite_sets.proofs.Members.{In-map, In-map_source}
+use Rattle.finite_sets.proofs.InOrder.{Pairwise-from_order}
 use Rattle.finite_sets.proofs.Pairs.{Pairwise, Pairwise-map}
 use Rattle.finite_sets.proofs.Totals.{Total-unique}
-use Rattle.tech_model.specs.declared.raw.Label.{Label}
-use Rattle.tech_model.specs.declared.raw.RawTech.{RawTech}
 use Rattle.tech_model.specs.ChannelRoles.{is_channel, is_terminal}
 use Rattle.tree_circuits.specs.OwnRecordLaws.CellNodes.LayoutModel.EdgeCounts.{IsEdgeCount, LeadsAcross}
-use Rattle.tree_circuits.specs.OwnRecordLaws.CellNodes.LayoutModel.Layouts.{Layout}
-use Rattle.tree_circuits.specs.OwnRecordLaws.CellNodes.LayoutModel.Places.{Place, IsBefore}
 use Rattle.tree_circuits.specs.OwnRecordLaws.CellNodes.LayoutModel.Transistors.{AreFetsInOrder, AreOneChannel, AreTransistors, IsTerminalOf, IsTransistor, Transistor}
 use Rattle.tree_circuits.specs.OwnRecordLaws.TreeRecords.FetRecords.{IsOfNode}
-use Rattle.tree_circuits.proofs.OwnRecordLaws.CellNodes.LayoutModel.PlaceLaws.{AreNeighbours-sym, IsBefore-irreflexive, IsBefore-trans, IsNoLater-antisym}
+use Rattle.tree_circuits.proofs.OwnRecordLaws.CellNodes.LayoutModel.PlaceLaws.{AreNeighbours-sym}
 use Rattle.tree_circuits.proofs.OwnRecordLaws.PreferredNames.{one_name}
 use Rattle.tree_circuits.proofs.OwnRecordLaws.SomeEdges.{some_edge}
 

@@ -1,19 +1,11 @@
 -- A clean cell has one record, and so has each cell below it.
-use Rattle.std.proofs.Common.{◌≡◌, List, map, inl, inr, sym, ◌∙◌, ap, subst}
-use Rattle.std.specs.Prelude.{Some}
-use Rattle.finite_sets.specs.Lists.{In}
-use Rattle.finite_sets.proofs.Members.{In-append_cases, In-map_source}
-use Rattle.tech_model.specs.declared.raw.RawTech.{RawTech}
-use Rattle.tech_model.specs.Rules.{KeepsRules}
-use Rattle.tech_model.specs.WellFormed.{IsWellFormed}
-use Rattle.ext_model.specs.declared.records.CellExt.{CellExt}
+use Rattle.uniqueness.proofs.Common.{◌≡◌, List, map, inl, inr, sym, ◌∙◌, ap, subst, Some, In, In-map_source, RawTech, KeepsRules, IsWellFormed}
+use Rattle.uniqueness.proofs.Common.{CellExt, IsCleanTree, NamedTree, named_tree, element_then, no_more}
+use Rattle.finite_sets.proofs.Members.{In-append_cases}
 use Rattle.uniqueness.proofs.SameFets.{fet_records_are_one}
 use Rattle.uniqueness.proofs.SameNodes.{same_nodes}
-use Rattle.tree_circuits.specs.TreeNames.CleanTrees.{IsCleanTree}
-use Rattle.tree_circuits.specs.TreeNames.TreeRecords.NamedTrees.{NamedElements, NamedStanding, NamedTree, named_above, named_standings, named_standings_below}
+use Rattle.tree_circuits.specs.TreeNames.TreeRecords.NamedTrees.{NamedElements, NamedStanding, named_above, named_standings, named_standings_below}
 use Rattle.tree_circuits.specs.TreeNames.TreeRecords.NamedTrees.{own_body}
-use Rattle.tree_circuits.specs.TreeNames.TreeRecords.NamedTrees.NamedTree.{named_tree}
-use Rattle.tree_circuits.specs.TreeNames.TreeRecords.NamedTrees.NamedElements.{element_then, no_more}
 use Rattle.tree_circuits.specs.TreeRecords.TreeRecords.{HasTreeRecord, HasTreeRecords, HaveTreeRecords}
 use Rattle.tree_circuits.proofs.TreeNames.CleanTrees.{AreCleanTrees, clean_below, clean_first, clean_rest}
 use Rattle.uniqueness.specs.RecordUniqueness.{IsFoundInBoth, RecordsOfTreesAreUnique, TreeRecordsAreUnique}

@@ -1,13 +1,7 @@
 -- The network of a sim file, and the limits that it would pass: there is one of both.
-use Rattle.std.proofs.Common.{◌≡◌, inl, inr, ℕ, List, arith}
-use Rattle.sim_text.specs.declared.files.SimFile.{SimFile}
-use Rattle.sim_text.specs.declared.limits.SimLimit.{SimLimit}
+use Rattle.uniqueness.proofs.Common.{◌≡◌, inl, inr, ℕ, List, arith, SimFile, SimLimit, SimFault, Network, records_of, IsNumbered}
 use Rattle.sim_text.specs.declared.limits.SimLimit.TheVariants.{Nodes, Switches}
-use Rattle.sim_text.specs.declared.faults.SimFault.{SimFault}
 use Rattle.sim_text.specs.declared.faults.SimFault.TheVariants.{TooMany}
-use Rattle.switch_net.specs.Network.{Network}
-use Rattle.network_commands.specs.SimNetworks.SimNetworks.{records_of}
-use Rattle.uniqueness.specs.Networks.{IsNumbered}
 use Rattle.network_commands.specs.NetworkRuns.Simulations.{IsNetOf, PassesNet}
 
 -- the network of a sim file is one of its records

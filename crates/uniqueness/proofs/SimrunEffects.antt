@@ -1,22 +1,14 @@
 -- `simrun` has one effect: each thing that its files give has one answer.
-use Rattle.std.proofs.Common.{◌≡◌, inl, inr, ℕ, List, [], ◌∷◌, ◌++◌, Ok, Err, sym, ap, ◌∙◌}
-use Rattle.std.specs.Prelude.{Result}
-use Rattle.outside_io.specs.Files.{Files}
-use Rattle.text_form.specs.declared.reading.At.{At}
+use Rattle.uniqueness.proofs.Common.{◌≡◌, inl, inr, ℕ, List, [], ◌∷◌, ◌++◌, Ok, Err, sym, ap, ◌∙◌, Result, Files, At, ReportLine, SimFault, SimFile}
+use Rattle.uniqueness.proofs.Common.{SimLimit, Network, FreeEffect, refused, VectorAnswersAreUnique}
 use Rattle.session_model.specs.declared.fetching.FetchFault.{FetchFault}
-use Rattle.session_model.specs.declared.report.ReportLine.{ReportLine}
 use Rattle.session_model.specs.Fetches.{text_in}
-use Rattle.sim_text.specs.declared.faults.SimFault.{SimFault}
-use Rattle.sim_text.specs.declared.files.SimFile.{SimFile}
-use Rattle.sim_text.specs.declared.limits.SimLimit.{SimLimit}
 use Rattle.sim_text.specs.SimTexts.{sim_in}
-use Rattle.switch_net.specs.Network.{Network}
-use Rattle.circuit_commands.specs.LineAnswers.LineEffects.{FreeEffect, accepted, refused}
+use Rattle.circuit_commands.specs.LineAnswers.LineEffects.{accepted}
 use Rattle.circuit_commands.specs.LineAnswers.Refusals.{too_many}
 use Rattle.network_commands.specs.NetworkRuns.Refusals.{sim_limit_word}
 use Rattle.network_commands.specs.NetworkRuns.Simulations.{IsNetOf, vec_file}
 use Rattle.network_commands.specs.CommandSimrun.{RunsRead, RunsRecords, RunsSource, RunsVectors, SimrunMeans, sim_file}
-use Rattle.uniqueness.specs.Simulations.{VectorAnswersAreUnique}
 use Rattle.uniqueness.proofs.SimLimits.{passes_none, same_limit}
 
 module _ (one_answer : VectorAnswersAreUnique) (budget number : ℕ) (files : Files) (file : List ℕ) (effect other : FreeEffect) where

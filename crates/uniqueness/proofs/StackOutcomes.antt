@@ -1,27 +1,20 @@
 -- What comes of the vectors of a stack is one, whichever list of the names they are made with.
-use Rattle.std.proofs.Common.{◌≡◌, ℕ, zero, suc, Bool, true, false, List, [], ◌∷◌, ◌++◌, refl, sym, ap, ◌∙◌, subst}
-use Rattle.std.specs.Prelude.{All, Option, Some, None}
+use Rattle.uniqueness.proofs.Common.{◌≡◌, ℕ, zero, suc, Bool, true, false, List, [], ◌∷◌, ◌++◌, refl, sym, ap, ◌∙◌, subst, Option, Some, None}
+use Rattle.uniqueness.proofs.Common.{All-head, All-tail, Level, NameNodesBelow, IsSound, Network, Vectors, node_named, VecReply, name_stands}
+use Rattle.uniqueness.proofs.Common.{Outcome, NameAlike}
+use Rattle.std.specs.Prelude.{All}
 use Rattle.std.specs.List.{count_by}
 use Rattle.std.specs.Option.{option_map_or}
-use Rattle.std.proofs.lemmas.List.Elements.{All-append, All-cons, All-head, All-map, All-nil, All-tail}
-use Rattle.switch_net.specs.declared.switches.Level.{Level}
+use Rattle.std.proofs.lemmas.List.Elements.{All-append, All-cons, All-map, All-nil}
 use Rattle.switch_net.specs.declared.switches.Level.TheVariants.{One, Zero}
-use Rattle.switch_net.specs.Names.{NameNodesBelow}
-use Rattle.switch_net.specs.Network.{IsSound, Network}
 use Rattle.vector_runs.specs.VectorFiles.declared.files.VecLine.{VecLine}
 use Rattle.vector_runs.specs.VectorFiles.declared.files.VecLine.TheVariants.{Phase, Set}
-use Rattle.vector_runs.specs.VectorFiles.declared.files.Vectors.{Vectors}
-use Rattle.vector_runs.specs.VectorFiles.LineForms.{node_named}
 use Rattle.vector_runs.specs.VectorFiles.VectorFiles.{IsLineWithin}
-use Rattle.vector_runs.specs.declared.replies.VecReply.{VecReply}
 use Rattle.vector_runs.specs.Runs.{EndsRun, LinesRun, Standing, begun_in, lines_of, phase_reply}
 use Rattle.vector_runs.proofs.LineOutcomes.{IsSoundAt, line_sound, same_line, same_lines}
 use Rattle.vector_runs.proofs.Starts.{same_starts}
-use Rattle.vector_runs.proofs.RailStates.{name_stands}
-use Rattle.network_commands.specs.StackRuns.declared.outcomes.Outcome.{Outcome}
 use Rattle.network_commands.specs.StackRuns.Outcomes.{IsOutcome, is_one, is_zero}
 use Rattle.network_commands.specs.StackRuns.StackVectors.{column_lines, column_name, lines_below, row_lines, row_name, set_named, stack_vectors}
-use Rattle.uniqueness.specs.Networks.{NameAlike}
 use Rattle.uniqueness.proofs.SameReplies.{begins_alike}
 
 -- ---- the vectors

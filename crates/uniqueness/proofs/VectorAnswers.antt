@@ -1,18 +1,9 @@
 -- What answers a text of vectors on a network.
-use Rattle.std.proofs.Common.{◌≡◌, ℕ, List, Ok, Err, refl, sym, ap, ◌∙◌, subst}
-use Rattle.std.specs.Prelude.{Result, map}
-use Rattle.text_form.specs.declared.reading.At.{At}
-use Rattle.session_model.specs.declared.report.ReportLine.{ReportLine}
-use Rattle.sim_text.specs.declared.files.SimFile.{SimFile}
-use Rattle.switch_net.specs.Network.{Network}
-use Rattle.network_commands.specs.SimNetworks.SimNetworks.{records_of}
-use Rattle.vector_runs.specs.VectorFiles.declared.faults.VecFault.{VecFault}
-use Rattle.vector_runs.specs.VectorFiles.declared.files.Vectors.{Vectors}
-use Rattle.vector_runs.specs.VectorFiles.VectorFiles.{vectors_in}
-use Rattle.vector_runs.specs.declared.replies.VecReply.{VecReply}
+use Rattle.uniqueness.proofs.Common.{◌≡◌, ℕ, List, Ok, Err, refl, sym, ap, ◌∙◌, subst, Result, At, ReportLine, SimFile, Network, records_of}
+use Rattle.uniqueness.proofs.Common.{VecFault, Vectors, vectors_in, VecReply, VectorAnswersAreUnique}
+use Rattle.std.specs.Prelude.{map}
 use Rattle.uniqueness.specs.VectorRuns.{RepliesAreUnique, VectorFilesAreUnique}
 use Rattle.network_commands.specs.NetworkRuns.Simulations.{IsNetOf, TellsNet, TellsRead, TellsVectors, vector_line}
-use Rattle.uniqueness.specs.Simulations.{VectorAnswersAreUnique}
 use Rattle.uniqueness.proofs.SimLimits.{numbered}
 
 module _ (one_file : VectorFilesAreUnique) (one_reply : RepliesAreUnique) (budget number : ℕ) (sim : SimFile) (text : List ℕ) (net other : Network)

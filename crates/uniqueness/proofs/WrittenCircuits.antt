@@ -1,11 +1,8 @@
 -- What is written of a circuit.
-use Rattle.std.proofs.Common.{◌≡◌, inl, inr, ℕ, List, sym, ap, ◌∙◌, arith}
+use Rattle.uniqueness.proofs.Common.{◌≡◌, inl, inr, ℕ, List, sym, ap, ◌∙◌, arith, ReportLine, Circuit, Written}
 use Rattle.session_model.specs.declared.answer.Store.{Store}
-use Rattle.session_model.specs.declared.report.ReportLine.{ReportLine}
-use Rattle.ext_model.specs.declared.circuits.Circuit.{Circuit}
 use Rattle.circuit_commands.specs.declared.circuits.CircuitFile.{CircuitFile}
 use Rattle.circuit_commands.specs.declared.circuits.CircuitFile.TheVariants.{Flat, Sim}
-use Rattle.circuit_commands.specs.declared.circuits.Written.{Written}
 use Rattle.circuit_commands.specs.declared.circuits.Written.TheVariants.{Passed, Stored}
 use Rattle.circuit_commands.specs.Circuits.{IsFlatWritten, IsSimWritten, IsWritten}
 

@@ -1,18 +1,11 @@
 -- Where no cell is its own descendant.
-use Rattle.std.proofs.Common.{◌≡◌, ℕ, ◌<◌, ◌≤◌, Bool, true, false, List, [], ◌∷◌, ◌⊎◌, inl, inr, refl, arith, subst, sym, length, take, slice_index, ◌∙◌}
-use Rattle.std.proofs.lemmas.Bool.{cases_lt}
+use Rattle.use_orders.proofs.Common.{◌≡◌, ℕ, ◌<◌, ◌≤◌, Bool, true, false, List, [], ◌∷◌, ◌⊎◌, inl, inr, refl, arith, subst, sym, length, take}
+use Rattle.use_orders.proofs.Common.{slice_index, ◌∙◌, cases_lt, Chain, stay, go, In, Chain-carries, Distinct-places, In-index, In-take}
+use Rattle.use_orders.proofs.Common.{IsOwnDescendant, IsChildrenFirst, UsesCell, UsesNewCell, IsDescendant, AreBehindChildren, Visits}
+use Rattle.use_orders.proofs.Common.{IsLibraryOrder, HasCycle, listed_by}
 use Rattle.std.proofs.lemmas.List.{length-take, get_or-take, take-take}
-use Rattle.finite_sets.specs.Chain.{Chain}
-use Rattle.finite_sets.specs.Chain.Chain.{stay, go}
-use Rattle.finite_sets.specs.Lists.{In}
-use Rattle.finite_sets.proofs.Chains.{Chain-carries, Chain-weaker}
-use Rattle.finite_sets.proofs.Distincts.{Distinct-places}
-use Rattle.finite_sets.proofs.Members.{In-index}
-use Rattle.finite_sets.proofs.Places.{In-take}
-use Rattle.use_orders.specs.NewCells.{IsOwnDescendant, IsChildrenFirst}
-use Rattle.use_orders.specs.Uses.{UsesCell, UsesNewCell, IsDescendant, IsAcyclicBelow, AreBehindChildren}
-use Rattle.use_orders.specs.LibraryOrder.{Visits, IsLibraryOrder}
-use Rattle.use_orders.specs.steps.Walks.{HasCycle, listed_by}
+use Rattle.finite_sets.proofs.Chains.{Chain-weaker}
+use Rattle.use_orders.specs.Uses.{IsAcyclicBelow}
 use Rattle.use_orders.proofs.Rings.{own_is_new}
 
 -- a walk below such a root meets no open cell

@@ -1,15 +1,9 @@
 -- What a step lists.
-use Rattle.std.proofs.Common.{◌≡◌, ℕ, ◌+◌, ◌<◌, ◌≤◌, true, false, List, [], ◌∷◌, ◌++◌, inl, refl, length}
-use Rattle.std.proofs.Common.{slice_index, drop}
+use Rattle.use_orders.proofs.Common.{◌≡◌, ℕ, ◌+◌, ◌<◌, ◌≤◌, true, false, List, [], ◌∷◌, ◌++◌, inl, refl, length, slice_index, drop, Mark, Unmet}
+use Rattle.use_orders.proofs.Common.{Open, Listed, OpenCell, used_by, Visits, none, again, anew, WalkState, walk_mark, listed_by, with_open}
+use Rattle.use_orders.proofs.Common.{one_further, after_meeting, after_listing, after_following, IsWalking, Continues}
 use Rattle.std.proofs.lemmas.List.{drop_all, drop_more}
-use Rattle.use_orders.specs.declared.walk.Mark.{Mark}
-use Rattle.use_orders.specs.declared.walk.Mark.TheVariants.{Unmet, Open, Listed}
-use Rattle.use_orders.specs.declared.walk.OpenCell.{OpenCell}
-use Rattle.use_orders.specs.Uses.{used_by}
-use Rattle.use_orders.specs.LibraryOrder.{Visits}
-use Rattle.use_orders.specs.LibraryOrder.Visits.{none, again, anew}
-use Rattle.use_orders.specs.steps.Walks.{WalkState, walk_mark, listed_by, with_open, one_further, after_meeting, after_listing, after_following}
-use Rattle.use_orders.specs.steps.Walks.{IsWalking, Continues, Advances}
+use Rattle.use_orders.specs.steps.Walks.{Advances}
 use Rattle.use_orders.proofs.Listed.{listed_by-push}
 use Rattle.use_orders.proofs.Visiting.{Visits-append}
 use Rattle.use_orders.proofs.UnderWay.{not_both, under_way_further}

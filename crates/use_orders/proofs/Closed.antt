@@ -1,8 +1,6 @@
 -- Whether each child is a cell.
-use Rattle.std.proofs.Common.{◌≡◌, ℕ, ◌+◌, ◌<◌, ◌≤◌, Bool, true, false, List, refl, subst, arith, length, slice_index, inl, inr}
-use Rattle.std.proofs.lemmas.Bool.{cases_eq}
-use Rattle.finite_sets.proofs.Members.{In-get_or, In-index}
-use Rattle.use_orders.specs.Uses.{used_by, UsesCell, AreCells}
+use Rattle.use_orders.proofs.Common.{◌≡◌, ℕ, ◌+◌, ◌<◌, ◌≤◌, Bool, true, false, List, refl, subst, arith, length, slice_index, inl, inr, cases_eq}
+use Rattle.use_orders.proofs.Common.{In-get_or, In-index, used_by, UsesCell, AreCells}
 use Rattle.use_orders.proofs.Rings.{has_use}
 
 -- all uses of a cell were looked at

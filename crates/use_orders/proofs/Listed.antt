@@ -1,13 +1,9 @@
 -- What counts as listed, and marks.
-use Rattle.std.proofs.Common.{◌≡◌, ◌≢◌, ℕ, ◌<◌, List, [], ◌∷◌, ◌++◌, ◌⊎◌, inl, inr, sym, subst, arith, length, ◌∙◌, get_or}
-use Rattle.std.proofs.Common.{slice_set, get_or-set_same, get_or-set_other, append_assoc}
-use Rattle.std.specs.List.{range_with_len}
-use Rattle.std.proofs.lemmas.List.FromFn.{length-range_with_len, get_or-range_with_len}
-use Rattle.finite_sets.specs.Lists.{In, Distinct}
+use Rattle.use_orders.proofs.Common.{◌≡◌, ◌≢◌, ℕ, ◌<◌, List, [], ◌∷◌, ◌++◌, ◌⊎◌, inl, inr, sym, subst, arith, length, ◌∙◌, slice_set}
+use Rattle.use_orders.proofs.Common.{get_or-set_same, get_or-set_other, append_assoc, range_with_len, length-range_with_len, get_or-range_with_len}
+use Rattle.use_orders.proofs.Common.{In, Distinct, In-get_or, In-index, In-append_left, In-append_right, In-append_cases, Mark, listed_by, walk_mark}
+use Rattle.std.proofs.Common.{get_or}
 use Rattle.finite_sets.proofs.Distincts.{Distinct-from_places}
-use Rattle.finite_sets.proofs.Members.{In-get_or, In-index, In-append_left, In-append_right, In-append_cases}
-use Rattle.use_orders.specs.declared.walk.Mark.{Mark}
-use Rattle.use_orders.specs.steps.Walks.{listed_by, walk_mark}
 
 -- the numbers below n
 pub In-numbers : (n c : ℕ) → c < n → In c (range_with_len 0 n)

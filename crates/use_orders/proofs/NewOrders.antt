@@ -1,16 +1,12 @@
 -- A walk that visits the new cells one after another.
-use Rattle.std.proofs.Common.{◌≡◌, ℕ, ◌+◌, ◌<◌, ◌≤◌, Bool, true, false, not, refl, List, [], ◌∷◌, inl, inr, sym, subst, arith, length, take, slice_index, ◌∙◌}
-use Rattle.std.specs.List.{range_with_len}
+use Rattle.use_orders.proofs.Common.{◌≡◌, ℕ, ◌+◌, ◌<◌, ◌≤◌, Bool, true, false, refl, List, [], ◌∷◌, inl, inr, sym, subst, arith, length, take}
+use Rattle.use_orders.proofs.Common.{slice_index, ◌∙◌, range_with_len, cases_eq, length-append, In, In-append_left, In-append_cases, In-get_or}
+use Rattle.use_orders.proofs.Common.{UsesNewCell, AreBehindChildren, IsOwnDescendant, IsChildrenFirst, WalkState, listed_by, cells_of, IsAtRest}
+use Rattle.use_orders.proofs.Common.{IsThorough, HasVisited, OpenCell}
+use Rattle.std.proofs.Common.{not}
 use Rattle.std.proofs.Math.Seq.{take-append-add}
-use Rattle.std.proofs.lemmas.Bool.{cases_eq}
-use Rattle.std.proofs.lemmas.List.{get_or-append-add, length-append}
-use Rattle.finite_sets.specs.Lists.{In}
-use Rattle.finite_sets.proofs.Members.{In-append_left, In-append_cases, In-get_or}
-use Rattle.use_orders.specs.Uses.{UsesNewCell, AreBehindChildren}
-use Rattle.use_orders.specs.NewCells.{IsOwnDescendant, IsChildrenFirst}
+use Rattle.std.proofs.lemmas.List.{get_or-append-add}
 use Rattle.use_orders.specs.steps.Searches.{HasWalked, IsWalkOrder}
-use Rattle.use_orders.specs.steps.Walks.{WalkState, listed_by, cells_of, IsAtRest, IsThorough, HasVisited}
-use Rattle.use_orders.specs.declared.walk.OpenCell.{OpenCell}
 use Rattle.use_orders.proofs.Listed.{In-listed_cases, In-numbers_below}
 use Rattle.use_orders.proofs.Rings.{listed_new, listed_once}
 use Rattle.use_orders.proofs.Visiting.{IsBehind, Visits-behind}

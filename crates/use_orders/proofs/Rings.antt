@@ -1,22 +1,15 @@
 -- The search for the least cell that is its own descendant.
-use Rattle.std.proofs.Common.{◌≡◌, ◌≢◌, ℕ, ◌+◌, ◌<◌, ◌≤◌, List, [], ◌++◌, ◌⊎◌, inl, inr, refl, sym, ap, subst, arith, length, drop, slice_index, ◌∙◌}
-use Rattle.std.specs.Prelude.{Option, Some, None, IfSome, IsSomeAnd, MatchOption}
-use Rattle.std.specs.List.{range_with_len}
-use Rattle.std.proofs.lemmas.Bool.{cases_eq, cases_lt}
+use Rattle.use_orders.proofs.Common.{◌≡◌, ◌≢◌, ℕ, ◌+◌, ◌<◌, ◌≤◌, List, [], ◌++◌, ◌⊎◌, inl, inr, refl, sym, ap, subst, arith, length, drop}
+use Rattle.use_orders.proofs.Common.{slice_index, ◌∙◌, IfSome, IsSomeAnd, range_with_len, cases_eq, cases_lt, Chain, stay, go, In, Distinct}
+use Rattle.use_orders.proofs.Common.{Chain-append, Chain-push, Distinct-places, In-append_left, In-append_right, In-append_cases, In-get_or}
+use Rattle.use_orders.proofs.Common.{In-index, Unmet, Listed, OpenCell, UsesCell, UsesNewCell, IsDescendant, IsOwnDescendant, IsSearched, WalkState}
+use Rattle.use_orders.proofs.Common.{cells_of, AreMutual, IsAtRest, IsThorough, HasVisited}
+use Rattle.std.specs.Prelude.{Option, Some, None, MatchOption}
 use Rattle.std.proofs.lemmas.List.{drop_at, get_or_past}
-use Rattle.finite_sets.specs.Chain.{Chain}
-use Rattle.finite_sets.specs.Chain.Chain.{stay, go}
 use Rattle.finite_sets.specs.Least.{IsLeast}
-use Rattle.finite_sets.specs.Lists.{In, Distinct}
-use Rattle.finite_sets.proofs.Chains.{Chain-append, Chain-push}
-use Rattle.finite_sets.proofs.Distincts.{Distinct-places, Distinct-append_apart, Distinct-append_right}
-use Rattle.finite_sets.proofs.Members.{In-append_left, In-append_right, In-append_cases, In-get_or, In-index}
-use Rattle.use_orders.specs.declared.walk.Mark.TheVariants.{Unmet, Listed}
-use Rattle.use_orders.specs.declared.walk.OpenCell.{OpenCell}
-use Rattle.use_orders.specs.Uses.{UsesCell, UsesNewCell, IsDescendant}
-use Rattle.use_orders.specs.NewCells.{IsNew, IsOwnDescendant}
-use Rattle.use_orders.specs.steps.Searches.{IsWalkOrder, AreUsers, IsSearched, IsRing, LowersLeast}
-use Rattle.use_orders.specs.steps.Walks.{WalkState, cells_of, AreMutual, IsAtRest, IsThorough, HasVisited}
+use Rattle.finite_sets.proofs.Distincts.{Distinct-append_apart, Distinct-append_right}
+use Rattle.use_orders.specs.NewCells.{IsNew}
+use Rattle.use_orders.specs.steps.Searches.{IsWalkOrder, AreUsers, IsRing, LowersLeast}
 use Rattle.use_orders.proofs.Listed.{In-order, In-listed_cases, In-numbers}
 use Rattle.use_orders.proofs.Thorough.{met_cases}
 

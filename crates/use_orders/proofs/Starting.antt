@@ -1,12 +1,10 @@
 -- Before a walk.
-use Rattle.std.proofs.Common.{◌≡◌, ℕ, ◌<◌, ◌≤◌, false, List, [], ◌⊎◌, inl, inr, refl, sym, ap, arith, length, map, ◌∙◌}
-use Rattle.std.specs.List.{range_with_len}
-use Rattle.std.proofs.lemmas.Bool.{cases_lt, lt-ltb, le-ltb}
+use Rattle.use_orders.proofs.Common.{◌≡◌, ℕ, ◌<◌, ◌≤◌, false, List, [], ◌⊎◌, inl, inr, refl, sym, ap, arith, length, ◌∙◌, range_with_len, cases_lt}
+use Rattle.use_orders.proofs.Common.{length-range_with_len, get_or-range_with_len, Mark, Unmet, Open, Listed, walk_mark, IsWalking, IsThorough}
+use Rattle.std.proofs.Common.{map}
+use Rattle.std.proofs.lemmas.Bool.{lt-ltb, le-ltb}
 use Rattle.std.proofs.lemmas.List.{append-nil, get_or-map, get_or_past, length-map}
-use Rattle.std.proofs.lemmas.List.FromFn.{length-range_with_len, get_or-range_with_len}
-use Rattle.use_orders.specs.declared.walk.Mark.{Mark}
-use Rattle.use_orders.specs.declared.walk.Mark.TheVariants.{Unmet, Open, Listed}
-use Rattle.use_orders.specs.steps.Walks.{walk_mark, mark_before, IsWalking, IsThorough}
+use Rattle.use_orders.specs.steps.Walks.{mark_before}
 use Rattle.use_orders.proofs.Listed.{In-old, In-listed_cases, Distinct-numbers}
 
 mark_before_old : (first c : ℕ) → c < first → mark_before first c ≡ Listed

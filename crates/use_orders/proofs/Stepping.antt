@@ -1,19 +1,10 @@
 -- A step leads to a later state.
-use Rattle.std.proofs.Common.{◌≡◌, ℕ, ◌<◌, ◌≤◌, Bool, true, false, List, [], ◌∷◌, ◌++◌}
-use Rattle.std.proofs.Common.{◌⊎◌, inl, inr, refl, sym, ap, subst, arith, length, slice_index, append_assoc, ◌∙◌}
-use Rattle.std.specs.Prelude.{reverse}
+use Rattle.use_orders.proofs.Common.{◌≡◌, ℕ, ◌<◌, ◌≤◌, Bool, true, false, List, [], ◌∷◌, ◌++◌, ◌⊎◌, inl, inr, refl, sym, ap, subst, arith, length}
+use Rattle.use_orders.proofs.Common.{slice_index, append_assoc, ◌∙◌, reverse, Chain, stay, In, In-push_cases, Mark, Unmet, Open, Listed, OpenCell}
+use Rattle.use_orders.proofs.Common.{used_by, UsesNewCell, AreCells, Visits, WalkState, walk_mark, listed_by, cells_of, with_open, one_further}
+use Rattle.use_orders.proofs.Common.{after_meeting, after_listing, after_following, IsWalking, IsAtRest, IsLater, Continues, LeadsToOpen, HasCycle}
+use Rattle.use_orders.proofs.Common.{HasVisited, work_left}
 use Rattle.std.proofs.lemmas.List.{append-nil, reverse-append}
-use Rattle.finite_sets.specs.Chain.{Chain}
-use Rattle.finite_sets.specs.Chain.Chain.{stay}
-use Rattle.finite_sets.specs.Lists.{In}
-use Rattle.finite_sets.proofs.Members.{In-push_cases}
-use Rattle.use_orders.specs.declared.walk.Mark.{Mark}
-use Rattle.use_orders.specs.declared.walk.Mark.TheVariants.{Unmet, Open, Listed}
-use Rattle.use_orders.specs.declared.walk.OpenCell.{OpenCell}
-use Rattle.use_orders.specs.Uses.{used_by, UsesNewCell, AreCells}
-use Rattle.use_orders.specs.LibraryOrder.{Visits}
-use Rattle.use_orders.specs.steps.Walks.{WalkState, walk_mark, listed_by, cells_of, with_open, one_further, after_meeting, after_listing, after_following}
-use Rattle.use_orders.specs.steps.Walks.{IsWalking, IsAtRest, IsLater, Continues, LeadsToOpen, HasCycle, HasVisited, work_left}
 use Rattle.use_orders.proofs.UnderWay.{under_way_listed, under_way_further, under_way_followed, reached_listed}
 use Rattle.use_orders.proofs.UnderWay.{reached_met, reached_followed, next_is_used, cycle_followed, noted}
 use Rattle.use_orders.proofs.Advancing.{advances_then, advances_listed, advances_followed, visits_met}

@@ -1,19 +1,10 @@
 -- A walk looks at every use of what it lists.
-use Rattle.std.proofs.Common.{◌≡◌, ◌≢◌, ℕ, ◌+◌, ◌<◌, ◌≤◌, List, [], ◌∷◌, ◌++◌, ◌⊎◌, inl, inr, refl, sym, subst, arith, length, ◌∙◌}
-use Rattle.std.proofs.Common.{slice_index, slice_set}
-use Rattle.std.proofs.lemmas.Bool.{cases_eq}
-use Rattle.std.proofs.lemmas.List.{length-append, get_or_append_left, get_or_push}
-use Rattle.finite_sets.specs.Chain.{Chain}
-use Rattle.finite_sets.specs.Chain.Chain.{stay, go}
-use Rattle.finite_sets.specs.Lists.{In}
-use Rattle.finite_sets.proofs.Chains.{Chain-append, Chain-push}
-use Rattle.finite_sets.proofs.Members.{In-append_left, In-push, In-push_cases, In-index}
-use Rattle.use_orders.specs.declared.walk.Mark.{Mark}
-use Rattle.use_orders.specs.declared.walk.Mark.TheVariants.{Unmet, Open, Listed}
-use Rattle.use_orders.specs.declared.walk.OpenCell.{OpenCell}
-use Rattle.use_orders.specs.Uses.{used_by, UsesNewCell}
-use Rattle.use_orders.specs.steps.Walks.{WalkState, walk_mark, listed_by, cells_of, with_open, one_further, after_meeting, after_listing, after_following}
-use Rattle.use_orders.specs.steps.Walks.{IsWalking, AreMutual, IsUpTo, ComesUpTo, WasMet, IsThorough}
+use Rattle.use_orders.proofs.Common.{◌≡◌, ◌≢◌, ℕ, ◌+◌, ◌<◌, ◌≤◌, List, [], ◌∷◌, ◌++◌, ◌⊎◌, inl, inr, refl, sym, subst, arith, length, ◌∙◌}
+use Rattle.use_orders.proofs.Common.{slice_index, slice_set, cases_eq, length-append, get_or_append_left, get_or_push, Chain, stay, go, In}
+use Rattle.use_orders.proofs.Common.{Chain-append, Chain-push, In-append_left, In-push, In-push_cases, In-index, Mark, Unmet, Open, Listed, OpenCell}
+use Rattle.use_orders.proofs.Common.{used_by, UsesNewCell, WalkState, walk_mark, listed_by, cells_of, with_open, one_further, after_meeting}
+use Rattle.use_orders.proofs.Common.{after_listing, after_following, IsWalking, AreMutual, IsThorough}
+use Rattle.use_orders.specs.steps.Walks.{IsUpTo, ComesUpTo, WasMet}
 use Rattle.use_orders.proofs.Listed.{In-listed_cases, walk_mark-set_same, walk_mark-set_other}
 
 -- a cell that was met stays met

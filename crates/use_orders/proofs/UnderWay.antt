@@ -1,20 +1,11 @@
 -- A walk that is under way stays so.
-use Rattle.std.proofs.Common.{◌≡◌, ℕ, ◌<◌, ◌≤◌, true, List, [], ◌∷◌, ◌++◌, ◌⊎◌, inl, inr, refl, sym, subst, arith, length, ◌∙◌}
-use Rattle.std.proofs.Common.{slice_index}
-use Rattle.std.proofs.lemmas.Bool.{cases_eq, cases_lt}
-use Rattle.std.proofs.lemmas.List.{length-set}
-use Rattle.finite_sets.specs.Chain.{Chain}
-use Rattle.finite_sets.specs.Chain.Chain.{stay}
-use Rattle.finite_sets.specs.Lists.{In}
-use Rattle.finite_sets.proofs.Chains.{Chain-push, Chain-one}
-use Rattle.finite_sets.proofs.Distincts.{Distinct-push}
-use Rattle.finite_sets.proofs.Members.{In-append_left, In-push, In-push_cases, In-get_or}
-use Rattle.use_orders.specs.declared.walk.Mark.{Mark}
-use Rattle.use_orders.specs.declared.walk.Mark.TheVariants.{Unmet, Open, Listed}
-use Rattle.use_orders.specs.declared.walk.OpenCell.{OpenCell}
-use Rattle.use_orders.specs.Uses.{used_by, UsesCell, UsesNewCell, AreCells}
-use Rattle.use_orders.specs.steps.Walks.{WalkState, walk_mark, listed_by, cells_of, with_open, one_further, after_meeting, after_listing, after_following}
-use Rattle.use_orders.specs.steps.Walks.{IsWalking, IsOpenCell, AllLeadTo, LeadsToOpen, HasCycle}
+use Rattle.use_orders.proofs.Common.{◌≡◌, ℕ, ◌<◌, ◌≤◌, true, List, [], ◌∷◌, ◌++◌, ◌⊎◌, inl, inr, refl, sym, subst, arith, length, ◌∙◌, slice_index}
+use Rattle.use_orders.proofs.Common.{cases_eq, cases_lt, length-set, Chain, stay, In, Chain-push, Distinct-push, In-append_left, In-push}
+use Rattle.use_orders.proofs.Common.{In-push_cases, In-get_or, Mark, Unmet, Open, Listed, OpenCell, used_by, UsesCell, UsesNewCell, AreCells}
+use Rattle.use_orders.proofs.Common.{WalkState, walk_mark, listed_by, cells_of, with_open, one_further, after_meeting, after_listing}
+use Rattle.use_orders.proofs.Common.{after_following, IsWalking, LeadsToOpen, HasCycle}
+use Rattle.finite_sets.proofs.Chains.{Chain-one}
+use Rattle.use_orders.specs.steps.Walks.{IsOpenCell, AllLeadTo}
 use Rattle.use_orders.proofs.Listed.{In-old, In-order, listed_by-push, walk_mark-set_same, walk_mark-set_other}
 
 -- no cell has two marks

@@ -1,15 +1,9 @@
 -- The users of cells.
-use Rattle.std.proofs.Common.{◌≡◌, ◌≢◌, ℕ, ◌+◌, ◌<◌, ◌≤◌, List, [], ◌∷◌, ◌++◌}
-use Rattle.std.proofs.Common.{◌⊎◌, inl, inr, refl, sym, ap, subst, arith, length, slice_index, slice_set, ◌∙◌}
-use Rattle.std.proofs.Common.{slice_index_or, get_or-set_same, get_or-set_other}
-use Rattle.std.specs.Global.{Global}
-use Rattle.std.specs.Prelude.{Vec}
-use Rattle.std.proofs.lemmas.Bool.{cases_eq}
-use Rattle.std.proofs.lemmas.List.{length-set, length-map, map-set, get_or-map}
-use Rattle.finite_sets.specs.Lists.{In}
-use Rattle.finite_sets.proofs.Members.{In-append_left, In-push, In-push_cases, In-get_or, In-index}
-use Rattle.use_orders.specs.Uses.{used_by, UsesNewCell, AreCells}
-use Rattle.use_orders.specs.steps.Searches.{lists_of}
+use Rattle.use_orders.proofs.Common.{◌≡◌, ◌≢◌, ℕ, ◌+◌, ◌<◌, ◌≤◌, List, [], ◌∷◌, ◌++◌, ◌⊎◌, inl, inr, refl, sym, ap, subst, arith, length}
+use Rattle.use_orders.proofs.Common.{slice_index, slice_set, ◌∙◌, get_or-set_same, get_or-set_other, Global, Vec, cases_eq, length-set, In}
+use Rattle.use_orders.proofs.Common.{In-append_left, In-push, In-push_cases, In-get_or, In-index, used_by, UsesNewCell, AreCells, lists_of}
+use Rattle.std.proofs.Common.{slice_index_or}
+use Rattle.std.proofs.lemmas.List.{length-map, map-set, get_or-map}
 
 -- The first so many uses of a cell were added to the users of their children.
 pub record AreAdded (children : List (List ℕ)) (first parent place : ℕ) (old now : List (List ℕ)) : Type 0 where

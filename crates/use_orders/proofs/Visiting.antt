@@ -1,17 +1,11 @@
 -- What visits list.
-use Rattle.std.proofs.Common.{◌≡◌, ℕ, ◌<◌, List, [], ◌∷◌, ◌++◌, ◌⊎◌, inl, inr, refl, sym, subst, arith, length, take, slice_index}
-use Rattle.std.proofs.lemmas.Bool.{cases_lt}
-use Rattle.std.proofs.lemmas.List.{length-append, get_or_append_left, get_or_push, take-append-le, take_at}
-use Rattle.finite_sets.specs.Chain.{Chain}
-use Rattle.finite_sets.specs.Chain.Chain.{stay, go}
-use Rattle.finite_sets.specs.Lists.{In, Distinct, Lists}
-use Rattle.finite_sets.proofs.Chains.{Chain-carries}
-use Rattle.finite_sets.proofs.Distincts.{Distinct-push}
-use Rattle.finite_sets.proofs.Members.{In-append_left, In-index, In-push, In-push_cases}
-use Rattle.finite_sets.proofs.Places.{In-take}
-use Rattle.use_orders.specs.Uses.{used_by, UsesCell, IsAtOrBelow, AreBehindChildren}
-use Rattle.use_orders.specs.LibraryOrder.{Visits, IsLibraryOrder}
-use Rattle.use_orders.specs.LibraryOrder.Visits.{none, again, anew}
+use Rattle.use_orders.proofs.Common.{◌≡◌, ℕ, ◌<◌, List, [], ◌∷◌, ◌++◌, ◌⊎◌, inl, inr, refl, sym, subst, arith, length, take, slice_index, cases_lt}
+use Rattle.use_orders.proofs.Common.{length-append, get_or_append_left, get_or_push, Chain, stay, go, In, Distinct, Chain-carries, Distinct-push}
+use Rattle.use_orders.proofs.Common.{In-append_left, In-index, In-push, In-push_cases, In-take, used_by, UsesCell, AreBehindChildren, Visits}
+use Rattle.use_orders.proofs.Common.{IsLibraryOrder, none, again, anew}
+use Rattle.std.proofs.lemmas.List.{take-append-le, take_at}
+use Rattle.finite_sets.specs.Lists.{Lists}
+use Rattle.use_orders.specs.Uses.{IsAtOrBelow}
 
 -- a list in which each cell stands behind its children has the children of its cells
 pub children_in : (Step : ℕ → ℕ → Type 0) (order : List ℕ) → AreBehindChildren Step order → (cell child : ℕ) → In cell order → Step cell child → In child order

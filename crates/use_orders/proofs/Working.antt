@@ -1,14 +1,11 @@
 -- Each step leaves less to do.
-use Rattle.std.proofs.Common.{◌≡◌, ℕ, ◌+◌, ◌<◌, ◌≤◌, List, [], inl, refl, arith, length}
-use Rattle.std.proofs.Common.{slice_index, slice_set}
+use Rattle.use_orders.proofs.Common.{◌≡◌, ℕ, ◌+◌, ◌<◌, ◌≤◌, List, [], inl, refl, arith, length, slice_index, slice_set, Mark, Unmet, Open, Listed}
+use Rattle.use_orders.proofs.Common.{OpenCell, used_by, AreCells, WalkState, walk_mark, with_open, one_further, after_meeting, after_listing}
+use Rattle.use_orders.proofs.Common.{after_following, IsWalking, work_left}
 use Rattle.std.specs.Prelude.{count_by, sum_by, cond}
 use Rattle.std.proofs.lemmas.List.Sums.{sum_by-set, sum_by-cons, get_or-le-sum_by}
-use Rattle.use_orders.specs.declared.walk.Mark.{Mark}
-use Rattle.use_orders.specs.declared.walk.Mark.TheVariants.{Unmet, Open, Listed}
-use Rattle.use_orders.specs.declared.walk.OpenCell.{OpenCell}
-use Rattle.use_orders.specs.Uses.{used_by, AreCells}
-use Rattle.use_orders.specs.steps.Walks.{WalkState, walk_mark, is_unmet, with_open, one_further, just_opened, after_meeting, after_listing, after_following}
-use Rattle.use_orders.specs.steps.Walks.{IsWalking, left_at, work_left}
+use Rattle.use_orders.specs.steps.Walks.{is_unmet, just_opened}
+use Rattle.use_orders.specs.steps.Walks.{left_at}
 use Rattle.use_orders.proofs.UnderWay.{next_is_used}
 
 -- a mark of an unmet cell counts

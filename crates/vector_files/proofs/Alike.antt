@@ -1,18 +1,12 @@
 -- Names that are alike say the same of each line.
-use Rattle.std.proofs.Common.{◌≡◌, ℕ, List, [], ◌∷◌, Ok, Err, refl, ap, ◌∙◌, if◌then◌else◌}
-use Rattle.std.specs.Option.{ok_or, option_map}
-use Rattle.std.specs.Prelude.{Some, None}
+use Rattle.vector_files.proofs.Common.{◌≡◌, ℕ, List, [], ◌∷◌, Ok, Err, refl, ap, ◌∙◌, if◌then◌else◌, ok_or, option_map, Some, lines_of, words_of}
+use Rattle.vector_files.proofs.Common.{and_then, saying, Set, Free, Size, Show, node_in, level_in, size_in, is_rail_name, unless_rail, changed_node}
+use Rattle.vector_files.proofs.Common.{asked_in, show_line, command_line, words_say, is_comment, line_says, says, IsLikeNamed}
+use Rattle.std.specs.Prelude.{None}
 use Rattle.std.proofs.Math.Path.{fun_ext}
-use Rattle.text_scan.specs.Lines.{lines_of}
-use Rattle.text_scan.specs.Words.{words_of}
 use Rattle.text_form.specs.Folds.{text_state}
-use Rattle.text_form.specs.SaidLines.{and_then, saying}
 use Rattle.vector_files.specs.declared.faults.VecFault.TheVariants.{Vector, NoNode}
-use Rattle.vector_files.specs.declared.files.VecLine.TheVariants.{Set, Free, Size, Show}
-use Rattle.vector_files.specs.LineForms.{node_in, level_in, size_in, is_rail_name, unless_rail, changed_node}
 use Rattle.vector_files.specs.LineForms.{set_line, free_line, size_line}
-use Rattle.vector_files.specs.LineForms.{asked_in, show_line, command_line, words_say, is_comment, line_says, says}
-use Rattle.vector_files.specs.NodeLookup.{IsLikeNamed}
 use Rattle.vector_files.specs.VectorFiles.{nothing_yet, with_said, vectors_in}
 
 module _ (known named : List (List ℕ × ℕ)) (like : IsLikeNamed known named) where

@@ -1,25 +1,17 @@
 -- What a line says fits the network.
-use Rattle.std.proofs.Common.{◌≡◌, ◌<◌, ℕ, Bool, true, false, List, [], ◌∷◌, inl, inr, refl, sym, subst, arith, if◌then◌else◌}
-use Rattle.std.specs.Prelude.{All, Option, Some, None, Result, Ok, Err, IfOk, IfSome, codes}
-use Rattle.std.specs.Option.{ok_or, option_map}
-use Rattle.std.specs.Str.{bytes_eq}
-use Rattle.std.proofs.lemmas.Bool.{cases_Bool}
+use Rattle.vector_files.proofs.Common.{◌≡◌, ℕ, List, [], ◌∷◌, refl, sym, if◌then◌else◌, Some, ok_or, option_map, bytes_eq, cases_Bool, lines_of}
+use Rattle.vector_files.proofs.Common.{words_of, and_then, saying, VecFault, VecLine, Set, Free, Size, Show, Vectors, node_in, level_in, size_in}
+use Rattle.vector_files.proofs.Common.{is_rail, is_rail_name, unless_rail, changed_node, asked_in, show_line, command_line, words_say, is_comment}
+use Rattle.vector_files.proofs.Common.{line_says, says}
+use Rattle.std.proofs.Common.{◌<◌, Bool, true, false, inl, inr, subst, arith}
+use Rattle.std.specs.Prelude.{All, Option, None, Result, Ok, Err, IfOk, IfSome, codes}
 use Rattle.std.proofs.lemmas.List.Elements.{All-nil, All-cons, All-push}
-use Rattle.text_scan.specs.Lines.{lines_of}
-use Rattle.text_scan.specs.Words.{words_of}
-use Rattle.text_form.specs.SaidLines.{and_then, saying}
 use Rattle.text_form.proofs.FoldLaws.{first_fault_or-keeps, text_state-Ok}
 use Rattle.switch_net.specs.declared.switches.Level.{Level}
 use Rattle.switch_net.specs.Names.{NameNodesBelow}
 use Rattle.switch_net.specs.Network.{IsSize}
-use Rattle.vector_files.specs.declared.faults.VecFault.{VecFault}
 use Rattle.vector_files.specs.declared.faults.VecFault.TheVariants.{Vector}
-use Rattle.vector_files.specs.declared.files.VecLine.{VecLine}
-use Rattle.vector_files.specs.declared.files.VecLine.TheVariants.{Set, Free, Size, Show}
-use Rattle.vector_files.specs.declared.files.Vectors.{Vectors}
-use Rattle.vector_files.specs.LineForms.{node_in, level_in, size_in, is_rail, is_rail_name, unless_rail, changed_node}
-use Rattle.vector_files.specs.LineForms.{set_line, free_line, size_line, phase_line, asked_in}
-use Rattle.vector_files.specs.LineForms.{show_line, command_line, words_say, is_comment, line_says, says}
+use Rattle.vector_files.specs.LineForms.{set_line, free_line, size_line, phase_line}
 use Rattle.vector_files.specs.VectorFiles.{nothing_yet, with_said, vectors_in, IsChangeable, IsLineWithin}
 
 -- what holds of the one step and is kept by the other holds of both

@@ -1,3 +1,4 @@
+mod Common
 mod Places
 pub mod Rails
 pub mod Alike

@@ -1,19 +1,16 @@
 -- The nodes of names, found by the places of the names.
-use Rattle.std.proofs.Common.{◌≡◌, ◌+◌, ℕ, Bool, true, false, cond, not, inl, inr, Option, List, [], ◌∷◌, ◌++◌, length}
-use Rattle.std.proofs.Common.{refl, sym, ap, ◌∙◌, arith, if◌then◌else◌, length-append, suc, one-add}
-use Rattle.std.specs.Prelude.{Some, None, nat_lt}
-use Rattle.std.specs.List.{zip, list_any, position, position_or_len, slice_get}
+use Rattle.vector_files.proofs.Common.{◌≡◌, ◌+◌, ℕ, List, [], ◌∷◌, ◌++◌, refl, sym, ap, ◌∙◌, if◌then◌else◌, Some, zip, list_any, bytes_eq}
+use Rattle.vector_files.proofs.Common.{cases_Bool, bytes_eq-Decides, node_named, IsIndexOf}
+use Rattle.std.proofs.Common.{Bool, true, false, cond, not, inl, inr, Option, length}
+use Rattle.std.proofs.Common.{arith, length-append, suc, one-add}
+use Rattle.std.specs.Prelude.{None, nat_lt}
+use Rattle.std.specs.List.{position, position_or_len, slice_get}
 use Rattle.std.specs.Borrow.{Bor}
 use Rattle.std.specs.Option.{option_or, option_copied}
 use Rattle.std.specs.Slice.{IsItemAt}
-use Rattle.std.specs.Str.{bytes_eq}
-use Rattle.std.proofs.lemmas.Bool.{cases_Bool}
 use Rattle.std.proofs.lemmas.Bool.Decides.{nat_tests}
 use Rattle.std.proofs.lemmas.Option.{slice_get_past, slice_get_read}
-use Rattle.std.proofs.lemmas.Slice.Eq.{bytes_eq-Decides}
 use Rattle.name_index.proofs.FiniteSets.Members.{In-append_left, In-push, In-push_cases}
-use Rattle.vector_files.specs.LineForms.{node_named}
-use Rattle.vector_files.specs.NodeLookup.{IsIndexOf}
 
 -- two texts are compared alike either way round
 bytes_eq-swap : (a b : List ℕ) → bytes_eq a b ≡ bytes_eq b a

@@ -1,12 +1,9 @@
 -- A node is power or ground exactly where it is the node of one of their names.
-use Rattle.std.proofs.Common.{◌≡◌, ◌==◌, ◌&&◌, ◌||◌, ℕ, Bool, true, false, List, [], ◌∷◌, inl, inr, refl, sym, ap, ◌∙◌}
-use Rattle.std.specs.List.{zip, list_any}
-use Rattle.std.specs.Str.{bytes_eq}
-use Rattle.std.proofs.lemmas.Bool.{cases_Bool}
-use Rattle.std.proofs.lemmas.Slice.Eq.{bytes_eq-Decides}
+use Rattle.vector_files.proofs.Common.{◌≡◌, ℕ, List, [], ◌∷◌, refl, sym, ap, ◌∙◌, zip, list_any, bytes_eq, cases_Bool, bytes_eq-Decides, node_named}
+use Rattle.vector_files.proofs.Common.{is_rail, power_name, ground_name, is_either_node, IsIndexOf, IsLikeNamed}
+use Rattle.std.proofs.Common.{◌==◌, ◌&&◌, ◌||◌, Bool, true, false, inl, inr}
 use Rattle.switch_net.specs.Names.{HasName, NameOneNodeEach}
-use Rattle.vector_files.specs.LineForms.{node_named, is_rail}
-use Rattle.vector_files.specs.NodeLookup.{power_name, ground_name, is_node, is_either_node, IsIndexOf, IsLikeNamed}
+use Rattle.vector_files.specs.NodeLookup.{is_node}
 
 -- the list gives the name this node
 abbrev gives : List ℕ → ℕ → List (List ℕ × ℕ) → Bool

@@ -1,16 +1,11 @@
 -- A vector file is refused exactly at its first faulty line.
-use Rattle.std.proofs.Common.{◌≡◌, ◌↔◌, ◌+◌, ℕ, List, length, Option, Result, Ok, Err, ap}
+use Rattle.vector_files.proofs.Common.{◌≡◌, ◌+◌, ℕ, List, Ok, Err, ap, lines_of, and_then, saying, VecFault, VecLine, Vectors, says}
+use Rattle.std.proofs.Common.{◌↔◌, length, Option, Result}
 use Rattle.std.specs.Prelude.{fold}
-use Rattle.text_scan.specs.Lines.{lines_of}
 use Rattle.text_form.specs.declared.reading.At.{At}
 use Rattle.text_form.specs.Folds.{first_fault_or, finished, last_number}
-use Rattle.text_form.specs.SaidLines.{and_then, saying}
 use Rattle.text_form.proofs.FoldLaws.{first_fault_or-first, first_fault_or-refused}
 use Rattle.text_form.proofs.SaidLaws.{read_said, said_of}
-use Rattle.vector_files.specs.declared.faults.VecFault.{VecFault}
-use Rattle.vector_files.specs.declared.files.VecLine.{VecLine}
-use Rattle.vector_files.specs.declared.files.Vectors.{Vectors}
-use Rattle.vector_files.specs.LineForms.{says}
 use Rattle.vector_files.specs.VectorFiles.{nothing_yet, with_said, vectors_in, IsRefusedAt}
 
 -- a line that refuses a file has the fault by itself

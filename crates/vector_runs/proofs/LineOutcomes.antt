@@ -1,18 +1,12 @@
 -- What lines do: they have one outcome, and they keep a network sound.
-use Rattle.std.proofs.Common.{◌≡◌, ℕ, List, [], ◌∷◌, ◌++◌, Bool, true, false, refl, sym, ap, subst, ◌∙◌, length, replicate}
-use Rattle.std.specs.Prelude.{All}
-use Rattle.std.proofs.lemmas.List.{length-set}
-use Rattle.std.proofs.lemmas.List.Elements.{All-head, All-tail, All-set}
-use Rattle.switch_net.specs.declared.switches.Level.{Level}
-use Rattle.switch_net.specs.Network.{Network, IsSize, IsSound}
-use Rattle.switch_net.specs.Phase.{IsPhase}
+use Rattle.vector_runs.proofs.Common.{◌≡◌, ℕ, List, [], ◌∷◌, ◌++◌, Bool, true, false, refl, sym, ap, subst, ◌∙◌, length, replicate, All, length-set}
+use Rattle.vector_runs.proofs.Common.{All-head, All-tail, Level, Network, IsSound, IsPhase, VecLine, Set, Free, Size, Phase, Show, IsLineWithin}
+use Rattle.vector_runs.proofs.Common.{VecReply, LineRuns, LinesRun, RunsPhase, Standing, phase_reply, with_input}
+use Rattle.std.proofs.lemmas.List.Elements.{All-set}
+use Rattle.switch_net.specs.Network.{IsSize}
 use Rattle.switch_net.proofs.Forcing.{rounds_length}
 use Rattle.switch_net.proofs.Phases.{one_phase, steps_length}
-use Rattle.vector_files.specs.declared.files.VecLine.{VecLine}
-use Rattle.vector_files.specs.declared.files.VecLine.TheVariants.{Set, Free, Size, Phase, Show}
-use Rattle.vector_files.specs.VectorFiles.{IsLineWithin}
-use Rattle.vector_runs.specs.declared.replies.VecReply.{VecReply}
-use Rattle.vector_runs.specs.Runs.{LineRuns, LinesRun, RunsPhase, Standing, phase_reply, with_input, with_size}
+use Rattle.vector_runs.specs.Runs.{with_size}
 
 -- a standing in a sound network of so many nodes, with a state for each
 pub record IsSoundAt (nodes : ℕ) (at : Standing) : Type 0 where

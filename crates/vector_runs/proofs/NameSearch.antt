@@ -1,11 +1,10 @@
 -- The search for the node of a name.
-use Rattle.std.proofs.Common.{◌≡◌, ℕ, suc, ◌+◌, ◌<◌, ◌≤◌, List, ◌∷◌, inl, inr, refl, sym, ap, subst, ◌∙◌, length}
-use Rattle.std.proofs.Common.{get_or, drop, add-one, drop-cons}
+use Rattle.vector_runs.proofs.Common.{◌≡◌, ℕ, suc, ◌+◌, ◌<◌, ◌≤◌, List, ◌∷◌, inl, inr, refl, sym, ap, subst, ◌∙◌, length, get_or, drop, ◌↔◌, Some}
+use Rattle.vector_runs.proofs.Common.{None, HasName, NameOneNodeEach}
+use Rattle.std.proofs.Common.{add-one, drop-cons}
 use Rattle.std.proofs.lemmas.List.{drop_all}
-use Rattle.std.specs.Prelude.{◌↔◌, Some, None}
 use Rattle.switch_net.specs.FiniteSets.Lists.{In}
 use Rattle.switch_net.proofs.FiniteSets.Members.{In-get_or}
-use Rattle.switch_net.specs.Names.{HasName, NameOneNodeEach}
 use Rattle.vector_runs.proofs.Starts.{pairs_eq}
 
 module _ (names : List (List ℕ × ℕ)) (name : List ℕ) where

@@ -1,21 +1,13 @@
 -- Power and ground: the states in which a network begins, and that a fresh network has no other form.
-use Rattle.std.proofs.Common.{◌≡◌, ℕ, ◌<◌, List, [], ◌∷◌, Bool, true, false, inl, inr, refl, sym, ap, subst, ◌∙◌, arith, length, replicate}
-use Rattle.std.proofs.lemmas.Bool.{cases_Bool, cases_eq, false≢true}
-use Rattle.std.proofs.lemmas.Slice.Eq.{bytes_eq-Decides}
-use Rattle.std.specs.Str.{bytes_eq}
-use Rattle.std.proofs.lemmas.List.{length-set, get_or-set_same, get_or-set_other, same_lists, get_or_default}
+use Rattle.vector_runs.proofs.Common.{◌≡◌, ℕ, ◌<◌, List, [], ◌∷◌, Bool, true, false, inl, inr, refl, sym, ap, subst, ◌∙◌, arith, length, replicate}
+use Rattle.vector_runs.proofs.Common.{cases_Bool, cases_eq, false≢true, bytes_eq-Decides, bytes_eq, length-set, same_lists, get_or_default, ◌↔◌}
+use Rattle.vector_runs.proofs.Common.{Some, None, codes, Level, Net, network_of, sound_of, HasName, NameNodesBelow, NameOneNodeEach, Network}
+use Rattle.vector_runs.proofs.Common.{IsSound, is_input, state_of, AreStarts}
+use Rattle.std.proofs.lemmas.List.{get_or-set_same, get_or-set_other}
 use Rattle.std.proofs.lemmas.List.{length-replicate, get_or-replicate}
-use Rattle.std.specs.Prelude.{◌↔◌, ◌⊎◌, Option, Some, None, codes}
-use Rattle.switch_net.specs.declared.switches.Level.{Level}
+use Rattle.std.specs.Prelude.{◌⊎◌, Option}
 use Rattle.switch_net.specs.declared.switches.Level.TheVariants.{Zero, One, X}
 use Rattle.switch_net.specs.declared.switches.Switch.{Switch}
-use Rattle.switch_net.specs.declared.network.Net.{Net}
-use Rattle.switch_net.specs.Net.{network_of}
-use Rattle.switch_net.proofs.Sound.{sound_of}
-use Rattle.switch_net.specs.Names.{HasName, NameNodesBelow, NameOneNodeEach}
-use Rattle.switch_net.specs.Network.{Network, IsSound}
-use Rattle.switch_net.specs.Path.{is_input, state_of}
-use Rattle.switch_net.specs.SimRecords.{AreStarts}
 use Rattle.vector_files.specs.LineForms.{is_rail, node_named}
 use Rattle.vector_files.specs.NodeLookup.{ground_name, is_either_node, power_name}
 use Rattle.vector_files.proofs.Rails.{rail_found}

@@ -1,20 +1,14 @@
 -- What lines leave of a network that rests.
-use Rattle.std.proofs.Common.{◌≡◌, ℕ, ◌<◌, List, [], Bool, true, Option, Some, None, sym, ap, subst, ◌∙◌, slice_set}
-use Rattle.std.specs.Prelude.{All, IfSome, Vec}
+use Rattle.vector_runs.proofs.Common.{◌≡◌, ℕ, ◌<◌, List, [], Bool, true, sym, ap, subst, ◌∙◌, All, Net, Level, network_of, Network, is_input}
+use Rattle.vector_runs.proofs.Common.{IsPhase, sound_of, with_input}
+use Rattle.std.proofs.Common.{Option, Some, None, slice_set}
+use Rattle.std.specs.Prelude.{IfSome, Vec}
 use Rattle.std.proofs.lemmas.List.{set-get_or}
 use Rattle.std.proofs.lemmas.List.Elements.{All-nil, All-push}
 use Rattle.std.specs.Global.{Global}
-use Rattle.switch_net.specs.declared.network.Net.{Net}
-use Rattle.switch_net.specs.declared.switches.Level.{Level}
-use Rattle.switch_net.specs.Net.{network_of}
-use Rattle.switch_net.specs.Network.{Network}
-use Rattle.switch_net.specs.Path.{is_input}
-use Rattle.switch_net.specs.Phase.{IsPhase}
-use Rattle.switch_net.proofs.Sound.{sound_of}
 use Rattle.steady_state.specs.Marked.{IsRestedBut}
 use Rattle.steady_state.proofs.Resting.{rested, rested_more}
 use Rattle.vector_runs.specs.Running.{AreTouchedAfter}
-use Rattle.vector_runs.specs.Runs.{with_input}
 
 -- the network rests but for these nodes, where they are told
 abbrev pub RestsBut : Network → List Level → Option (Vec ℕ Global) → Type 0

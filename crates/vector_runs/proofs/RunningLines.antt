@@ -1,14 +1,9 @@
 -- Runs that grow by a line.
-use Rattle.std.proofs.Common.{◌≡◌, ℕ, ◌<◌, ◌+◌, List, [], ◌∷◌, ◌++◌, refl, sym, ap, subst, ◌∙◌, length, map, get_or, take, append_assoc}
-use Rattle.std.proofs.lemmas.List.{append-nil, map-append, take_more}
-use Rattle.switch_net.specs.declared.switches.Level.{Level}
-use Rattle.switch_net.specs.Network.{Network}
-use Rattle.switch_net.specs.SimRecords.{AreStarts}
-use Rattle.vector_files.specs.declared.files.VecLine.{VecLine}
-use Rattle.vector_files.specs.declared.files.Vectors.{Vectors}
-use Rattle.vector_runs.specs.declared.replies.VecReply.{VecReply}
+use Rattle.vector_runs.proofs.Common.{◌≡◌, ℕ, ◌<◌, ◌+◌, List, [], ◌∷◌, ◌++◌, refl, sym, ap, subst, ◌∙◌, length, map, get_or, take, append_assoc}
+use Rattle.vector_runs.proofs.Common.{append-nil, take_more, Level, Network, AreStarts, VecLine, Vectors, VecReply, LineRuns, LinesRun, Standing}
+use Rattle.std.proofs.lemmas.List.{map-append}
 use Rattle.vector_runs.specs.Running.{RanLine, RanLines}
-use Rattle.vector_runs.specs.Runs.{EndsRun, LineRuns, LinesRun, Standing, begun_in}
+use Rattle.vector_runs.specs.Runs.{EndsRun, begun_in}
 
 -- lines are run, and then one more
 one_more : (budget : ℕ) (lines : List VecLine) (line : VecLine) (old mid new : Standing) (told more : List VecReply) →

@@ -1,19 +1,13 @@
 -- A run of lines, cut in two; what lines leave as it is, and the states that a settled phase leaves.
-use Rattle.std.proofs.Common.{◌≡◌, ℕ, zero, suc, ◌<◌, List, [], ◌∷◌, ◌++◌, Bool, true, false, refl, sym, ap, subst, ◌∙◌, arith, append_assoc, replicate}
-use Rattle.std.specs.Prelude.{All}
-use Rattle.std.proofs.lemmas.List.Elements.{All-head, All-tail}
-use Rattle.switch_net.specs.declared.switches.Level.{Level}
-use Rattle.switch_net.specs.Network.{Network}
-use Rattle.switch_net.specs.Path.{is_input, state_of}
-use Rattle.switch_net.specs.Phase.{IsPhase, Steps}
+use Rattle.vector_runs.proofs.Common.{◌≡◌, ℕ, suc, ◌<◌, List, [], ◌∷◌, ◌++◌, Bool, true, false, refl, sym, ap, subst, ◌∙◌, arith, append_assoc}
+use Rattle.vector_runs.proofs.Common.{replicate, All, All-head, All-tail, Level, Network, is_input, state_of, IsPhase, VecLine, Set, Free, Size}
+use Rattle.vector_runs.proofs.Common.{Phase, Show, VecReply, LineRuns, LinesRun, RunsPhase, Standing, phase_reply}
+use Rattle.std.proofs.Common.{zero}
+use Rattle.switch_net.specs.Phase.{Steps}
 use Rattle.switch_net.specs.Steady.{IsStep}
 use Rattle.switch_net.proofs.Forcing.{rounds_keep}
-use Rattle.vector_files.specs.declared.files.VecLine.{VecLine}
-use Rattle.vector_files.specs.declared.files.VecLine.TheVariants.{Set, Free, Size, Phase, Show}
-use Rattle.vector_runs.specs.declared.replies.VecReply.{VecReply}
 use Rattle.vector_runs.specs.declared.replies.VecReply.TheVariants.{Settled}
 use Rattle.vector_runs.specs.Laws.{IsAtRest, IsShow, RunsBoth}
-use Rattle.vector_runs.specs.Runs.{LineRuns, LinesRun, RunsPhase, Standing, phase_reply}
 
 -- a run of two lists of lines is one of the first and then one of the second
 pub split_run : (budget : ℕ) (lines others : List VecLine) (old new : Standing) (told : List VecReply) →

@@ -1,17 +1,9 @@
 -- The states in which a network begins: there is one list of them.
-use Rattle.std.proofs.Common.{◌≡◌, ℕ, ◌<◌, List, [], ◌∷◌, ◌⊎◌, inl, inr, sym, ap, ◌∙◌, arith, length}
-use Rattle.std.proofs.lemmas.Bool.{cases_eq}
-use Rattle.std.proofs.lemmas.List.{same_lists, get_or_default}
-use Rattle.std.proofs.lemmas.Slice.Eq.{bytes_eq-Decides}
-use Rattle.std.proofs.lemmas.Bool.{cases_Bool, false≢true}
-use Rattle.std.specs.Prelude.{codes}
-use Rattle.std.specs.Str.{bytes_eq}
-use Rattle.switch_net.specs.declared.switches.Level.{Level}
+use Rattle.vector_runs.proofs.Common.{◌≡◌, ℕ, ◌<◌, List, [], ◌∷◌, inl, inr, sym, ap, ◌∙◌, arith, length, cases_eq, same_lists, get_or_default}
+use Rattle.vector_runs.proofs.Common.{bytes_eq-Decides, cases_Bool, false≢true, codes, bytes_eq, Level, HasName, Network, state_of, AreStarts}
+use Rattle.std.proofs.Common.{◌⊎◌}
 use Rattle.switch_net.specs.declared.switches.Level.TheVariants.{X}
-use Rattle.switch_net.specs.Names.{HasName}
-use Rattle.switch_net.specs.Network.{Network}
-use Rattle.switch_net.specs.Path.{state_of}
-use Rattle.switch_net.specs.SimRecords.{AreStarts, IsStartOf}
+use Rattle.switch_net.specs.SimRecords.{IsStartOf}
 
 -- a name and a node that are these make this pair
 pub pairs_eq : {p : List ℕ × ℕ} {name : List ℕ} {v : ℕ} → p.0 ≡ name → p.1 ≡ v → p ≡ (name, v)

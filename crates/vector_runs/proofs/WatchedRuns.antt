@@ -1,21 +1,12 @@
 -- Watched runs: they grow by a line, and have one outcome.
-use Rattle.std.proofs.Common.{◌≡◌, ℕ, ◌+◌, ◌<◌, List, [], ◌∷◌, ◌++◌, Bool, true, false, inl, inr, refl, sym, ap, subst, ◌∙◌, length, get_or, take, append_assoc}
-use Rattle.std.specs.Prelude.{All, Option, Some, None, not}
-use Rattle.std.proofs.lemmas.Bool.{cases_Bool, false≢true}
-use Rattle.std.proofs.lemmas.List.{append-nil, length-set, take_more}
-use Rattle.std.proofs.lemmas.List.Elements.{All-head, All-tail, All-filter, filter-append}
-use Rattle.switch_net.specs.declared.switches.Level.{Level}
-use Rattle.switch_net.specs.Network.{Network, IsSound}
-use Rattle.vector_files.specs.declared.files.VecLine.{VecLine}
-use Rattle.vector_files.specs.declared.files.VecLine.TheVariants.{Set, Free, Size, Phase, Show}
-use Rattle.vector_files.specs.declared.files.Vectors.{Vectors}
-use Rattle.vector_files.specs.VectorFiles.{IsLineWithin}
-use Rattle.vector_runs.specs.declared.replies.VecReply.{VecReply}
-use Rattle.vector_runs.specs.declared.stuck_faults.StuckFault.{StuckFault}
-use Rattle.vector_runs.specs.declared.watching.Seen.{Seen}
+use Rattle.vector_runs.proofs.Common.{◌≡◌, ℕ, ◌+◌, ◌<◌, List, [], ◌∷◌, ◌++◌, Bool, true, false, inl, inr, refl, sym, ap, subst, ◌∙◌, length, get_or}
+use Rattle.vector_runs.proofs.Common.{take, append_assoc, All, Some, None, cases_Bool, false≢true, append-nil, length-set, take_more, All-head}
+use Rattle.vector_runs.proofs.Common.{All-tail, Level, Network, IsSound, VecLine, Set, Free, Size, Phase, Show, Vectors, IsLineWithin, VecReply}
+use Rattle.vector_runs.proofs.Common.{StuckFault, Seen, RunsPhase, Standing, phase_reply, shown_in, LinesShow, counting, is_left_out}
+use Rattle.std.specs.Prelude.{Option, not}
+use Rattle.std.proofs.lemmas.List.Elements.{All-filter, filter-append}
 use Rattle.vector_runs.specs.Running.{FitsNodes}
-use Rattle.vector_runs.specs.Runs.{RunsPhase, Standing, phase_reply, shown_in}
-use Rattle.vector_runs.specs.Watching.{AreSeen, LineIsTaken, LinesShow, Watched, begun_with, counting, is_left_out, is_of, seen_in, settled_after}
+use Rattle.vector_runs.specs.Watching.{AreSeen, LineIsTaken, Watched, begun_with, is_of, seen_in, settled_after}
 use Rattle.vector_runs.proofs.LineOutcomes.{IsSoundAt, input_sound, line_sound, same_line}
 use Rattle.vector_runs.proofs.Starts.{same_starts}
 

@@ -1,24 +1,16 @@
 -- The records of a clean cell and of all below it: what they mean.
-use Rattle.std.proofs.Common.{◌≡◌, ◌<◌, ◌∙◌, ℕ, List, length, Option, Some, refl, sym, ap, subst, inl, inr}
-use Rattle.std.specs.Prelude.{IsSome}
+use Rattle.workspace.proofs.Common.{◌≡◌, ◌<◌, ◌∙◌, ℕ, List, length, Option, Some, refl, sym, ap, subst, inl, inr, IsSome, FlatTooMany, IsFlatFaultOf}
+use Rattle.workspace.proofs.Common.{IsFlatOf, IsCleanCell, IsLawfulLibrary, LibraryParts, seen, view_at, own_body, HasTreeRecords, named_tree_at}
 use Rattle.ext_cache.proofs.LibraryTrees.TreeNames.TreeElements.{top_record}
 use Rattle.ext_model.specs.declared.circuits.Circuit.{Circuit}
 use Rattle.ext_model.specs.declared.records.CellExt.{CellExt}
 use Rattle.circuit_model.specs.declared.faults.FlatFault.{FlatFault}
-use Rattle.circuit_model.specs.declared.faults.FlatFault.TheVariants.{TooMany as FlatTooMany}
 use Rattle.circuit_model.specs.declared.limits.CircuitLimit.{CircuitLimit}
 use Rattle.circuit_model.specs.declared.limits.CircuitLimit.TheVariants.{Nodes, Names}
 use Rattle.circuit_model.specs.Elements.{AreRecords, ext_of}
-use Rattle.circuit_model.specs.Refusals.{IsFlatFaultOf, IsFlatOf}
 use Rattle.circuit_laws.specs.CircuitLaws.{FlatTransistorsHaveLetterAndLengths}
-use Rattle.library_answers.specs.HierMerge.UncleanCells.{IsCleanCell}
-use Rattle.ext_cache.specs.CellLibrary.Libraries.{IsLawfulLibrary, LibraryParts, seen}
-use Rattle.ext_cache.specs.CellLibrary.Views.{view_at}
-use Rattle.circuit_laws.specs.TreeRecords.NamedTrees.{own_body}
-use Rattle.circuit_laws.specs.TreeRecords.TreeRecords.{HasTreeRecords}
 use Rattle.tree_circuits.specs.Laws.{RecordsStandForTheFlatLayout, TreeRecordsHaveNoOtherFault}
 use Rattle.ext_cache.specs.LibraryTrees.Laws.{AreChainsShort, CleanCellHasCleanTree}
-use Rattle.ext_cache.specs.LibraryTrees.NamedCells.{named_tree_at}
 use Rattle.workspace.proofs.CellNames.{tree_named}
 use Rattle.circuit_laws.specs.NetworkLaws.{FlatCircuitsHaveLetters, FlatNetworksFit, FlatNetworksHaveTheNodes}
 use Rattle.workspace.specs.CellCircuits.{IsCircuitAt, IsSimulableCircuitAt, PassesAt}

@@ -1,12 +1,11 @@
 -- Commands on a cell: what answers them where the cell is found and where it is not.
-use Rattle.std.proofs.Common.{◌≡◌, ℕ, List, [], ◌∷◌, Some, None, refl}
+use Rattle.workspace.proofs.Common.{◌≡◌, ℕ, List, [], ◌∷◌, Some, None, refl, State, Workspace}
 use Rattle.session_model.specs.declared.answer.Answer.{Answer}
 use Rattle.session_model.specs.Effects.{AnswersAlone, AnswersFetching, Effect}
 use Rattle.ext_cache.specs.CellLibrary.Views.{cell_named}
 use Rattle.line_answers.proofs.AnswerLaws.{answers_refusal}
 use Rattle.line_answers.specs.Refusals.{no_cell, refusal_line}
 use Rattle.workspace.specs.Extractions.{OnCell}
-use Rattle.workspace.specs.States.{State, Workspace}
 
 -- where the cell is found, what is meant for it is meant
 pub answers_on_cell : (number : ℕ) (work : Workspace) (name : List ℕ) (Means : Workspace → ℕ → Effect State → Type 0) (after : State) (cell : ℕ)

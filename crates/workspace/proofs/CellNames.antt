@@ -1,14 +1,15 @@
 -- The names of the cells of a library.
-use Rattle.std.proofs.Common.{◌≡◌, ◌<◌, ◌∙◌, ℕ, List, [], length, map, get_or, inl, inr, sym, ap, arith}
+use Rattle.workspace.proofs.Common.{◌≡◌, ◌<◌, ◌∙◌, ℕ, List, [], length, map, inl, inr, sym, ap, length-map, IsLawfulLibrary, LibraryParts, seen}
+use Rattle.workspace.proofs.Common.{view_at, own_body, named_tree_at}
+use Rattle.std.proofs.Common.{get_or, arith}
 use Rattle.std.proofs.lemmas.Bool.{cases_eq, cases_lt}
-use Rattle.std.proofs.lemmas.List.{get_or-map, length-map}
+use Rattle.std.proofs.lemmas.List.{get_or-map}
 use Rattle.finite_sets.proofs.Distincts.{Distinct-places}
 use Rattle.ext_cache.specs.CellLibrary.Contents.{Held}
-use Rattle.ext_cache.specs.CellLibrary.Libraries.{IsLawfulLibrary, LibraryParts, cells_seen, seen, uses_in}
-use Rattle.ext_cache.specs.CellLibrary.Views.{no_cell, view_at}
+use Rattle.ext_cache.specs.CellLibrary.Libraries.{cells_seen, uses_in}
+use Rattle.ext_cache.specs.CellLibrary.Views.{no_cell}
 use Rattle.ext_cache.proofs.CellLibrary.ViewLaws.{length-cell_views, names_seen}
-use Rattle.circuit_laws.specs.TreeRecords.NamedTrees.{NamedTree, own_body}
-use Rattle.ext_cache.specs.LibraryTrees.NamedCells.{named_tree_at}
+use Rattle.circuit_laws.specs.TreeRecords.NamedTrees.{NamedTree}
 use Rattle.ext_cache.proofs.LibraryTrees.WholeTrees.{named_tree_unfolds}
 
 module _ (library : LibraryParts) (lawful : IsLawfulLibrary library) where

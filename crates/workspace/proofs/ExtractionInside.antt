@@ -1,19 +1,15 @@
 -- Lines of extractions, for which no shelf has to answer.
-use Rattle.std.proofs.Common.{ℕ, List, [], ◌∷◌, map, filter, sym, ap, subst}
-use Rattle.session_model.specs.declared.answer.Store.{Store}
+use Rattle.workspace.proofs.Common.{ℕ, List, [], ◌∷◌, map, sym, ap, subst, Store, LibraryView, view_at, Extraction, IsExtracted, State, Workspace}
+use Rattle.std.proofs.Common.{filter}
 use Rattle.session_model.specs.declared.report.ReportLine.{ReportLine}
 use Rattle.session_model.specs.Effects.{Effect}
 use Rattle.line_answers.proofs.InsideLaws.{both_inside, no_lines_inside, reply_inside}
 use Rattle.line_answers.specs.LineEffects.{IsOfInside}
 use Rattle.line_answers.specs.Refusals.{refusal_line}
-use Rattle.ext_cache.specs.CellLibrary.Views.{LibraryView, view_at}
 use Rattle.library_answers.proofs.OffendingLaws.{offending_inside}
 use Rattle.library_answers.specs.Offending.{offending_line}
 use Rattle.workspace.specs.declared.extractions.Extracting.TheVariants.{Refused}
-use Rattle.workspace.specs.declared.extractions.Extraction.{Extraction}
-use Rattle.workspace.specs.Extracting.{IsExtracted}
 use Rattle.workspace.specs.Extractions.{IsExtraction, MakesRecords, unattached_line, unclean_refusal}
-use Rattle.workspace.specs.States.{State, Workspace}
 
 -- the lines of labels that name nothing
 unattached_inside : (cell : List ℕ) (texts : List (List ℕ)) → IsOfInside (map (unattached_line cell) texts)

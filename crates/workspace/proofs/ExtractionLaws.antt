@@ -1,36 +1,24 @@
 -- What an extraction comes to, and what is dirty after it.
-use Rattle.std.proofs.Common.{◌≡◌, ◌⊎◌, ◌<◌, ◌∙◌, ◌==◌, ◌&&◌, not, ℕ, suc, Bool, true, false, List, [], ◌∷◌, length, map}
-use Rattle.std.proofs.Common.{Option, Some, refl, sym, ap, subst, inl, inr}
-use Rattle.std.specs.Prelude.{All, option_map}
-use Rattle.std.specs.List.{flat_map, list_any}
+use Rattle.workspace.proofs.Common.{◌≡◌, ◌<◌, ◌∙◌, ℕ, List, [], ◌∷◌, length, map, Option, Some, refl, sym, ap, subst, inl, inr, All, flat_map, In}
+use Rattle.workspace.proofs.Common.{IsAtOrBelow, Store, ArrayExt, CellKey, children_in, IsLawfulLibrary, LibraryParts, seen, LibraryView, view_at}
+use Rattle.workspace.proofs.Common.{below_there, Extracted, Agrees, Extracts, Records, is_dirty, kept_clean, Edited, Extraction, HasLawfulRecord}
+use Rattle.workspace.proofs.Common.{IsExtracted, IsFreshBelow, kept_store, told_lines, Workspace}
+use Rattle.std.proofs.Common.{◌⊎◌, ◌==◌, ◌&&◌, not, suc, Bool, true, false}
+use Rattle.std.specs.Prelude.{option_map}
+use Rattle.std.specs.List.{list_any}
 use Rattle.std.proofs.lemmas.Bool.{eq-eqb, ne_eqb, true≢false}
 use Rattle.std.proofs.lemmas.Bool.Decides.{eqb_tells}
 use Rattle.finite_sets.specs.Chain.Chain.{stay}
-use Rattle.finite_sets.specs.Lists.{In}
 use Rattle.finite_sets.proofs.Members.{In-filter, In-filter_passes, In-filter_source}
 use Rattle.finite_sets.proofs.Searches.{All-from_In, list_any-In}
-use Rattle.use_orders.specs.Uses.{IsAtOrBelow}
 use Rattle.use_orders.proofs.Visiting.{library_order-lists}
-use Rattle.session_model.specs.declared.answer.Store.{Store}
 use Rattle.session_model.specs.declared.report.ReportLine.{ReportLine}
-use Rattle.ext_model.specs.declared.arrays.ArrayExt.{ArrayExt}
-use Rattle.ext_model.specs.declared.tables.CellKey.{CellKey}
-use Rattle.ext_cache.specs.CellLibrary.Additions.{children_in}
-use Rattle.ext_cache.specs.CellLibrary.Libraries.{IsLawfulLibrary, LibraryParts, seen}
-use Rattle.ext_cache.specs.CellLibrary.Views.{LibraryView, view_at}
-use Rattle.ext_cache.proofs.CellLibrary.ChildLaws.{below_there}
-use Rattle.ext_cache.specs.declared.extraction.Extracted.{Extracted}
-use Rattle.ext_cache.specs.Caches.{Agrees, Extracts, MakesRecords as KeepsRecords, Records, dirty_cells, is_dirty, stamp_in, with_record}
+use Rattle.ext_cache.specs.Caches.{MakesRecords as KeepsRecords, dirty_cells, stamp_in, with_record}
 use Rattle.ext_cache.proofs.MakingLaws.{clean_making, dirty_unmade}
-use Rattle.ext_cache.proofs.RecordLaws.{kept_clean}
-use Rattle.workspace.specs.declared.cells.Edited.{Edited}
 use Rattle.workspace.specs.declared.extractions.Extracting.TheVariants.{Done}
-use Rattle.workspace.specs.declared.extractions.Extraction.{Extraction}
 use Rattle.library_answers.specs.UndoLog.Inverses.{Inverses}
 use Rattle.workspace.specs.KeptSessions.{edited_state}
-use Rattle.workspace.specs.Extracting.{HasLawfulRecord, IsExtracted, IsFreshBelow, kept_store, told_lines}
 use Rattle.workspace.specs.Extractions.{MakesRecords, ext_store, with_clean}
-use Rattle.workspace.specs.States.{Workspace}
 use Rattle.workspace.proofs.WorkspaceLaws.{workspace_of}
 
 -- ---- cells of an order

@@ -1,36 +1,23 @@
 -- The records that are kept of a cell and of all below it, where none of these is dirty.
-use Rattle.std.proofs.Common.{◌≡◌, ◌<◌, ◌∙◌, ℕ, List, [], ◌∷◌, length, map, Option, Some, refl, sym, ap, subst, inl, inr}
-use Rattle.std.specs.Prelude.{All, IsSome}
+use Rattle.workspace.proofs.Common.{◌≡◌, ◌<◌, ◌∙◌, ℕ, List, [], ◌∷◌, length, map, Option, Some, refl, sym, ap, subst, inl, inr, All, IsSome}
+use Rattle.workspace.proofs.Common.{Distinct, In, IsAtOrBelow, ArrayExt, CellKey, AreArrayRecords, plains, IsCleanCell, children_in, IsLawfulLibrary}
+use Rattle.workspace.proofs.Common.{LibraryParts, seen, LibraryView, view_at, below_there, HasTreeRecords, named_tree_at, Agrees, IsRecordNow}
+use Rattle.workspace.proofs.Common.{Records, record_in, numbers, kept_clean, IsFreshBelow}
 use Rattle.std.proofs.lemmas.Option.{same_Some}
 use Rattle.finite_sets.specs.Chain.Chain.{stay, go}
-use Rattle.finite_sets.specs.Lists.{Distinct, In}
 use Rattle.finite_sets.proofs.Distincts.{Distinct-map}
 use Rattle.finite_sets.proofs.Members.{In-index, In-map, In-map_source}
 use Rattle.finite_sets.proofs.Searches.{All-from_In}
 use Rattle.finite_sets.proofs.Places.{In-take}
 use Rattle.use_orders.specs.LibraryOrder.{IsLibraryOrder}
-use Rattle.use_orders.specs.Uses.{IsAtOrBelow}
 use Rattle.use_orders.proofs.Visiting.{library_order-behind, library_order-lists}
-use Rattle.ext_model.specs.declared.arrays.ArrayExt.{ArrayExt}
-use Rattle.ext_model.specs.declared.tables.CellKey.{CellKey}
 use Rattle.ext_model.specs.LawfulArrays.{IsLawfulArrayExt}
-use Rattle.ext_loading.specs.PlainRecords.Plains.{AreArrayRecords, plains}
-use Rattle.library_answers.specs.HierMerge.UncleanCells.{IsCleanCell}
 use Rattle.ext_cache.specs.CellTree.Uses.{HasChild}
-use Rattle.ext_cache.specs.CellLibrary.Additions.{children_in}
-use Rattle.ext_cache.specs.CellLibrary.Libraries.{IsLawfulLibrary, LibraryParts, seen}
-use Rattle.ext_cache.specs.CellLibrary.Views.{LibraryView, view_at}
-use Rattle.ext_cache.proofs.CellLibrary.ChildLaws.{below_there}
-use Rattle.circuit_laws.specs.TreeRecords.TreeRecords.{HasTreeRecords}
-use Rattle.ext_cache.specs.LibraryTrees.NamedCells.{IsAtOrBelow as IsSeenAtOrBelow, named_tree_at}
+use Rattle.ext_cache.specs.LibraryTrees.NamedCells.{IsAtOrBelow as IsSeenAtOrBelow}
 use Rattle.ext_cache.specs.LibraryTrees.KeptRecords.{HasKeptRecord}
 use Rattle.ext_cache.specs.LibraryTrees.RecordLaws.{ListedRecordsAreOfTheTree}
 use Rattle.workspace.proofs.CellNames.{names_tell, tree_named}
-use Rattle.ext_cache.specs.Caches.{Agrees, IsRecordNow, Records, record_in}
 use Rattle.ext_cache.proofs.OrderLaws.{below_is_before}
-use Rattle.library_answers.proofs.HierMerge.CleanOrders.{numbers}
-use Rattle.ext_cache.proofs.RecordLaws.{kept_clean}
-use Rattle.workspace.specs.Extracting.{IsFreshBelow}
 
 -- the key of a cell of an order
 key_of : (order : List CellKey) (cell : ℕ) → In cell (numbers order) → (key : CellKey) × (In key order × (key.0 ≡ cell))

@@ -8,6 +8,7 @@ pub use Rattle.ext_cache.proofs.RecordLaws
 mod CellCircuitLaws
 pub mod CellCommands
 mod CellNames
+mod Common
 pub mod ExtractionInside
 pub mod ExtractionLaws
 mod KeptLaws

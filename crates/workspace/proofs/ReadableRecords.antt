@@ -1,9 +1,8 @@
 -- The records of a library's cells are within the limits of circuit files that are read.
-use Rattle.std.proofs.Common.{◌≡◌, ◌<◌, ◌≤◌, ℕ, ℤ, length, map, w32, FitsSigned, inl, inr, ap, subst, ◌∙◌, arith}
-use Rattle.std.specs.Prelude.{All}
+use Rattle.workspace.proofs.Common.{◌≡◌, ◌<◌, ℕ, length, map, inl, inr, ap, subst, ◌∙◌, All, length-map, In, ArrayExt, IsLawfulLibrary, LibraryParts}
+use Rattle.workspace.proofs.Common.{seen, view_at, IsRecordNow}
+use Rattle.std.proofs.Common.{◌≤◌, ℤ, w32, FitsSigned, arith}
 use Rattle.std.proofs.lemmas.Int.{ints}
-use Rattle.std.proofs.lemmas.List.{length-map}
-use Rattle.finite_sets.specs.Lists.{In}
 use Rattle.finite_sets.proofs.Members.{In-map_source}
 use Rattle.finite_sets.proofs.Places.{slice_get-In}
 use Rattle.finite_sets.proofs.Searches.{All-from_In, All-In}
@@ -15,17 +14,13 @@ use Rattle.geo_core.specs.Orientation.{matrix}
 use Rattle.tech_model.specs.declared.raw.ClassRec.{ClassRec}
 use Rattle.tech_model.specs.WellFormed.{IsClass}
 use Rattle.ext_model.specs.declared.arrays.ArrayUse.{ArrayUse}
-use Rattle.ext_model.specs.declared.arrays.ArrayExt.{ArrayExt}
 use Rattle.ext_reading.specs.declared.limits.TheConstants.{GREATEST_CLASS_VALUE}
 use Rattle.ext_reading.specs.ReadBack.{IsReadable}
 use Rattle.ext_cache.specs.CellTree.Trees.{cell_at}
 use Rattle.ext_cache.specs.CellTree.Uses.{IsShift}
-use Rattle.ext_cache.specs.CellLibrary.Libraries.{IsLawfulLibrary, LibraryParts, seen}
-use Rattle.ext_cache.specs.CellLibrary.Views.{view_at}
 use Rattle.ext_cache.proofs.CellLibrary.ElementCounts.{use_is_lawful}
 use Rattle.ext_cache.proofs.CellLibrary.LayoutTreeLaws.{state_is, uses_seen}
 use Rattle.ext_cache.specs.LibraryTrees.CellRecords.{library_use, library_uses}
-use Rattle.ext_cache.specs.Caches.{IsRecordNow}
 
 -- the four factors of an orientation fit
 record HasShortFactors (o : Orient) : Type 0 where

@@ -1,10 +1,7 @@
 -- Sessions with a technology and without one.
-use Rattle.std.proofs.Common.{◌≡◌, Option, None, Some, ap}
-use Rattle.std.specs.Prelude.{IfSome}
+use Rattle.workspace.proofs.Common.{◌≡◌, Option, None, Some, ap, IfSome, seen, Edited}
 use Rattle.std.specs.Option.{option_map}
 use Rattle.ext_cache.specs.CellLibrary.LawfulViews.{IsSoundView}
-use Rattle.ext_cache.specs.CellLibrary.Libraries.{seen}
-use Rattle.workspace.specs.declared.cells.Edited.{Edited}
 use Rattle.workspace.specs.declared.cells.LayoutSession.{LayoutSession}
 use Rattle.workspace.specs.KeptSessions.{KeepsSoundLibrary, SeesSoundLibrary, edited_state, state_of}
 

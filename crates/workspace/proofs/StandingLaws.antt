@@ -1,15 +1,13 @@
 -- How many cells stand at and below a cell, as elements with names.
-use Rattle.std.proofs.Common.{◌≡◌, ◌<◌, ◌≤◌, ℕ, suc, length, map, refl, ap, arith, length-append}
-use Rattle.std.proofs.lemmas.List.{length-map}
+use Rattle.workspace.proofs.Common.{◌≡◌, ◌<◌, ℕ, length, map, refl, ap, length-map, IsLawfulLibrary, LibraryParts, seen, named_tree_at}
+use Rattle.std.proofs.Common.{◌≤◌, suc, arith, length-append}
 use Rattle.circuit_model.specs.declared.limits.TheConstants.{MOST_FLAT_ELEMENTS}
 use Rattle.tree_circuits.specs.LayoutModel.CellTrees.{CellTree, standings, standings_from, under}
 use Rattle.ext_cache.specs.CellLibrary.LayoutTrees.{tree_at}
-use Rattle.ext_cache.specs.CellLibrary.Libraries.{IsLawfulLibrary, LibraryParts, seen}
 use Rattle.ext_cache.proofs.CellLibrary.StandingCounts.{standings_few}
 use Rattle.circuit_laws.specs.TreeRecords.NamedTrees.{NamedElements, NamedTree, layouts_below, layouts_of, named_above, named_standings, named_standings_below}
 use Rattle.circuit_laws.specs.TreeRecords.NamedTrees.NamedTree.{named_tree}
 use Rattle.circuit_laws.specs.TreeRecords.NamedTrees.NamedElements.{no_more, element_then}
-use Rattle.ext_cache.specs.LibraryTrees.NamedCells.{named_tree_at}
 use Rattle.ext_cache.proofs.LibraryTrees.LayoutLaws.{layouts_of_cell}
 
 mutual

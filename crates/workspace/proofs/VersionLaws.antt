@@ -1,7 +1,5 @@
 -- The versions that the log of a session keeps.
-use Rattle.std.proofs.Common.{◌≡◌, sym, subst}
-use Rattle.ext_cache.specs.CellLibrary.Libraries.{LibraryParts, IsSame, seen}
-use Rattle.ext_cache.specs.CellLibrary.Views.{LibraryView}
+use Rattle.workspace.proofs.Common.{◌≡◌, sym, subst, LibraryParts, IsSame, seen, LibraryView}
 use Rattle.library_answers.specs.UndoLog.Inverses.{Inverses, Keeps, no_inverses}
 use Rattle.library_answers.specs.UndoLog.Versions.{Versions, no_versions}
 use Rattle.library_answers.proofs.UndoLog.LeadLaws.{nothing_kept}

@@ -1,15 +1,10 @@
 -- What is edited and which cells are dirty, as the program keeps them.
-use Rattle.std.proofs.Common.{◌≡◌, ◌<◌, ◌∙◌, ℕ, length, Option, sym, ap, subst}
-use Rattle.std.specs.Prelude.{IfSome}
-use Rattle.ext_model.specs.declared.tables.CellKey.{CellKey}
-use Rattle.ext_cache.specs.CellLibrary.Libraries.{IsSame, LibraryParts, seen}
-use Rattle.ext_cache.specs.CellLibrary.Views.{LibraryView}
+use Rattle.workspace.proofs.Common.{◌≡◌, ◌<◌, ◌∙◌, ℕ, length, Option, sym, ap, subst, IfSome, CellKey, IsSame, LibraryParts, seen, LibraryView}
+use Rattle.workspace.proofs.Common.{Records, is_dirty, Workspace}
 use Rattle.library_answers.specs.EditScript.Editing.{IsCurrent, editing_of}
 use Rattle.ext_cache.proofs.CellLibrary.ViewLaws.{count_seen}
-use Rattle.ext_cache.specs.Caches.{Records, is_dirty}
 use Rattle.ext_cache.proofs.RecordLaws.{dirty_same}
 use Rattle.library_answers.specs.UndoLog.Inverses.{Inverses, kept_versions}
-use Rattle.workspace.specs.States.{Workspace}
 
 -- what is edited and what is dirty, where the program keeps this
 abbrev pub workspace_of : LibraryParts → Option CellKey → Records → Inverses → Workspace

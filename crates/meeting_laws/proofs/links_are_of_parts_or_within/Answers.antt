@@ -1,4 +1,4 @@
-use Rattle.meeting_laws.specs.PartLayouts.{Passes}
+use Rattle.meeting_laws.proofs.Common.{Passes}
 use Rattle.meeting_laws.proofs.LinkLaws.{link_of_part}
 use Rattle.meeting_laws.proofs.links_are_of_parts_or_within.Goals as goal
 

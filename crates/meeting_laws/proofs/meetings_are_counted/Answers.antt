@@ -1,4 +1,4 @@
-use Rattle.meeting_laws.specs.PartLayouts.{Passes}
+use Rattle.meeting_laws.proofs.Common.{Passes}
 use Rattle.meeting_laws.proofs.QuantityLaws.{area_counted, perimeter_counted, capacitance_counted}
 use Rattle.meeting_laws.proofs.meetings_are_counted.Goals as goal
 

@@ -1,4 +1,4 @@
-use Rattle.meeting_laws.specs.PartLayouts.{Passes}
+use Rattle.meeting_laws.proofs.Common.{Passes}
 use Rattle.meeting_laws.proofs.RestrictionLaws.{layout_inside, layout_elsewhere}
 use Rattle.meeting_laws.proofs.restricted_layout_is_the_same_within.Goals as goal
 

@@ -1,4 +1,4 @@
-use Rattle.meeting_laws.specs.PartLayouts.{Passes}
+use Rattle.meeting_laws.proofs.Common.{Passes}
 use Rattle.meeting_laws.proofs.PartLinks.{link_of_whole, restricted_link_lifted}
 use Rattle.meeting_laws.proofs.restricted_links_are_links.Goals as goal
 

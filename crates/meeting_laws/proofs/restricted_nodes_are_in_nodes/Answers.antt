@@ -1,4 +1,4 @@
-use Rattle.meeting_laws.specs.PartLayouts.{Passes}
+use Rattle.meeting_laws.proofs.Common.{Passes}
 use Rattle.meeting_laws.proofs.PartLinks.{node_of_whole, restricted_node_lifted}
 use Rattle.meeting_laws.proofs.restricted_nodes_are_in_nodes.Goals as goal
 

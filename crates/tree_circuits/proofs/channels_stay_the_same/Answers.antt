@@ -1,4 +1,4 @@
-use Rattle.tree_names.specs.TreeRecords.FlatLayouts.{flat_layout}
+use Rattle.tree_circuits.proofs.Common.{flat_layout}
 use Rattle.tree_circuits.proofs.OwnedChannels.{owned_channels}
 use Rattle.tree_circuits.proofs.SameChannels.{same_set}
 use Rattle.tree_circuits.proofs.channels_stay_the_same.Goals as goal

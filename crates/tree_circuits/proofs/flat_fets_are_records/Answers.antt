@@ -1,5 +1,4 @@
-use Rattle.tree_names.specs.CircuitModel.Elements.{elements_of}
-use Rattle.tree_names.proofs.TreeElements.{elements_for}
+use Rattle.tree_circuits.proofs.Common.{elements_of, elements_for}
 use Rattle.tree_circuits.proofs.RecordFets.{fets_of_records}
 use Rattle.tree_circuits.proofs.flat_fets_are_records.Goals as goal
 

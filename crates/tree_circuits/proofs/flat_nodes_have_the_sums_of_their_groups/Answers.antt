@@ -1,5 +1,5 @@
-use Rattle.std.proofs.Common.{◌∙◌}
-use Rattle.tree_circuits.specs.SumLaws.{HasSumsOfGroups, is_named}
+use Rattle.tree_circuits.proofs.Common.{◌∙◌, is_named}
+use Rattle.tree_circuits.specs.SumLaws.{HasSumsOfGroups}
 use Rattle.tree_circuits.proofs.ClosedSums.{clean_tree_closes, of_each, one_total_each}
 use Rattle.tree_circuits.proofs.ElementSums.{elements_have}
 use Rattle.tree_circuits.proofs.flat_nodes_have_the_sums_of_their_groups.Goals as goal

@@ -1,4 +1,4 @@
-use Rattle.name_classes.specs.CircuitModel.Elements.{elements_of}
+use Rattle.tree_names.proofs.Common.{elements_of}
 use Rattle.tree_names.proofs.CircuitNodes.{name_flat_nodes}
 use Rattle.tree_names.proofs.TreeElements.{elements_for}
 use Rattle.tree_names.proofs.circuits_name_flat_nodes.Goals as goal

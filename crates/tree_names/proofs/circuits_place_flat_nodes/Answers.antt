@@ -1,4 +1,4 @@
-use Rattle.name_classes.specs.CircuitModel.Elements.{elements_of}
+use Rattle.tree_names.proofs.Common.{elements_of}
 use Rattle.tree_names.proofs.NodePoints.{point_of}
 use Rattle.tree_names.proofs.TreeElements.{elements_for}
 use Rattle.tree_names.proofs.circuits_place_flat_nodes.Goals as goal

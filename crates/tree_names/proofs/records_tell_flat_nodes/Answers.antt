@@ -1,7 +1,7 @@
 use Rattle.tree_names.proofs.FlatNames.{flat_names_are}
 use Rattle.tree_names.proofs.NodeNames.{flat_node_names, names_one_flat_node}
 use Rattle.tree_names.proofs.TreeElements.{elements_for}
-use Rattle.name_classes.specs.CircuitModel.Elements.{elements_of}
+use Rattle.tree_names.proofs.Common.{elements_of}
 use Rattle.tree_names.proofs.records_tell_flat_nodes.Goals as goal
 
 pub returns : goal.returns

@@ -1,7 +1,5 @@
-use Rattle.std.proofs.Common.{ℕ, List, ◌++◌, sym, ap, ◌∙◌}
+use Rattle.cell_library.proofs.Common.{ℕ, List, ◌++◌, sym, ap, ◌∙◌, CellBody, position_of}
 use Rattle.std.specs.Vec.Iter.{into_iter_items}
-use Rattle.cell_bodies.specs.declared.bodies.CellBody.{CellBody}
-use Rattle.cell_library.specs.Contents.{position_of}
 use Rattle.cell_library.proofs.ArrivingCells.{next_is_new}
 use Rattle.cell_library.proofs.additions.add_contents.Goals as goal
 

@@ -1,6 +1,5 @@
-use Rattle.std.proofs.Common.{◌≡◌, ◌++◌, length, map}
+use Rattle.cell_library.proofs.Common.{◌≡◌, ◌++◌, length, map, contents_with}
 use Rattle.std.specs.Vec.Iter.{into_iter_items, into_iter_len}
-use Rattle.cell_library.specs.steps.AddedCells.{contents_with}
 use Rattle.cell_library.proofs.additions.add_contents.Given as goal
 
 -- the contents of the cells so far came, and the others are still to come

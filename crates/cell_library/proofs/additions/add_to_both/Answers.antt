@@ -1,9 +1,5 @@
-use Rattle.std.proofs.Common.{ℕ, List, ap, subst, ◌∙◌}
-use Rattle.std.specs.Prelude.{IfErr, OnOk}
-use Rattle.cell_library.specs.steps.AddedCells.{AreInTree, TreeRefusesAll, new_views, views_from}
-use Rattle.cell_library.specs.Contents.{Held}
-use Rattle.cell_library.specs.Refusals.{HasFaultOrLacksMemory}
-use Rattle.cell_library.specs.Views.{CellView}
+use Rattle.cell_library.proofs.Common.{ℕ, List, ap, subst, ◌∙◌, IfErr, OnOk, new_views, views_from, Held, HasFaultOrLacksMemory, CellView}
+use Rattle.cell_library.specs.steps.AddedCells.{AreInTree, TreeRefusesAll}
 use Rattle.cell_library.proofs.ArrivingCells.{uses_fit, views_are_new}
 use Rattle.cell_library.proofs.additions.add_to_both.Goals as goal
 

@@ -1,6 +1,4 @@
-use Rattle.std.proofs.Common.{ℕ, sym, subst, arith, inl, inr}
-use Rattle.std.specs.Prelude.{All}
-use Rattle.cell_tree.specs.Additions.{MayCome, new_states}
+use Rattle.cell_library.proofs.Common.{ℕ, sym, subst, arith, inl, inr, All, MayCome, new_states}
 use Rattle.cell_library.proofs.ArrivingCells.{all_count}
 use Rattle.cell_library.proofs.AddedCells.{crossing_within}
 use Rattle.cell_library.proofs.additions.add_to_tree.Goals as goal

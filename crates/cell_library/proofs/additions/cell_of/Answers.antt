@@ -1,6 +1,4 @@
-use Rattle.cell_bodies.specs.CellPaint.Paints.{layout_of}
-use Rattle.cell_tree.specs.Additions.{new_state}
-use Rattle.cell_library.specs.Contents.{held_at}
+use Rattle.cell_library.proofs.Common.{layout_of, new_state, held_at}
 use Rattle.cell_library.proofs.ArrivingUses.{cell_may_come}
 use Rattle.cell_library.proofs.additions.cell_of.Goals as goal
 

@@ -1,11 +1,6 @@
-use Rattle.std.proofs.Common.{◌≡◌, ◌+◌, ◌-◌, ◌<◌, ◌≤◌, ℕ, List, [], ◌∷◌, ◌++◌, length, length-drop, map, take, drop, sym, ap, subst, ◌∙◌, arith}
-use Rattle.std.specs.Prelude.{All}
-use Rattle.cell_tree.specs.declared.new_cells.NewCell.{NewCell}
-use Rattle.cell_tree.specs.Additions.{MayCome, new_states}
-use Rattle.cell_library.specs.steps.AddedCells.{kept_uses}
-use Rattle.cell_library.specs.Contents.{held_at}
-use Rattle.cell_library.specs.Limits.{AreStatesOf}
-use Rattle.cell_library.specs.Seen.{cell_views}
+use Rattle.cell_library.proofs.Common.{◌≡◌, ◌+◌, ◌-◌, ◌<◌, ◌≤◌, ℕ, List, [], ◌∷◌, ◌++◌, length, map, take, drop, sym, ap, subst, ◌∙◌, arith, All}
+use Rattle.cell_library.proofs.Common.{NewCell, MayCome, new_states, kept_uses, held_at, AreStatesOf, cell_views}
+use Rattle.std.proofs.Common.{length-drop}
 use Rattle.cell_library.proofs.ArrivingCells.{all_more, cell_more, held_there}
 use Rattle.cell_library.proofs.additions.cells_from.Goals as goal
 

@@ -1,9 +1,4 @@
-use Rattle.std.proofs.Common.{◌-◌, length, map, take, drop}
-use Rattle.std.specs.Prelude.{All}
-use Rattle.cell_tree.specs.Additions.{MayCome, new_states}
-use Rattle.cell_library.specs.steps.AddedCells.{kept_uses}
-use Rattle.cell_library.specs.Limits.{AreStatesOf}
-use Rattle.cell_library.specs.Seen.{cell_views}
+use Rattle.cell_library.proofs.Common.{◌-◌, length, map, take, drop, All, MayCome, new_states, kept_uses, AreStatesOf, cell_views}
 use Rattle.cell_library.proofs.additions.cells_from.Given as goal
 
 -- the cells so far are those of their contents and uses

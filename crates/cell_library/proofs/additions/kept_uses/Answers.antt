@@ -1,7 +1,4 @@
-use Rattle.std.proofs.Common.{sym, subst}
-use Rattle.geo_core.specs.FiniteSets.Lists.{In}
-use Rattle.cell_bodies.specs.declared.bodies.CellUse.{CellUse}
-use Rattle.cell_library.specs.steps.AddedCells.{names_in}
+use Rattle.cell_library.proofs.Common.{sym, subst, In, CellUse, names_in}
 use Rattle.cell_library.proofs.additions.kept_uses.Goals as goal
 
 pub kept_use-requires-clause-child : goal.kept_use-requires-clause-child

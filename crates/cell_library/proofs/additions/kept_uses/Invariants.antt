@@ -1,5 +1,4 @@
-use Rattle.std.proofs.Common.{◌≡◌, map, take}
-use Rattle.cell_library.specs.steps.AddedCells.{kept_uses}
+use Rattle.cell_library.proofs.Common.{◌≡◌, map, take, kept_uses}
 use Rattle.cell_library.proofs.additions.kept_uses.Given as goal
 
 -- the uses so far are kept

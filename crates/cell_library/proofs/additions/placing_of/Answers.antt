@@ -1,4 +1,4 @@
-use Rattle.std.proofs.Common.{sym}
+use Rattle.cell_library.proofs.Common.{sym}
 use Rattle.cell_library.proofs.ArrivingUses.{never_unplaced}
 use Rattle.cell_library.proofs.additions.placing_of.Goals as goal
 

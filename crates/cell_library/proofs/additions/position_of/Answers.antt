@@ -1,4 +1,4 @@
-use Rattle.std.proofs.Common.{sym}
+use Rattle.cell_library.proofs.Common.{sym}
 use Rattle.cell_library.proofs.ArrivingUses.{never_lost}
 use Rattle.cell_library.proofs.additions.position_of.Goals as goal
 

@@ -1,4 +1,4 @@
-use Rattle.std.proofs.Common.{sym}
+use Rattle.cell_library.proofs.Common.{sym}
 use Rattle.cell_library.proofs.ElementCounts.{use_is_lawful}
 use Rattle.cell_library.proofs.element_boxes.body_at.Goals as goal
 

@@ -1,9 +1,4 @@
-use Rattle.std.proofs.Common.{◌≤◌, ◌++◌, List, ℕ, length, ap, arith}
-use Rattle.geo_core.specs.declared.squares.Rect.{Rect}
-use Rattle.cell_tree.specs.declared.use_tables.UseBody.{UseBody}
-use Rattle.cell_tree.specs.Sizes.{hulls_below, size_at}
-use Rattle.cell_library.specs.Libraries.{seen}
-use Rattle.cell_library.specs.Views.{view_at}
+use Rattle.cell_library.proofs.Common.{◌≤◌, ◌++◌, List, ℕ, length, ap, arith, Rect, UseBody, hulls_below, size_at, seen, view_at}
 use Rattle.cell_library.proofs.BoxesBelow.{boxes_all, boxes_on}
 use Rattle.cell_library.proofs.element_boxes.boxes_of.Goals as goal
 

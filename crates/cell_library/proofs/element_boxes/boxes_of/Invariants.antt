@@ -1,7 +1,4 @@
-use Rattle.std.proofs.Common.{◌≡◌, ◌++◌, drop}
-use Rattle.cell_tree.specs.Sizes.{hulls_below, size_at}
-use Rattle.cell_library.specs.Libraries.{seen}
-use Rattle.cell_library.specs.Views.{view_at}
+use Rattle.cell_library.proofs.Common.{◌≡◌, ◌++◌, drop, hulls_below, size_at, seen, view_at}
 use Rattle.cell_library.proofs.element_boxes.boxes_of.Given as goal
 
 -- the boxes so far and those that are left are all

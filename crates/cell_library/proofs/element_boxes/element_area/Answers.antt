@@ -1,5 +1,4 @@
-use Rattle.std.proofs.Common.{sym}
-use Rattle.geo_core.proofs.SquareLaws.{rect_is}
+use Rattle.cell_library.proofs.Common.{sym, rect_is}
 use Rattle.cell_library.proofs.GridSteps.{element_is_near, element_moved, moves_to}
 use Rattle.cell_library.proofs.element_boxes.element_area.Goals as goal
 

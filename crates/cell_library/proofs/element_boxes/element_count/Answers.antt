@@ -1,10 +1,4 @@
-use Rattle.std.proofs.Common.{arith}
-use Rattle.std.proofs.lemmas.List.{drop_all}
-use Rattle.std.proofs.Common.{◌≡◌, ◌≤◌, ap, length, List, ℕ, drop}
-use Rattle.cell_tree.specs.declared.use_tables.UseBody.{UseBody}
-use Rattle.cell_library.specs.Libraries.{seen}
-use Rattle.cell_library.specs.PartCounts.{element_count}
-use Rattle.cell_library.specs.Views.{view_at}
+use Rattle.cell_library.proofs.Common.{arith, drop_all, ◌≡◌, ◌≤◌, ap, length, List, ℕ, drop, UseBody, seen, element_count, view_at}
 use Rattle.cell_library.proofs.ElementCounts.{count_on, few_elements}
 use Rattle.cell_library.proofs.element_boxes.element_count.Goals as goal
 

@@ -1,7 +1,4 @@
-use Rattle.std.proofs.Common.{◌≡◌, ◌+◌, drop}
-use Rattle.cell_library.specs.Libraries.{seen}
-use Rattle.cell_library.specs.PartCounts.{element_count}
-use Rattle.cell_library.specs.Views.{view_at}
+use Rattle.cell_library.proofs.Common.{◌≡◌, ◌+◌, drop, seen, element_count, view_at}
 use Rattle.cell_library.proofs.element_boxes.element_count.Given as goal
 
 -- what was counted and what is left are all

@@ -1,11 +1,5 @@
-use Rattle.std.proofs.Common.{◌≡◌, ◌++◌, Option, sym, ap, subst, ◌∙◌}
-use Rattle.std.specs.Prelude.{None, Some}
-use Rattle.std.proofs.lemmas.List.{append-nil}
-use Rattle.std.proofs.lemmas.Result.{on_ok_weaker}
-use Rattle.geo_core.specs.declared.squares.Rect.{Rect}
-use Rattle.cell_tree.specs.declared.sizes.Dimension.TheVariants.{Hull}
-use Rattle.cell_tree.specs.Hulls.{element_hulls}
-use Rattle.cell_tree.specs.Sizes.{IsHullInRange}
+use Rattle.cell_library.proofs.Common.{◌≡◌, ◌++◌, Option, sym, ap, subst, ◌∙◌, None, Some, append-nil, on_ok_weaker, Rect, Hull, element_hulls}
+use Rattle.cell_library.proofs.Common.{IsHullInRange}
 use Rattle.cell_library.proofs.BoxesBelow.{hull_seen}
 use Rattle.cell_library.proofs.element_boxes.push_boxes.Goals as goal
 

@@ -1,11 +1,6 @@
-use Rattle.std.proofs.Common.{◌≤◌, ◌∷◌, ◌++◌, [], List, length, map, sym, ap, ◌∙◌, arith}
-use Rattle.std.specs.Prelude.{Some}
-use Rattle.std.proofs.lemmas.List.{append-nil, length-map}
-use Rattle.std.proofs.lemmas.Simd.{map-map}
-use Rattle.geo_core.specs.declared.squares.Rect.{Rect}
+use Rattle.cell_library.proofs.Common.{◌≤◌, ◌∷◌, ◌++◌, [], List, length, map, sym, ap, ◌∙◌, arith, Some, append-nil, length-map, map-map, Rect}
+use Rattle.cell_library.proofs.Common.{displaced, displacements}
 use Rattle.geo_core.specs.Images.{rect_image}
-use Rattle.cell_tree.specs.Hulls.{displaced}
-use Rattle.cell_tree.specs.Uses.{displacements}
 use Rattle.cell_library.proofs.GridSteps.{displacement_count, images_on, images_all}
 use Rattle.cell_library.proofs.element_boxes.push_grid.Goals as goal
 

@@ -1,8 +1,5 @@
-use Rattle.std.proofs.Common.{◌≡◌, ◌++◌, map, take}
-use Rattle.std.specs.Prelude.{Some}
+use Rattle.cell_library.proofs.Common.{◌≡◌, ◌++◌, map, take, Some, displaced, displacements}
 use Rattle.geo_core.specs.Images.{rect_image}
-use Rattle.cell_tree.specs.Hulls.{displaced}
-use Rattle.cell_tree.specs.Uses.{displacements}
 use Rattle.cell_library.proofs.element_boxes.push_grid.Given as goal
 
 -- the boxes of the elements so far were added

@@ -1,8 +1,4 @@
-use Rattle.std.proofs.Common.{List, take, subst, sym, ◌+◌, ◌∷◌, ◌++◌, [], ◌≡◌, ap, ◌∙◌}
-use Rattle.std.proofs.lemmas.List.{take_more}
-use Rattle.tech_model.specs.declared.raw.Label.{Label}
-use Rattle.cell_bodies.specs.CellPaint.Paints.{layout_of}
-use Rattle.cell_library.specs.OwnBoxes.{IsOwnBox}
+use Rattle.cell_library.proofs.Common.{List, take, subst, sym, ◌+◌, ◌∷◌, ◌++◌, [], ◌≡◌, ap, ◌∙◌, take_more, Label, layout_of, IsOwnBox}
 use Rattle.cell_library.proofs.BoxLaws.{paint_box, labelled_box}
 use Rattle.cell_library.proofs.own_boxes.own_box.Goals as goal
 

@@ -1,6 +1,4 @@
-use Rattle.std.proofs.Common.{take}
-use Rattle.cell_bodies.specs.CellPaint.Paints.{layout_of}
-use Rattle.cell_library.specs.OwnBoxes.{OwnBoxIs}
+use Rattle.cell_library.proofs.Common.{take, layout_of, OwnBoxIs}
 use Rattle.cell_library.proofs.own_boxes.own_box.Given as goal
 
 -- the box holds the paint and the labels so far

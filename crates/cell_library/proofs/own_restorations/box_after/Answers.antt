@@ -1,10 +1,5 @@
-use Rattle.std.proofs.Common.{◌∙◌, length, sym, subst}
+use Rattle.cell_library.proofs.Common.{◌∙◌, length, sym, subst, Rect, layout_of, space_past, held_at, OwnBoxIs}
 use Rattle.std.specs.Prelude.{Option}
-use Rattle.geo_core.specs.declared.squares.Rect.{Rect}
-use Rattle.cell_bodies.specs.CellPaint.Paints.{layout_of}
-use Rattle.cell_bodies.proofs.CellPaint.PlaneLaws.{space_past}
-use Rattle.cell_library.specs.Contents.{held_at}
-use Rattle.cell_library.specs.OwnBoxes.{OwnBoxIs}
 use Rattle.cell_library.proofs.InnerAreas.{box_stays}
 use Rattle.cell_library.proofs.own_restorations.box_after.Goals as goal
 

@@ -1,4 +1,4 @@
-use Rattle.std.proofs.Common.{◌≡◌, Bool, true, false, ◌&&◌, rules}
+use Rattle.cell_library.proofs.Common.{◌≡◌, Bool, true, false, ◌&&◌, rules}
 use Rattle.cell_library.specs.steps.OwnRestorations.{are_between}
 use Rattle.cell_library.proofs.own_restorations.is_inside.Goals as goal
 

@@ -1,4 +1,4 @@
-use Rattle.cell_tree.specs.Trees.{cell_at}
+use Rattle.cell_library.proofs.Common.{cell_at}
 use Rattle.cell_library.proofs.OwnRestorations.{box_before_put, room_put}
 use Rattle.cell_library.proofs.own_restorations.put_back_cell.Goals as goal
 

@@ -1,7 +1,4 @@
-use Rattle.std.proofs.Common.{◌<◌, length, arith}
-use Rattle.cell_bodies.specs.CellPaint.Paints.{layout_of}
-use Rattle.cell_tree.specs.Trees.{cell_at}
-use Rattle.cell_library.specs.Contents.{held_at}
+use Rattle.cell_library.proofs.Common.{◌<◌, length, arith, layout_of, cell_at, held_at}
 use Rattle.cell_library.proofs.BoxSteps.{erased_inside, inner_lawful, own_lawful, erased_upright, upright_labels}
 use Rattle.cell_library.proofs.OwnRestorations.{box_before_erase}
 use Rattle.cell_library.proofs.painting.erase_cell.Goals as goal

@@ -1,9 +1,5 @@
-use Rattle.std.proofs.Common.{subst, sym, ap, ◌∙◌}
+use Rattle.cell_library.proofs.Common.{subst, sym, ap, ◌∙◌, Rect, IsLawfulBox, cell_at, box_with}
 use Rattle.std.specs.Prelude.{Option}
-use Rattle.geo_core.specs.declared.squares.Rect.{Rect}
-use Rattle.cell_tree.specs.Hulls.{IsLawfulBox}
-use Rattle.cell_tree.specs.Trees.{cell_at}
-use Rattle.cell_library.specs.OwnBoxes.{box_with}
 use Rattle.cell_library.proofs.BoxSteps.{box_with_lawful, own_lawful, some_lawful}
 use Rattle.cell_library.proofs.painting.fitting_box.Goals as goal
 

@@ -1,4 +1,4 @@
-use Rattle.std.specs.Prelude.{Some}
+use Rattle.cell_library.proofs.Common.{Some}
 use Rattle.cell_library.proofs.BoxSteps.{box_fits}
 use Rattle.cell_library.proofs.painting.set_box.Goals as goal
 

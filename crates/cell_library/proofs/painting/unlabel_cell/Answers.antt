@@ -1,7 +1,4 @@
-use Rattle.std.proofs.Common.{◌<◌, length, arith}
-use Rattle.cell_bodies.specs.CellPaint.Paints.{layout_of}
-use Rattle.cell_tree.specs.Trees.{cell_at}
-use Rattle.cell_library.specs.Contents.{held_at}
+use Rattle.cell_library.proofs.Common.{◌<◌, length, arith, layout_of, cell_at, held_at}
 use Rattle.cell_library.proofs.BoxSteps.{unlabelled_inside, inner_lawful, own_lawful, left_upright}
 use Rattle.cell_library.proofs.painting.unlabel_cell.Goals as goal
 

@@ -1,8 +1,5 @@
-use Rattle.std.proofs.Common.{◌≡◌, ◌+◌, ◌*◌, ◌≤◌, ℕ, suc, sym, ap, subst, ◌∙◌, arith}
-use Rattle.geo_core.specs.Reach.{MovesInReach}
-use Rattle.geo_core.proofs.ElementLaws.{columns, rows}
-use Rattle.cell_library.specs.steps.Spans.{CanBeDropped, spots_to}
-use Rattle.cell_library.specs.Spots.{AddsSpots}
+use Rattle.cell_library.proofs.Common.{◌≡◌, ◌+◌, ◌*◌, ◌≤◌, ℕ, suc, sym, ap, subst, ◌∙◌, arith, MovesInReach, columns, rows, CanBeDropped, spots_to}
+use Rattle.cell_library.proofs.Common.{AddsSpots}
 use Rattle.cell_library.proofs.GridSpots.{length-displacements, spots_to-none}
 use Rattle.cell_library.proofs.RowSpots.{gap_fits, inverted_in_reach, kept_columns, kept_rows, rows_out, shift_in_reach}
 use Rattle.cell_library.proofs.SeenAreas.{columns_seen, gap_in_reach, rows_seen, seen_is}

@@ -1,6 +1,4 @@
-use Rattle.std.proofs.Common.{◌*◌}
-use Rattle.cell_library.specs.steps.Spans.{CanBeDropped, spots_to}
-use Rattle.cell_library.specs.Spots.{AddsSpots}
+use Rattle.cell_library.proofs.Common.{◌*◌, CanBeDropped, spots_to, AddsSpots}
 use Rattle.cell_library.proofs.spots.add_elements.Given as goal
 
 abbrev pub invariant-loop-m : goal.invariant-loop-m

@@ -1,10 +1,6 @@
-use Rattle.std.proofs.Common.{◌≡◌, ◌+◌, ◌*◌, ◌++◌, ◌∷◌, [], suc, ℕ, ℤ, Some, sym, ap, subst, ◌∙◌, arith}
-use Rattle.std.specs.Prelude.{slice_get}
-use Rattle.geo_core.proofs.ElementLaws.{columns}
-use Rattle.cell_tree.specs.Uses.{displacements}
-use Rattle.cell_library.specs.declared.spots.Spot.{Spot}
-use Rattle.cell_library.specs.steps.Spans.{CanBeDropped, spot_at, spots_to}
-use Rattle.cell_library.specs.Spots.{AddsSpots}
+use Rattle.cell_library.proofs.Common.{◌≡◌, ◌+◌, ◌*◌, ◌++◌, ◌∷◌, [], suc, ℕ, ℤ, sym, ap, subst, ◌∙◌, arith, slice_get, columns, displacements, Spot}
+use Rattle.cell_library.proofs.Common.{CanBeDropped, spot_at, spots_to, AddsSpots}
+use Rattle.std.proofs.Common.{Some}
 use Rattle.cell_library.proofs.GridSpots.{row_kept, step_small}
 use Rattle.cell_library.proofs.RowSpots.{columns_dropped, displaced_as, kept, kept_columns, kept_step, place_below}
 use Rattle.cell_library.proofs.spots.add_row.Goals as goal

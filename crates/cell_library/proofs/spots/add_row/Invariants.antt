@@ -1,5 +1,4 @@
-use Rattle.std.proofs.Common.{◌+◌, ◌*◌}
-use Rattle.cell_library.specs.steps.Spans.{AddsRow}
+use Rattle.cell_library.proofs.Common.{◌+◌, ◌*◌, AddsRow}
 use Rattle.cell_library.proofs.spots.add_row.Given as goal
 
 abbrev pub invariant-loop-n : goal.invariant-loop-n

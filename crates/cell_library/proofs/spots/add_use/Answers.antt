@@ -1,11 +1,5 @@
-use Rattle.std.proofs.Common.{◌≡◌, ◌+◌, ◌*◌, ◌≤◌, ℕ, length, sym, subst, ◌∙◌, arith}
-use Rattle.cell_tree.specs.declared.sizes.Dimension.TheVariants.{Elements}
-use Rattle.cell_tree.specs.declared.limits.TheConstants.{MOST_ELEMENTS_BELOW}
-use Rattle.cell_tree.specs.Sizes.{size_at}
-use Rattle.cell_tree.specs.Uses.{displacements}
-use Rattle.cell_library.specs.declared.spots.UseSearch.{UseSearch}
-use Rattle.cell_library.specs.Spots.{spots_at, AddsSpots}
-use Rattle.cell_library.specs.steps.UsePlaces.{IsApart}
+use Rattle.cell_library.proofs.Common.{◌≡◌, ◌+◌, ◌*◌, ◌≤◌, ℕ, length, sym, subst, ◌∙◌, arith, Elements, MOST_ELEMENTS_BELOW, size_at, displacements}
+use Rattle.cell_library.proofs.Common.{UseSearch, spots_at, AddsSpots, IsApart}
 use Rattle.cell_library.proofs.RowSpots.{few_displacements, use_added, use_dropped}
 use Rattle.cell_library.proofs.VisitLaws.{hull_spans}
 use Rattle.cell_library.proofs.spots.add_use.Goals as goal

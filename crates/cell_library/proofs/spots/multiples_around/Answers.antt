@@ -1,6 +1,4 @@
-use Rattle.std.proofs.Common.{ap, ◌∙◌, arith}
-use Rattle.std.specs.Int.RustNames.{unsigned_abs}
-use Rattle.std.proofs.lemmas.Int.{ints}
+use Rattle.cell_library.proofs.Common.{ap, ◌∙◌, arith, unsigned_abs, ints}
 use Rattle.cell_library.proofs.GridSpots.{around_up, around_down}
 use Rattle.cell_library.proofs.RowSpots.{kept_shift}
 use Rattle.cell_library.proofs.spots.multiples_around.Goals as goal

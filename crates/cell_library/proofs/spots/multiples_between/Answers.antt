@@ -1,4 +1,4 @@
-use Rattle.std.proofs.Common.{arith}
+use Rattle.cell_library.proofs.Common.{arith}
 use Rattle.cell_library.proofs.RowSpots.{as_kept, kept, kept_reach, kept_shift}
 use Rattle.cell_library.proofs.spots.multiples_between.Goals as goal
 

@@ -1,5 +1,4 @@
-use Rattle.std.proofs.Common.{◌-◌, arith}
-use Rattle.std.proofs.lemmas.Int.{ints}
+use Rattle.cell_library.proofs.Common.{◌-◌, arith, ints}
 use Rattle.cell_library.proofs.GridSpots.{quotient_after}
 use Rattle.cell_library.proofs.spots.past_last.Goals as goal
 

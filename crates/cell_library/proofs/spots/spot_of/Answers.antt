@@ -1,13 +1,5 @@
-use Rattle.std.proofs.Common.{◌≡◌, ◌+◌, ◌*◌, ◌≤◌, ℤ, length, sym, ap, subst, ◌∙◌, arith}
-use Rattle.std.proofs.lemmas.Option.{slice_get_within}
-use Rattle.std.proofs.Math.Nat.{mul-le-mul_right}
-use Rattle.geo_core.specs.declared.orients.Orient.TheVariants.{R0}
-use Rattle.geo_core.specs.declared.transforms.Transform.{Transform}
-use Rattle.geo_core.specs.Images.{composed}
-use Rattle.geo_core.specs.Reach.{MovesInReach}
-use Rattle.geo_core.proofs.ImageLaws.{transform_of}
-use Rattle.cell_tree.specs.Uses.{displacements}
-use Rattle.cell_library.specs.LayoutTrees.{element_transform}
+use Rattle.cell_library.proofs.Common.{◌≡◌, ◌+◌, ◌*◌, ◌≤◌, ℤ, length, sym, ap, subst, ◌∙◌, arith, slice_get_within, mul-le-mul_right, R0, Transform}
+use Rattle.cell_library.proofs.Common.{composed, MovesInReach, transform_of, displacements, element_transform}
 use Rattle.cell_library.proofs.GridSpots.{element_moves, little_in_reach, step_in_reach, step_small}
 use Rattle.cell_library.proofs.RowSpots.{kept, kept_step}
 use Rattle.cell_library.proofs.spots.spot_of.Goals as goal

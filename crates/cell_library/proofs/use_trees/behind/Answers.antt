@@ -1,5 +1,4 @@
-use Rattle.std.proofs.Common.{arith}
-use Rattle.cell_tree.specs.declared.sizes.Dimension.TheVariants.{Elements}
+use Rattle.cell_library.proofs.Common.{arith, Elements}
 use Rattle.cell_library.proofs.use_trees.behind.Goals as goal
 
 pub overflow_cast-size : goal.overflow_cast-size

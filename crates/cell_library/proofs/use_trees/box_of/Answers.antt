@@ -1,6 +1,4 @@
-use Rattle.std.proofs.Common.{sym, subst}
-use Rattle.cell_tree.specs.declared.sizes.Dimension.TheVariants.{Hull}
-use Rattle.cell_tree.specs.Sizes.{IsHullInRange}
+use Rattle.cell_library.proofs.Common.{sym, subst, Hull, IsHullInRange}
 use Rattle.cell_library.proofs.use_trees.box_of.Goals as goal
 
 pub hull_below-requires-clause-near : goal.hull_below-requires-clause-near

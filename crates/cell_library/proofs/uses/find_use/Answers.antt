@@ -1,5 +1,4 @@
-use Rattle.std.proofs.Common.{◌∙◌, inl, inr, refl, rules}
-use Rattle.std.proofs.lemmas.Option.{slice_get_within}
+use Rattle.cell_library.proofs.Common.{◌∙◌, inl, inr, refl, rules, slice_get_within}
 use Rattle.cell_library.proofs.UseLists.{has_none}
 use Rattle.cell_library.proofs.UseSteps.{use_lawful}
 use Rattle.cell_library.proofs.uses.find_use.Goals as goal

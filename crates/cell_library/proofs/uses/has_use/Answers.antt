@@ -1,4 +1,4 @@
-use Rattle.std.proofs.Common.{sym}
+use Rattle.cell_library.proofs.Common.{sym}
 use Rattle.cell_library.proofs.UseLists.{has_none}
 use Rattle.cell_library.proofs.UseSteps.{has_at}
 use Rattle.cell_library.proofs.uses.has_use.Goals as goal

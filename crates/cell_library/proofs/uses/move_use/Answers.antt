@@ -1,13 +1,7 @@
-use Rattle.std.proofs.Common.{◌≡◌, false, true≢false, sym, ◌∙◌, subst, inr, ℤ}
-use Rattle.std.proofs.lemmas.Result.{IfErr-weaker}
-use Rattle.cell_tree.specs.Trees.{cell_at}
-use Rattle.cell_library.specs.declared.faults.LibFault.TheVariants.{OutOfRange}
-use Rattle.cell_library.specs.steps.CellEdits.{TreeRefusesMove}
-use Rattle.cell_library.specs.Edits.{moved_use}
-use Rattle.cell_library.specs.Refusals.{FirstOf, stands_in_range}
+use Rattle.cell_library.proofs.Common.{◌≡◌, false, true≢false, sym, ◌∙◌, subst, inr, ℤ, IfErr-weaker, cell_at, OutOfRange, TreeRefusesMove}
+use Rattle.cell_library.proofs.Common.{moved_use, FirstOf, stands_in_range, to_z-of_z}
 use Rattle.cell_library.proofs.FaultLaws.{not_full}
 use Rattle.cell_library.proofs.UseLists.{has_there}
-use Rattle.std.proofs.lemmas.Int.{to_z-of_z}
 use mir.Val.{of_z, to_z}
 use mir.Syntax.{w64}
 use Rattle.cell_library.proofs.uses.move_use.Goals as goal

@@ -1,12 +1,7 @@
-use Rattle.std.proofs.Common.{◌≡◌, ◌&&◌, false, true≢false, sym, ◌∙◌, inr}
-use Rattle.std.specs.Prelude.{Some}
-use Rattle.std.proofs.lemmas.Result.{IfErr-weaker}
-use Rattle.cell_bodies.specs.Numbers.{is_displacement, are_few_elements}
-use Rattle.cell_tree.specs.Trees.{cell_at}
-use Rattle.cell_library.specs.declared.faults.LibFault.TheVariants.{OutOfRange, TooMany}
+use Rattle.cell_library.proofs.Common.{◌≡◌, ◌&&◌, false, true≢false, sym, ◌∙◌, inr, Some, IfErr-weaker, is_displacement, cell_at, OutOfRange}
+use Rattle.cell_library.proofs.Common.{TooMany, TreeRefusesMove, FirstOf}
+use Rattle.cell_bodies.specs.Numbers.{are_few_elements}
 use Rattle.cell_library.specs.declared.limits.LibraryLimit.TheVariants.{Elements}
-use Rattle.cell_library.specs.steps.CellEdits.{TreeRefusesMove}
-use Rattle.cell_library.specs.Refusals.{FirstOf}
 use Rattle.cell_library.proofs.FaultLaws.{not_full}
 use Rattle.cell_library.proofs.UseLists.{has_there}
 use Rattle.cell_library.proofs.uses.place_array.Goals as goal

@@ -1,5 +1,4 @@
-use Rattle.std.proofs.Common.{◌∙◌, sym}
-use Rattle.cell_tree.specs.Trees.{cell_at}
+use Rattle.cell_library.proofs.Common.{◌∙◌, sym, cell_at}
 use Rattle.cell_library.proofs.UseLists.{none_has}
 use Rattle.cell_library.proofs.UseSteps.{single_lawful}
 use Rattle.cell_library.proofs.uses.place_use.Goals as goal

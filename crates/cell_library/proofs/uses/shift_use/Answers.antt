@@ -1,16 +1,8 @@
-use Rattle.std.proofs.Common.{◌≡◌, ◌&&◌, true, false, true≢false, sym, ◌∙◌, subst, inl, inr, refl, rules}
-use Rattle.std.specs.Prelude.{OnOk}
-use Rattle.std.proofs.lemmas.Bool.{and_parts}
-use Rattle.std.proofs.lemmas.Result.{IfErr-weaker}
-use Rattle.geo_core.specs.declared.transforms.Transform.{Transform}
-use Rattle.cell_bodies.specs.Numbers.{is_displacement}
-use Rattle.cell_tree.specs.Trees.{cell_at, with_moved, IsEdited}
-use Rattle.cell_library.specs.steps.CellEdits.{TreeRefusesMove}
+use Rattle.cell_library.proofs.Common.{◌≡◌, ◌&&◌, true, false, true≢false, sym, ◌∙◌, subst, inl, inr, refl, rules, OnOk, and_parts, IfErr-weaker}
+use Rattle.cell_library.proofs.Common.{Transform, is_displacement, cell_at, with_moved, IsEdited, TreeRefusesMove, to_z-of_z, moved_use}
 use Rattle.cell_library.proofs.FaultLaws.{on_any_ok}
 use Rattle.cell_library.proofs.UseSteps.{shift_of}
-use Rattle.std.proofs.lemmas.Int.{to_z-of_z}
 use mir.Syntax.{w64}
-use Rattle.cell_library.specs.Edits.{moved_use}
 use Rattle.cell_library.proofs.uses.shift_use.Goals as goal
 
 pub returns-then-not-stands_in_range-clause-fault : goal.returns-then-not-stands_in_range-clause-fault

@@ -1,21 +1,8 @@
-use Rattle.std.proofs.Common.{◌≡◌, ◌+◌, ◌-◌, ℕ, suc, List, sym, subst, ◌∙◌, ap, arith}
-use Rattle.std.proofs.lemmas.Option.{slice_get-get_or}
-use Rattle.geo_core.proofs.FiniteSets.Members.{In-get_or}
-use Rattle.geo_core.specs.declared.squares.Rect.{Rect}
-use Rattle.geo_core.specs.declared.transforms.Transform.{Transform}
-use Rattle.geo_core.specs.Areas.{common_rect}
-use Rattle.geo_core.specs.Covering.{IsProper}
-use Rattle.geo_core.specs.Images.{inverted, rect_image}
-use Rattle.geo_core.specs.Reach.{MovesInReach}
-use Rattle.cell_tree.specs.Trees.{Tree}
-use Rattle.cell_library.specs.declared.spots.Spot.{Spot}
-use Rattle.cell_library.specs.LayoutTrees.{tree_to}
-use Rattle.cell_library.specs.Libraries.{seen}
-use Rattle.cell_library.specs.steps.Spans.{SpansFar}
-use Rattle.cell_library.specs.Spots.{standing_at, AreSiftedBy, CanBeVisited}
-use Rattle.cell_library.specs.steps.UsePlaces.{HasRoomBelow, IsApart, spots_under}
-use Rattle.cell_library.specs.UseTrees.{AreUseTrees}
-use Rattle.cell_library.specs.steps.Visits.{HullIsAt, IsNearPart, IsNearSpot}
+use Rattle.cell_library.proofs.Common.{◌≡◌, ◌+◌, ◌-◌, ℕ, suc, List, sym, subst, ◌∙◌, ap, arith, slice_get-get_or, In-get_or, Rect, Transform}
+use Rattle.cell_library.proofs.Common.{common_rect, IsProper, inverted, MovesInReach, Tree, Spot, tree_to, seen, SpansFar, standing_at, AreSiftedBy}
+use Rattle.cell_library.proofs.Common.{CanBeVisited, HasRoomBelow, IsApart, spots_under, AreUseTrees, HullIsAt, IsNearSpot}
+use Rattle.geo_core.specs.Images.{rect_image}
+use Rattle.cell_library.specs.steps.Visits.{IsNearPart}
 use Rattle.cell_library.proofs.GridSpots.{room_in_reach}
 use Rattle.cell_library.proofs.RowSpots.{inverted_in_reach}
 use Rattle.cell_library.proofs.SpotLaws.{sifted_in, told_next, told_start}

@@ -1,9 +1,4 @@
-use Rattle.std.proofs.Common.{◌-◌}
-use Rattle.cell_library.specs.LayoutTrees.{tree_to}
-use Rattle.cell_library.specs.Libraries.{seen}
-use Rattle.cell_library.specs.Spots.{standing_at, AreToldTo}
-use Rattle.cell_library.specs.steps.UsePlaces.{spots_under}
-use Rattle.cell_library.specs.UseTrees.{AreUseTrees}
+use Rattle.cell_library.proofs.Common.{◌-◌, tree_to, seen, standing_at, AreToldTo, spots_under, AreUseTrees}
 use Rattle.cell_library.proofs.visiting.+visit_spot.Given as goal
 
 abbrev pub decreases-visit_spot : goal.decreases-visit_spot

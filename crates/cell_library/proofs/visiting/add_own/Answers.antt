@@ -1,12 +1,5 @@
-use Rattle.std.proofs.Common.{◌≡◌, ◌+◌, length, sym, subst, ◌∙◌, ap, arith}
-use Rattle.geo_core.specs.declared.squares.Rect.{Rect}
-use Rattle.geo_core.specs.Planes.{AreTilesIn}
-use Rattle.tech_model.specs.declared.raw.RawTech.{RawTech}
-use Rattle.cell_bodies.specs.LayoutModel.Layouts.{Layout, IsMaterial}
-use Rattle.cell_bodies.specs.CellPaint.Painting.{kinds_on}
-use Rattle.cell_library.specs.Libraries.{seen}
-use Rattle.cell_library.specs.Spots.{standing_at}
-use Rattle.cell_library.specs.Views.{view_at}
+use Rattle.cell_library.proofs.Common.{◌≡◌, ◌+◌, length, sym, subst, ◌∙◌, ap, arith, Rect, AreTilesIn, RawTech, Layout, IsMaterial, kinds_on, seen}
+use Rattle.cell_library.proofs.Common.{standing_at, view_at}
 use Rattle.cell_library.proofs.OwnTiles.{own_all, own_more, own_none}
 use Rattle.cell_library.proofs.VisitLaws.{hull_holds_own, plane_below}
 use Rattle.cell_library.proofs.visiting.add_own.Goals as goal

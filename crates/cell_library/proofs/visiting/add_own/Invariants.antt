@@ -1,7 +1,4 @@
-use Rattle.geo_core.specs.declared.squares.Rect.{Rect}
-use Rattle.cell_library.specs.Libraries.{seen}
-use Rattle.cell_library.specs.Spots.{standing_at, AddsOwn}
-use Rattle.cell_library.specs.steps.Visits.{IsNearSpot}
+use Rattle.cell_library.proofs.Common.{Rect, seen, standing_at, AddsOwn, IsNearSpot}
 use Rattle.cell_library.proofs.visiting.add_own.Given as goal
 
 abbrev pub invariant-loop-plane : goal.invariant-loop-plane

@@ -1,10 +1,5 @@
-use Rattle.std.proofs.Common.{List, sym, subst}
-use Rattle.geo_core.proofs.FiniteSets.Members.{In-get_or}
-use Rattle.geo_core.specs.declared.squares.Piece.{Piece}
-use Rattle.geo_core.specs.Planes.{AreTilesIn}
+use Rattle.cell_library.proofs.Common.{List, sym, subst, In-get_or, Piece, AreTilesIn, kinds_on, layout_of}
 use Rattle.geo_core.proofs.TileSets.{tile_inside}
-use Rattle.cell_bodies.specs.CellPaint.Painting.{kinds_on}
-use Rattle.cell_bodies.specs.CellPaint.Paints.{layout_of}
 use Rattle.cell_bodies.proofs.CellPaint.AreaLaws.{near_within}
 use Rattle.cell_library.proofs.visiting.add_plane.Goals as goal
 

@@ -1,5 +1,4 @@
-use Rattle.std.proofs.Common.{◌≡◌, ◌++◌, map, take}
-use Rattle.cell_library.specs.Spots.{tile_at}
+use Rattle.cell_library.proofs.Common.{◌≡◌, ◌++◌, map, take, tile_at}
 use Rattle.cell_library.proofs.visiting.add_plane.Given as goal
 
 abbrev pub invariant-loop-piece : goal.invariant-loop-piece

@@ -1,8 +1,4 @@
-use Rattle.std.proofs.Common.{◌≡◌, sym, subst, ◌∙◌}
-use Rattle.geo_core.specs.Areas.{common_rect, IsNear}
-use Rattle.geo_core.specs.Covering.{IsProper}
-use Rattle.geo_core.proofs.CoveringLaws.{IsProper-has_square}
-use Rattle.cell_library.specs.steps.Visits.{HullIsAt}
+use Rattle.cell_library.proofs.Common.{◌≡◌, sym, subst, ◌∙◌, common_rect, IsNear, IsProper, IsProper-has_square, HullIsAt}
 use Rattle.cell_library.proofs.VisitLaws.{hull_spans, near_hull}
 use Rattle.cell_library.proofs.visiting.near_part.Goals as goal
 

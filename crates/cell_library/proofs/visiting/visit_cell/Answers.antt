@@ -1,5 +1,4 @@
-use Rattle.std.proofs.Common.{◌<◌, length, arith}
-use Rattle.cell_library.specs.Libraries.{seen}
+use Rattle.cell_library.proofs.Common.{◌<◌, length, arith, seen}
 use Rattle.cell_library.proofs.PartSets.{visited_parts, visited_sets}
 use Rattle.cell_library.proofs.VisitLaws.{top_can_be_visited}
 use Rattle.cell_library.proofs.visiting.visit_cell.Goals as goal

@@ -1,5 +1,4 @@
-use Rattle.std.proofs.Common.{length}
-use Rattle.mag_text.specs.CellLibrary.Libraries.{seen}
+use Rattle.cell_loading.proofs.Common.{length, seen}
 use Rattle.mag_text.proofs.CellLibrary.ViewLaws.{count_seen}
 use Rattle.cell_loading.proofs.KnownLaws.{full_either_way}
 use Rattle.cell_loading.proofs.cell_files.is_full.Goals as goal

@@ -1,8 +1,4 @@
-use Rattle.std.proofs.Common.{◌∙◌, sym, ap, Bool}
-use Rattle.std.specs.Prelude.{◌||◌}
-use Rattle.std.specs.List.{list_any}
-use Rattle.std.specs.Str.{bytes_eq}
-use Rattle.cell_loading.specs.steps.ReadCells.{names_in}
+use Rattle.cell_loading.proofs.Common.{◌∙◌, sym, ap, Bool, ◌||◌, list_any, bytes_eq, names_in}
 use Rattle.cell_loading.proofs.KnownLaws.{known_is_among}
 use Rattle.cell_loading.proofs.cell_files.is_known.Goals as goal
 

@@ -1,7 +1,5 @@
-use Rattle.std.proofs.Common.{subst}
-use Rattle.mag_text.specs.TechModel.declared.raw.RawTech.{RawTech}
+use Rattle.cell_loading.proofs.Common.{subst, RawTech, seen}
 use Rattle.mag_text.specs.MagTexts.{IsRead}
-use Rattle.mag_text.specs.CellLibrary.Libraries.{seen}
 use Rattle.cell_loading.proofs.ReadingLaws.{body_given, body_refused, count_same, first_scale_same}
 use Rattle.cell_loading.proofs.cell_files.read_body.Goals as goal
 

@@ -1,5 +1,5 @@
 use Rattle.cell_loading.proofs.ArrivalLaws.{more_cells}
-use Rattle.std.proofs.Common.{◌∙◌}
+use Rattle.cell_loading.proofs.Common.{◌∙◌}
 use Rattle.cell_loading.proofs.loading.add_cells.Goals as goal
 
 pub returns-in-Ok-clause-arrives : goal.returns-in-Ok-clause-arrives

@@ -1,14 +1,7 @@
-use Rattle.std.proofs.Common.{◌∙◌, [], ◌∷◌, sym, ap}
+use Rattle.cell_loading.proofs.Common.{◌∙◌, [], ◌∷◌, sym, ap, GivesFetching, StopsAsking, seen, cell_named, LoadGives, cell_files, files_read}
 use Rattle.std.proofs.lemmas.Result.{IfOk-weaker}
-use Rattle.session_model.specs.Effects.{GivesFetching}
-use Rattle.session_model.specs.FileTrees.{StopsAsking}
 use Rattle.session_model.proofs.StopLaws.{refusal_told}
-use Rattle.mag_text.specs.CellLibrary.Libraries.{seen}
-use Rattle.mag_text.specs.CellLibrary.Views.{cell_named}
 use Rattle.cell_loading.specs.Arrivals.{Arrives}
-use Rattle.cell_loading.specs.Loads.{LoadGives}
-use Rattle.cell_loading.specs.Readings.{cell_files}
-use Rattle.cell_loading.specs.steps.Walks.{files_read}
 use Rattle.cell_loading.proofs.ArrivalLaws.{arrived, file_refuses}
 use Rattle.cell_loading.proofs.KnownLaws.{new_is_not_among, not_named}
 use Rattle.cell_loading.proofs.loading.load_cells.Goals as goal

@@ -1,16 +1,10 @@
-use Rattle.std.proofs.Common.{◌∙◌, ℕ, List, [], ◌∷◌, sym, ap, arith}
-use Rattle.std.specs.Prelude.{None}
-use Rattle.session_model.specs.FileTrees.{StopsAsking}
+use Rattle.cell_loading.proofs.Common.{◌∙◌, ℕ, List, [], ◌∷◌, sym, ap, arith, None, StopsAsking, after_fetches, CellBody, seen, cell_files}
+use Rattle.cell_loading.proofs.Common.{files_read, names_left}
 use Rattle.session_model.specs.steps.Stops.{kinds_of_told}
 use Rattle.session_model.proofs.FetchLaws.{calm_from, calm_then}
 use Rattle.session_model.proofs.FileTreeLaws.{stops_asking_later}
 use Rattle.session_model.proofs.StopLaws.{refusal_weaker}
-use Rattle.session_model.specs.Effects.{after_fetches}
-use Rattle.mag_text.specs.CellBodies.declared.bodies.CellBody.{CellBody}
-use Rattle.mag_text.specs.CellLibrary.Libraries.{seen}
 use Rattle.cell_loading.specs.Loads.{cause_of_load}
-use Rattle.cell_loading.specs.Readings.{cell_files}
-use Rattle.cell_loading.specs.steps.Walks.{files_read, names_left}
 use Rattle.cell_loading.proofs.ReadingLaws.{files_same, goes_on_then}
 use Rattle.cell_loading.proofs.WalkLaws.{all_are_read, all_came, none_left, so_far_at_root}
 use Rattle.cell_loading.proofs.loading.read_below.Goals as goal

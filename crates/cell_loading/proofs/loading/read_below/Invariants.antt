@@ -1,9 +1,7 @@
-use Rattle.std.proofs.Common.{◌≡◌, ◌<◌, [], ◌∷◌, length, Some}
-use Rattle.outside_io.specs.Files.{Files}
+use Rattle.cell_loading.proofs.Common.{◌≡◌, ◌<◌, [], ◌∷◌, length, Files, after_fetches, seen, files_read, names_left, AreSoFar, GoesOnToBodies}
+use Rattle.std.proofs.Common.{Some}
 use Rattle.session_model.specs.Causes.{IsCalm}
-use Rattle.session_model.specs.Effects.{after_fetches}
-use Rattle.mag_text.specs.CellLibrary.Libraries.{seen}
-use Rattle.cell_loading.specs.steps.Walks.{files_read, names_left, work_left, AreFrames, AreSoFar, GoesOnToBodies}
+use Rattle.cell_loading.specs.steps.Walks.{work_left, AreFrames}
 use Rattle.cell_loading.proofs.loading.read_below.Given as goal
 
 abbrev pub invariant-steps : goal.invariant-steps

@@ -1,8 +1,4 @@
-use Rattle.std.proofs.Common.{◌∷◌, ◌+◌, ap, ◌∙◌, sym, List, ℕ}
-use Rattle.mag_text.specs.CellBodies.declared.bodies.CellUse.{CellUse}
-use Rattle.mag_text.specs.CellLibrary.Libraries.{seen}
-use Rattle.cell_loading.specs.steps.ReadCells.{is_among}
-use Rattle.cell_loading.specs.steps.Walks.{rest_of}
+use Rattle.cell_loading.proofs.Common.{◌∷◌, ◌+◌, ap, ◌∙◌, sym, List, ℕ, CellUse, seen, is_among, rest_of}
 use Rattle.cell_loading.proofs.LeftLaws.{rest_of-next}
 use Rattle.cell_loading.proofs.walks.take_use.Goals as goal
 

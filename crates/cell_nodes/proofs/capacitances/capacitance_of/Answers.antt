@@ -1,9 +1,5 @@
-use Rattle.layout_model.specs.Technologies.{capacitance, class_of}
-use Rattle.std.proofs.Common.{◌≡◌, ◌+◌, ◌<◌, ℤ, pos, ◌+ℤ◌, List, length, map, take, get_or, to_z, of_z, ap, sym, ◌∙◌, arith}
-use Rattle.std.specs.Int.{w128}
-use Rattle.std.proofs.lemmas.Int.{ints}
-use Rattle.tech_model.specs.declared.raw.ClassRec.{ClassRec}
-use Rattle.tech_model.specs.declared.raw.RawTech.{RawTech}
+use Rattle.cell_nodes.proofs.Common.{capacitance, class_of, ◌≡◌, ◌+◌, ◌<◌, ℤ, pos, ◌+ℤ◌, List, length, map, take, get_or, to_z, of_z, ap, sym, ◌∙◌}
+use Rattle.cell_nodes.proofs.Common.{arith, w128, ints, ClassRec, RawTech}
 use Rattle.cell_nodes.proofs.CapacitanceLaws.{counted_in, capacitance_more}
 use Rattle.cell_nodes.proofs.capacitances.capacitance_of.Goals as goal
 

@@ -1,5 +1,5 @@
-use Rattle.std.proofs.Common.{◌≡◌, ◌^◌, ◌*◌, take, map, pos, ◌≤ℤ◌}
-use Rattle.layout_model.specs.Technologies.{capacitance, class_of}
+use Rattle.cell_nodes.proofs.Common.{◌≡◌, take, map, pos, capacitance, class_of}
+use Rattle.std.proofs.Common.{◌^◌, ◌*◌, ◌≤ℤ◌}
 use Rattle.cell_nodes.proofs.capacitances.capacitance_of.Given as goal
 
 abbrev pub invariant-loop-k : goal.invariant-loop-k

@@ -1,6 +1,4 @@
-use Rattle.std.proofs.Common.{◌≡◌, pos, to_z, of_z, arith}
-use Rattle.std.specs.Int.{w128}
-use Rattle.std.proofs.lemmas.Int.{ints}
+use Rattle.cell_nodes.proofs.Common.{◌≡◌, pos, to_z, of_z, arith, w128, ints}
 use Rattle.cell_nodes.proofs.CapacitanceLaws.{product_small}
 use Rattle.cell_nodes.proofs.capacitances.charge.Goals as goal
 

@@ -1,7 +1,4 @@
-use Rattle.std.proofs.Common.{◌≡◌, ℕ, ◌<◌, length}
-use Rattle.std.specs.Prelude.{slice_index}
-use Rattle.measures.specs.FloodNodes.Renumbered.{with_region}
-use Rattle.measures.specs.FloodNodes.TileShares.{tile_at}
+use Rattle.cell_nodes.proofs.Common.{◌≡◌, ℕ, ◌<◌, length, slice_index, with_region, tile_at}
 use Rattle.cell_nodes.proofs.groups.grouped.Given as goal
 
 abbrev pub invariant-loop-tile : goal.invariant-loop-tile

@@ -1,5 +1,4 @@
-use Rattle.std.proofs.Common.{take}
-use Rattle.cell_nodes.specs.steps.NodeNumbers.{AreNumbered}
+use Rattle.cell_nodes.proofs.Common.{take, AreNumbered}
 use Rattle.cell_nodes.proofs.groups.number_regions.Given as goal
 
 abbrev pub invariant-loop-region : goal.invariant-loop-region

@@ -1,12 +1,7 @@
-use Rattle.std.proofs.Common.{◌<◌, ℕ, List, length, sym, subst}
-use Rattle.std.specs.Prelude.{All, slice_index_or}
-use Rattle.ext_model.specs.declared.records.NodeRec.{NodeRec}
+use Rattle.cell_nodes.proofs.Common.{◌<◌, ℕ, List, length, sym, subst, All, NodeRec, MeasureRow, NamedNode, AreNamedNodes, AreMade, AreRecordsOf}
+use Rattle.std.specs.Prelude.{slice_index_or}
 use Rattle.cell_paint.specs.Paints.{layout_of}
-use Rattle.measures.specs.declared.tables.MeasureRow.{MeasureRow}
-use Rattle.names.specs.declared.nodes.NamedNode.{NamedNode}
-use Rattle.names.specs.NamedNodes.{AreNamedNodes}
 use Rattle.cell_nodes.specs.RegionNodes.{AreNodesOfRegions}
-use Rattle.cell_nodes.specs.steps.Records.{AreMade, AreRecordsOf}
 use Rattle.cell_nodes.proofs.GroupLaws.{regions_below}
 use Rattle.cell_nodes.proofs.RecordLaws.{tiles_typed, are_made, region_records}
 use Rattle.cell_nodes.proofs.nodes.cell_regions.Goals as goal

@@ -1,14 +1,8 @@
 -- The groups are the tiles with other numbers, so they are as sound and have the same contacts.
-use Rattle.std.proofs.Common.{◌+◌, List, length, map, sym, subst}
-use Rattle.std.specs.Prelude.{All}
+use Rattle.cell_nodes.proofs.Common.{◌+◌, List, length, map, sym, subst, All, RegionTile, Layout, AreLayoutTiles, class_of, IsSoundTile, numbers_at}
 use Rattle.std.proofs.lemmas.Result.{IfOk-weaker}
-use Rattle.layout_model.specs.declared.region_tiles.RegionTile.{RegionTile}
-use Rattle.layout_model.specs.Layouts.{Layout}
-use Rattle.layout_model.specs.RegionTiles.{AreLayoutTiles, AreMeasured}
-use Rattle.layout_model.specs.Technologies.{class_of}
+use Rattle.layout_model.specs.RegionTiles.{AreMeasured}
 use Rattle.measures.specs.FloodNodes.Renumbered.{AreRenumbered}
-use Rattle.measures.specs.FloodNodes.SoundTiles.{IsSoundTile}
-use Rattle.cell_nodes.specs.steps.NodeNumbers.{numbers_at}
 use Rattle.cell_nodes.proofs.GroupLaws.{groups_sound}
 use Rattle.cell_nodes.proofs.nodes.node_measures.Goals as goal
 

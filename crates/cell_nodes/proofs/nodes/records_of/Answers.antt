@@ -1,9 +1,5 @@
-use Rattle.std.proofs.Common.{◌≡◌, ◌+◌, ℤ, List, length, [], ◌∷◌, ◌∙◌, ap, subst, arith}
+use Rattle.cell_nodes.proofs.Common.{◌≡◌, ◌+◌, ℤ, List, length, [], ◌∷◌, ◌∙◌, ap, subst, arith, NodeRec, MeasureRow, NamedNode, IsRecordOf, row_at}
 use Rattle.std.proofs.lemmas.List.{get_or_default, length-append}
-use Rattle.ext_model.specs.declared.records.NodeRec.{NodeRec}
-use Rattle.measures.specs.declared.tables.MeasureRow.{MeasureRow}
-use Rattle.names.specs.declared.nodes.NamedNode.{NamedNode}
-use Rattle.cell_nodes.specs.steps.Records.{IsRecordOf, row_at}
 use Rattle.cell_nodes.proofs.RecordLaws.{records_more}
 use Rattle.cell_nodes.proofs.nodes.records_of.Goals as goal
 

@@ -1,7 +1,4 @@
-use Rattle.std.proofs.Common.{◌≡◌, ◌<◌, ℕ, length, get_or}
-use Rattle.ext_model.specs.declared.records.NodeRec.{NodeRec}
-use Rattle.names.specs.declared.nodes.NamedNode.{NamedNode}
-use Rattle.cell_nodes.specs.steps.Records.{IsRecordOf, row_at}
+use Rattle.cell_nodes.proofs.Common.{◌≡◌, ◌<◌, ℕ, length, get_or, NodeRec, NamedNode, IsRecordOf, row_at}
 use Rattle.cell_nodes.proofs.nodes.records_of.Given as goal
 
 abbrev pub invariant-loop-k : goal.invariant-loop-k

@@ -1,9 +1,5 @@
 -- All paint lies within the range, so what is seen there is the paint's layout.
-use Rattle.std.proofs.Common.{◌≤◌, length, sym, subst, arith}
-use Rattle.tech_model.specs.declared.limits.TheConstants.{MOST_PLANES}
-use Rattle.tech_model.specs.Types.{connects}
-use Rattle.layout_model.specs.Layouts.{Layout}
-use Rattle.layout_model.specs.RegionTiles.{AreRegions}
+use Rattle.cell_nodes.proofs.Common.{◌≤◌, length, sym, subst, arith, MOST_PLANES, connects, Layout, AreRegions}
 use Rattle.cell_paint.proofs.PaintTypes.{paint_has_types, paint_types}
 use Rattle.cell_nodes.proofs.PaintLaws.{all_seen, paint_is_near}
 use Rattle.cell_nodes.proofs.nodes.regions_of.Goals as goal

@@ -1,4 +1,4 @@
-use Rattle.std.proofs.Common.{◌≡◌, take}
+use Rattle.cell_nodes.proofs.Common.{◌≡◌, take}
 use Rattle.cell_nodes.proofs.records.copies.Given as goal
 
 abbrev pub invariant-loop-name : goal.invariant-loop-name

@@ -1,8 +1,5 @@
-use Rattle.std.proofs.Common.{refl}
+use Rattle.cell_paint.proofs.Common.{refl, kind_after, kinds_on, layout_on}
 use Rattle.tech_model.specs.Columns.{brushed_column}
-use Rattle.cell_paint.specs.steps.Changes.{kind_after}
-use Rattle.cell_paint.specs.Painting.{kinds_on}
-use Rattle.cell_paint.specs.Paints.{layout_on}
 use Rattle.cell_paint.proofs.ChangeLaws.{none_known}
 use Rattle.cell_paint.proofs.changes.changed.Goals as goal
 

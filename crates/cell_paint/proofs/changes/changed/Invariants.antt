@@ -1,9 +1,6 @@
 -- Of the pieces below the index those that change are found, and what is known of types is right.
-use Rattle.std.proofs.Common.{◌≡◌, length, take}
+use Rattle.cell_paint.proofs.Common.{◌≡◌, length, take, kind_after, AreKnown, changed_pieces, kinds_on, layout_on}
 use Rattle.tech_model.specs.Columns.{brushed_column}
-use Rattle.cell_paint.specs.steps.Changes.{kind_after, AreKnown, changed_pieces}
-use Rattle.cell_paint.specs.Painting.{kinds_on}
-use Rattle.cell_paint.specs.Paints.{layout_on}
 use Rattle.cell_paint.proofs.changes.changed.Given as goal
 
 abbrev pub invariant-loop-piece : goal.invariant-loop-piece

@@ -1,15 +1,6 @@
-use Rattle.std.proofs.Common.{◌≡◌, ◌<◌, ◌∙◌, List, sym, ap, subst, arith}
-use Rattle.std.specs.Prelude.{All}
-use Rattle.geo_core.specs.declared.squares.Square.{Square}
-use Rattle.geo_core.specs.declared.squares.Piece.{Piece}
-use Rattle.geo_core.specs.Areas.{corner_of}
-use Rattle.tech_model.specs.declared.limits.TheConstants.{MOST_PLANES}
-use Rattle.tech_model.specs.declared.raw.TypeId.{TypeId}
+use Rattle.cell_paint.proofs.Common.{◌≡◌, ◌<◌, ◌∙◌, List, sym, ap, subst, arith, All, Square, Piece, corner_of, MOST_PLANES, TypeId, kind_after}
+use Rattle.cell_paint.proofs.Common.{changed_pieces, kinds_on, with_columns_where, is_in_some, layout_on, AreChanges}
 use Rattle.tech_model.specs.Columns.{brushed_column}
-use Rattle.cell_paint.specs.steps.Changes.{kind_after, changed_pieces}
-use Rattle.cell_paint.specs.Painting.{kinds_on, with_columns_where, is_in_some}
-use Rattle.cell_paint.specs.Paints.{layout_on}
-use Rattle.cell_paint.specs.steps.Settings.{AreChanges}
 use Rattle.cell_paint.proofs.ChangeLaws.{corners_even, found_changes, pieces_on_plane}
 use Rattle.cell_paint.proofs.ColumnsLaws.{squares_change_alike}
 use Rattle.cell_paint.proofs.changes.changes_on.Goals as goal

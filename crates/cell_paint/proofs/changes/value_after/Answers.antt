@@ -1,10 +1,6 @@
-use Rattle.std.proofs.Common.{◌≡◌, ◌<◌, ◌∙◌, List, length, refl, sym, ap, subst, rules}
-use Rattle.tech_model.specs.declared.raw.TypeId.{TypeId}
-use Rattle.tech_model.specs.Columns.{type_on, brushed_column}
-use Rattle.tech_model.specs.ColumnForms.{IsColumn}
-use Rattle.cell_paint.specs.steps.Changes.{kind_after}
-use Rattle.cell_paint.specs.Painting.{kinds_on}
-use Rattle.cell_paint.specs.Paints.{layout_on}
+use Rattle.cell_paint.proofs.Common.{◌≡◌, ◌<◌, ◌∙◌, List, length, refl, sym, ap, subst, rules, TypeId, type_on, IsColumn, kind_after, kinds_on}
+use Rattle.cell_paint.proofs.Common.{layout_on}
+use Rattle.tech_model.specs.Columns.{brushed_column}
 use Rattle.cell_paint.proofs.ChangeLaws.{known_more}
 use Rattle.cell_paint.proofs.ColumnsLaws.{squares_change_alike}
 use Rattle.cell_paint.proofs.changes.value_after.Goals as goal

@@ -1,6 +1,5 @@
 use Rattle.tech_model.specs.Columns.{brushed_column}
-use Rattle.cell_paint.specs.Painting.{with_columns_where, is_in_some}
-use Rattle.cell_paint.specs.Paints.{layout_on}
+use Rattle.cell_paint.proofs.Common.{with_columns_where, is_in_some, layout_on}
 use Rattle.cell_paint.proofs.PaintLaws.{changes_more}
 use Rattle.cell_paint.proofs.paints.all_changes.Goals as goal
 

@@ -1,9 +1,6 @@
 -- The planes below the index have their changes.
-use Rattle.std.proofs.Common.{◌≡◌, length}
+use Rattle.cell_paint.proofs.Common.{◌≡◌, length, with_columns_where, is_in_some, layout_on, AreAllChanges}
 use Rattle.tech_model.specs.Columns.{brushed_column}
-use Rattle.cell_paint.specs.Painting.{with_columns_where, is_in_some}
-use Rattle.cell_paint.specs.Paints.{layout_on}
-use Rattle.cell_paint.specs.steps.Settings.{AreAllChanges}
 use Rattle.cell_paint.proofs.paints.all_changes.Given as goal
 
 abbrev pub invariant-loop-plane : goal.invariant-loop-plane

@@ -1,15 +1,6 @@
-use Rattle.std.proofs.Common.{◌≡◌, ◌∙◌, true, List, sym, ap, subst, rules}
-use Rattle.std.specs.Prelude.{Vec}
-use Rattle.std.specs.declared.alloc.Global.{Global}
-use Rattle.geo_core.specs.declared.squares.Square.{Square}
-use Rattle.geo_core.specs.declared.squares.Rect.{Rect}
-use Rattle.geo_core.specs.declared.squares.Piece.{Piece}
-use Rattle.geo_core.specs.Covering.{Covers}
-use Rattle.tech_model.specs.declared.raw.TypeId.{TypeId}
+use Rattle.cell_paint.proofs.Common.{◌≡◌, ◌∙◌, true, List, sym, ap, subst, rules, Vec, Global, Square, Rect, Piece, Covers, TypeId}
+use Rattle.cell_paint.proofs.Common.{with_columns_where, is_in_some, paint_range, layout_on, AreSettable, AreAllSet}
 use Rattle.tech_model.specs.Columns.{brushed_column}
-use Rattle.cell_paint.specs.Painting.{with_columns_where, is_in_some, paint_range}
-use Rattle.cell_paint.specs.Paints.{layout_on}
-use Rattle.cell_paint.specs.steps.Settings.{AreSettable, AreAllSet}
 use Rattle.cell_paint.proofs.AreaLaws.{fitting_covered}
 use Rattle.cell_paint.proofs.PaintLaws.{whole_same, all_settable, changed_alike, stroke_done}
 use Rattle.cell_paint.proofs.paints.change_planes.Goals as goal

@@ -1,4 +1,4 @@
-use Rattle.std.proofs.Common.{◌∙◌, sym}
+use Rattle.cell_paint.proofs.Common.{◌∙◌, sym}
 use Rattle.cell_paint.proofs.AreaLaws.{fault_at, fits_more}
 use Rattle.cell_paint.proofs.paints.check_areas.Goals as goal
 

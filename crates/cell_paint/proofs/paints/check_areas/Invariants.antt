@@ -1,7 +1,5 @@
 -- Paint may go over the areas below the index.
-use Rattle.std.proofs.Common.{◌≡◌, take}
-use Rattle.std.specs.Prelude.{None}
-use Rattle.cell_paint.specs.Painting.{first_area_fault}
+use Rattle.cell_paint.proofs.Common.{◌≡◌, take, None, first_area_fault}
 use Rattle.cell_paint.proofs.paints.check_areas.Given as goal
 
 abbrev pub invariant-loop-area : goal.invariant-loop-area

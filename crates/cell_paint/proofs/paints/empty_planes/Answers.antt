@@ -1,6 +1,5 @@
-use Rattle.std.proofs.Common.{◌≡◌, ◌∷◌, ◌++◌, ◌∙◌, ◌+◌, ℕ, List, [], length, length-append, sym, ap, subst, arith}
-use Rattle.layout_model.specs.Places.{Place}
-use Rattle.cell_paint.specs.Paints.{PlaneValue, layout_on}
+use Rattle.cell_paint.proofs.Common.{◌≡◌, ◌∷◌, ◌++◌, ◌∙◌, ◌+◌, ℕ, List, [], length, length-append, sym, ap, subst, arith, Place, PlaneValue}
+use Rattle.cell_paint.proofs.Common.{layout_on}
 use Rattle.cell_paint.proofs.PlaneLaws.{space_past, empty_more}
 use Rattle.cell_paint.proofs.paints.empty_planes.Goals as goal
 

@@ -1,7 +1,5 @@
 -- There are so many planes, and all is space.
-use Rattle.std.proofs.Common.{◌≡◌, length}
-use Rattle.layout_model.specs.Places.{Place}
-use Rattle.cell_paint.specs.Paints.{layout_on}
+use Rattle.cell_paint.proofs.Common.{◌≡◌, length, Place, layout_on}
 use Rattle.cell_paint.proofs.paints.empty_planes.Given as goal
 
 abbrev pub invariant-loop : goal.invariant-loop

@@ -1,4 +1,4 @@
-use Rattle.std.proofs.Common.{◌≡◌, Bool, true, false, ◌&&◌, rules}
+use Rattle.cell_paint.proofs.Common.{◌≡◌, Bool, true, false, ◌&&◌, rules}
 use Rattle.cell_paint.specs.Painting.{is_coordinate}
 use Rattle.cell_paint.proofs.paints.is_in_range.Goals as goal
 

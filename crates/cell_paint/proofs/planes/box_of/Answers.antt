@@ -1,10 +1,6 @@
-use Rattle.std.proofs.Common.{◌≡◌, ◌+◌, ◌<◌, ℕ, length, sym, ◌∙◌, subst, arith, rules, Option, Some}
-use Rattle.std.proofs.lemmas.List.{get_or_default}
-use Rattle.geo_core.specs.declared.squares.Square.{Square}
-use Rattle.geo_core.specs.declared.squares.Rect.{Rect}
-use Rattle.geo_core.specs.Areas.{joined_rect}
-use Rattle.geo_core.specs.Planes.{IsBox}
-use Rattle.cell_paint.specs.Paints.{PlaneValue, number_on, no_plane}
+use Rattle.cell_paint.proofs.Common.{◌≡◌, ◌+◌, ◌<◌, ℕ, length, sym, ◌∙◌, subst, arith, rules, Option, get_or_default, Square, Rect, joined_rect}
+use Rattle.cell_paint.proofs.Common.{IsBox, PlaneValue, number_on, no_plane}
+use Rattle.std.proofs.Common.{Some}
 use Rattle.cell_paint.proofs.PlaneLaws.{plane_at, BoxBelow, box_kept, box_begun, box_grown, box_whole}
 use Rattle.cell_paint.proofs.planes.box_of.Goals as goal
 use Rattle.cell_paint.proofs.planes.box_of.Goals.{in-Some+in-Some-found, in-Some+in-None, in_default}

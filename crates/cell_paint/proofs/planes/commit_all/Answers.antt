@@ -1,11 +1,5 @@
-use Rattle.std.proofs.Common.{◌<◌, List, length, sym, ◌∙◌, subst, arith}
-use Rattle.std.specs.Prelude.{All}
-use Rattle.std.proofs.lemmas.List.{get_or_default}
-use Rattle.geo_core.specs.declared.squares.Piece.{Piece}
-use Rattle.geo_core.specs.Areas.{IsNear}
-use Rattle.geo_core.specs.Covering.{IsProper}
-use Rattle.geo_core.specs.Planes.{AreSet}
-use Rattle.cell_paint.specs.Paints.{PlaneValue, number_on, no_plane}
+use Rattle.cell_paint.proofs.Common.{◌<◌, List, length, sym, ◌∙◌, subst, arith, All, get_or_default, Piece, IsNear, IsProper, AreSet, PlaneValue}
+use Rattle.cell_paint.proofs.Common.{number_on, no_plane}
 use Rattle.cell_paint.proofs.PlaneLaws.{plane_at, settable_at, pieces_read, committed_more}
 use Rattle.cell_paint.proofs.planes.commit_all.Goals as goal
 

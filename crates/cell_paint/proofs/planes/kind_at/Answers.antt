@@ -1,4 +1,4 @@
-use Rattle.std.proofs.Common.{◌≤◌, length, sym, rules}
+use Rattle.cell_paint.proofs.Common.{◌≤◌, length, sym, rules}
 use Rattle.cell_paint.proofs.PlaneLaws.{space_past}
 use Rattle.cell_paint.proofs.planes.kind_at.Goals as goal
 

@@ -1,11 +1,6 @@
-use Rattle.std.proofs.Common.{◌<◌, List, length, sym, ◌∙◌, subst, arith}
-use Rattle.std.specs.Prelude.{All, AllPairs}
-use Rattle.std.proofs.lemmas.List.{get_or_default}
-use Rattle.geo_core.specs.declared.squares.Piece.{Piece}
-use Rattle.geo_core.specs.Areas.{AreDisjoint, IsNear}
-use Rattle.geo_core.specs.Covering.{IsProper}
-use Rattle.geo_core.specs.Planes.{AreSame}
-use Rattle.cell_paint.specs.Paints.{PlaneValue, number_on, no_plane, IsReadyFor}
+use Rattle.cell_paint.proofs.Common.{◌<◌, List, length, sym, ◌∙◌, subst, arith, All, get_or_default, Piece, AreDisjoint, IsNear, IsProper, AreSame}
+use Rattle.cell_paint.proofs.Common.{PlaneValue, number_on, no_plane, IsReadyFor}
+use Rattle.std.specs.Prelude.{AllPairs}
 use Rattle.cell_paint.proofs.PlaneLaws.{settable_at, pieces_read, reserved_more}
 use Rattle.cell_paint.proofs.planes.reserve_all.Goals as goal
 

@@ -1,5 +1,5 @@
 -- The tiles below the index are added.
-use Rattle.std.proofs.Common.{◌≡◌, ◌++◌, map, take}
+use Rattle.cell_paint.proofs.Common.{◌≡◌, ◌++◌, map, take}
 use Rattle.cell_paint.proofs.restorations.add_numbered.Given as goal
 
 abbrev pub invariant-loop-tile : goal.invariant-loop-tile

@@ -1,5 +1,4 @@
-use Rattle.layout_model.specs.Layouts.{Layout}
-use Rattle.cell_paint.specs.Pieces.{with_pieces}
+use Rattle.cell_paint.proofs.Common.{Layout, with_pieces}
 use Rattle.cell_paint.proofs.PaintLaws.{changes_more}
 use Rattle.cell_paint.proofs.PieceLaws.{restored_changes, standing_settable}
 use Rattle.cell_paint.proofs.restorations.all_restored.Goals as goal

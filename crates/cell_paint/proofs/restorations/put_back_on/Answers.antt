@@ -1,10 +1,4 @@
-use Rattle.std.proofs.Common.{◌∙◌, List, sym, subst, rules}
-use Rattle.std.specs.Prelude.{Vec}
-use Rattle.std.specs.declared.alloc.Global.{Global}
-use Rattle.geo_core.specs.declared.squares.Piece.{Piece}
-use Rattle.cell_paint.specs.Paints.{layout_on}
-use Rattle.cell_paint.specs.Pieces.{with_pieces}
-use Rattle.cell_paint.specs.steps.Settings.{AreSettable, AreAllSet}
+use Rattle.cell_paint.proofs.Common.{◌∙◌, List, sym, subst, rules, Vec, Global, Piece, layout_on, with_pieces, AreSettable, AreAllSet}
 use Rattle.cell_paint.proofs.PaintLaws.{all_settable}
 use Rattle.cell_paint.proofs.PieceLaws.{put_done}
 use Rattle.cell_paint.proofs.restorations.put_back_on.Goals as goal

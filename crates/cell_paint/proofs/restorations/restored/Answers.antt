@@ -1,10 +1,4 @@
-use Rattle.std.proofs.Common.{◌≡◌, ◌∷◌, ◌∙◌, ℕ, List, [], subst}
-use Rattle.geo_core.specs.declared.squares.Square.{Square}
-use Rattle.geo_core.specs.declared.squares.Piece.{Piece}
-use Rattle.geo_core.specs.Planes.{AreSet}
-use Rattle.tile_plane.specs.Listings.{ArePiecesIn}
-use Rattle.cell_paint.specs.Paints.{number_on}
-use Rattle.cell_paint.specs.Pieces.{pieces_on}
+use Rattle.cell_paint.proofs.Common.{◌≡◌, ◌∷◌, ◌∙◌, ℕ, List, [], subst, Square, Piece, AreSet, ArePiecesIn, number_on, pieces_on}
 use Rattle.cell_paint.proofs.PieceLaws.{set_on_space}
 use Rattle.cell_paint.proofs.restorations.restored.Goals as goal
 

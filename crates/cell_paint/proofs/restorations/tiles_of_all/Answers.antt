@@ -1,9 +1,5 @@
-use Rattle.std.proofs.Common.{◌≡◌, ◌∙◌, ◌++◌, List, map, ap, subst, arith}
-use Rattle.std.proofs.lemmas.List.{get_or_default}
-use Rattle.geo_core.specs.declared.squares.Piece.{Piece}
-use Rattle.geo_core.specs.Planes.{AreTilesIn}
-use Rattle.cell_paint.specs.Painting.{kinds_on}
-use Rattle.cell_paint.specs.Paints.{PlaneValue, number_on, no_plane, layout_on}
+use Rattle.cell_paint.proofs.Common.{◌≡◌, ◌∙◌, ◌++◌, List, map, ap, subst, arith, get_or_default, Piece, AreTilesIn, kinds_on, PlaneValue, number_on}
+use Rattle.cell_paint.proofs.Common.{no_plane, layout_on}
 use Rattle.cell_paint.proofs.PieceLaws.{all_taken, taken_more}
 use Rattle.cell_paint.proofs.PlaneLaws.{space_past}
 use Rattle.cell_paint.proofs.restorations.tiles_of_all.Goals as goal

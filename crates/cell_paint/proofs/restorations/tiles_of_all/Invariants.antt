@@ -1,5 +1,5 @@
 -- The tiles of the planes below the index are taken.
-use Rattle.cell_paint.specs.Paints.{layout_on}
+use Rattle.cell_paint.proofs.Common.{layout_on}
 use Rattle.cell_paint.proofs.PieceLaws.{AreTakenBelow}
 use Rattle.cell_paint.proofs.restorations.tiles_of_all.Given as goal
 

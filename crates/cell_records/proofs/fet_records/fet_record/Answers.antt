@@ -1,7 +1,4 @@
-use Rattle.std.proofs.Common.{◌<◌, ℕ, ℤ, List, length, sym, subst}
-use Rattle.std.specs.Prelude.{All}
-use Rattle.finite_sets.proofs.Searches.{All-from_In}
-use Rattle.cell_records.specs.steps.Joined.{AreJoined}
+use Rattle.cell_records.proofs.Common.{◌<◌, ℕ, ℤ, List, length, sym, subst, All, All-from_In, AreJoined}
 use Rattle.cell_records.proofs.JoinedLaws.{joined_below}
 use Rattle.cell_records.proofs.fet_records.fet_record.Goals as goal
 

@@ -1,8 +1,5 @@
-use Rattle.std.proofs.Common.{◌+◌, List, [], ◌∷◌, length, ◌∙◌, ap, subst}
+use Rattle.cell_records.proofs.Common.{◌+◌, List, [], ◌∷◌, length, ◌∙◌, ap, subst, FetRec, Fet, IsRecordOfFet}
 use Rattle.std.proofs.lemmas.List.{length-append}
-use Rattle.ext_model.specs.declared.records.FetRec.{FetRec}
-use Rattle.fet_regions.specs.declared.transistors.Fet.{Fet}
-use Rattle.cell_records.specs.steps.FetsOfRegions.{IsRecordOfFet}
 use Rattle.cell_records.proofs.RecordLists.{made_more}
 use Rattle.cell_records.proofs.fet_records.fet_records.Goals as goal
 

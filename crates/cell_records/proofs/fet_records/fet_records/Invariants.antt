@@ -1,7 +1,4 @@
-use Rattle.std.proofs.Common.{◌≡◌, ◌<◌, ℕ, length, get_or}
-use Rattle.ext_model.specs.declared.records.FetRec.{FetRec}
-use Rattle.fet_regions.specs.declared.transistors.Fet.{Fet}
-use Rattle.cell_records.specs.steps.FetsOfRegions.{IsRecordOfFet}
+use Rattle.cell_records.proofs.Common.{◌≡◌, ◌<◌, ℕ, length, get_or, FetRec, Fet, IsRecordOfFet}
 use Rattle.cell_records.proofs.fet_records.fet_records.Given as goal
 
 abbrev pub invariant-loop-fet : goal.invariant-loop-fet

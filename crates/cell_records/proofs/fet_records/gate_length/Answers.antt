@@ -1,8 +1,5 @@
-use Rattle.std.proofs.Common.{◌≡◌, ◌+◌, ◌<◌, ℕ, ℤ, pos, ◌-ℤ◌, ◌<ℤ◌, true, List, length, get_or, take, to_z, of_z, arith, rules, ◌∙◌, ap, subst}
-use Rattle.std.specs.Int.{w128}
-use Rattle.std.proofs.lemmas.Int.{ints, to_z-of_z}
-use Rattle.finite_sets.specs.Total.{sum_on}
-use Rattle.finite_sets.proofs.Searches.{All-In}
+use Rattle.cell_records.proofs.Common.{◌≡◌, ◌+◌, ◌<◌, ℕ, ℤ, pos, ◌-ℤ◌, ◌<ℤ◌, true, List, length, get_or, take, to_z, of_z, arith, rules, ◌∙◌, ap}
+use Rattle.cell_records.proofs.Common.{subst, w128, ints, to_z-of_z, sum_on, All-In}
 use Rattle.cell_records.proofs.JoinedLaws.{part_bounds, sum_more}
 use Rattle.cell_records.proofs.fet_records.gate_length.Goals as goal
 

@@ -1,5 +1,4 @@
-use Rattle.std.proofs.Common.{◌≡◌, ℕ, ℤ, ◌-ℤ◌, take}
-use Rattle.finite_sets.specs.Total.{sum_on}
+use Rattle.cell_records.proofs.Common.{◌≡◌, ℕ, ℤ, ◌-ℤ◌, take, sum_on}
 use Rattle.cell_records.proofs.fet_records.gate_length.Given as goal
 
 abbrev pub invariant-loop-terminal : goal.invariant-loop-terminal

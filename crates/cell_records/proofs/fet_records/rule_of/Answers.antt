@@ -1,9 +1,8 @@
-use Rattle.std.proofs.Common.{◌≡◌, eqb, Some, None, sym, ◌∙◌, ap, find}
+use Rattle.cell_records.proofs.Common.{◌≡◌, sym, ◌∙◌, ap, false≢true, same_from_test}
+use Rattle.std.proofs.Common.{eqb, Some, None, find}
 use Rattle.std.specs.Option.{option_copied}
-use Rattle.std.proofs.lemmas.Bool.{false≢true}
 use Rattle.finite_sets.proofs.Searches.{find-In, find-passes, find-none, list_any-source}
 use Rattle.tech_model.specs.declared.raw.FetRule.{FetRule}
-use Rattle.fet_regions.proofs.FloodNodes.StackLaws.{same_from_test}
 use Rattle.cell_records.proofs.fet_records.rule_of.Goals as goal
 
 pub unreachable-requires : goal.unreachable-requires

@@ -1,5 +1,4 @@
-use Rattle.std.proofs.Common.{◌≡◌, map, take}
-use Rattle.cell_records.specs.steps.FetsOfRegions.{term_of}
+use Rattle.cell_records.proofs.Common.{◌≡◌, map, take, term_of}
 use Rattle.cell_records.proofs.fet_records.terminals_of.Given as goal
 
 abbrev pub invariant-loop-terminal : goal.invariant-loop-terminal

@@ -1,6 +1,6 @@
-use Rattle.std.proofs.Common.{◌≡◌, ℕ, ℤ, List, Vec, Global, sym, subst}
+use Rattle.cell_records.proofs.Common.{◌≡◌, ℕ, ℤ, List, sym, subst, AreJoined}
+use Rattle.std.proofs.Common.{Vec, Global}
 use Rattle.std.proofs.lemmas.Result.{IfOk-weaker}
-use Rattle.cell_records.specs.steps.Joined.{AreJoined}
 use Rattle.cell_records.proofs.JoinedLaws.{joined_entries}
 use Rattle.cell_records.proofs.joining.joined.Goals as goal
 

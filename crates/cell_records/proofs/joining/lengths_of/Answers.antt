@@ -1,11 +1,6 @@
-use Rattle.std.proofs.Common.{◌≡◌, ℕ, ℤ, pos, ◌+ℤ◌, Bool, get_or, take, to_z, of_z, rules, sym, ◌∙◌, ap, cond}
-use Rattle.std.specs.BTreeMap.{get}
-use Rattle.std.specs.Int.{w128}
-use Rattle.std.specs.Ordering.{nat_cmp}
-use Rattle.std.specs.Prelude.{Option, Some, unwrap_or, slice_index}
-use Rattle.std.proofs.lemmas.Int.{to_z-of_z}
-use Rattle.finite_sets.specs.Total.{sum_on}
-use Rattle.cell_records.specs.steps.Joined.{length_in}
+use Rattle.cell_records.proofs.Common.{◌≡◌, ℕ, ℤ, pos, ◌+ℤ◌, Bool, get_or, take, to_z, of_z, rules, sym, ◌∙◌, ap, cond, get, w128, nat_cmp, Some}
+use Rattle.cell_records.proofs.Common.{slice_index, to_z-of_z, sum_on, length_in}
+use Rattle.std.specs.Prelude.{Option, unwrap_or}
 use Rattle.cell_records.proofs.JoinedLaws.{told_or, told_more, part_fits, is_key}
 use Rattle.cell_records.proofs.joining.lengths_of.Goals as goal
 

@@ -1,7 +1,4 @@
-use Rattle.std.proofs.Common.{◌≡◌, ℕ, take}
-use Rattle.std.specs.BTreeMap.{get}
-use Rattle.std.specs.Ordering.{nat_cmp}
-use Rattle.cell_records.specs.steps.Joined.{length_told}
+use Rattle.cell_records.proofs.Common.{◌≡◌, ℕ, take, get, nat_cmp, length_told}
 use Rattle.cell_records.proofs.joining.lengths_of.Given as goal
 
 abbrev pub invariant-loop-terminal : goal.invariant-loop-terminal

@@ -1,25 +1,13 @@
-use Rattle.std.proofs.Common.{◌≡◌, ℕ, List, length, map, sym, subst, arith}
-use Rattle.std.specs.Prelude.{All}
-use Rattle.tech_model.specs.declared.raw.RawTech.{RawTech}
+use Rattle.cell_records.proofs.Common.{◌≡◌, ℕ, List, length, map, sym, subst, arith, All, RawTech, IsWellFormed, FetRec, NodeRec, HasTypesOf}
+use Rattle.cell_records.proofs.Common.{IsMaterial, Place, AreTransistors, IsNearPlace, Fet, transistor_of, AreFetRecords, IsNodeBefore, IsSmallFet}
+use Rattle.cell_records.proofs.Common.{AreRecordsOfFets}
 use Rattle.tech_model.specs.declared.raw.TypeRec.{TypeRec}
-use Rattle.tech_model.specs.WellFormed.{IsWellFormed}
-use Rattle.ext_model.specs.declared.records.FetRec.{FetRec}
-use Rattle.ext_model.specs.declared.records.NodeRec.{NodeRec}
-use Rattle.cell_paint.specs.LayoutModel.LayerTypes.{HasTypesOf}
-use Rattle.cell_paint.specs.LayoutModel.Layouts.{IsMaterial}
-use Rattle.cell_paint.specs.LayoutModel.Places.{Place}
 use Rattle.cell_paint.specs.LayoutModel.RegionTiles.{IsInRegion}
-use Rattle.cell_paint.specs.LayoutModel.Transistors.{AreTransistors}
-use Rattle.fet_regions.specs.Measures.Bounds.{IsNearPlace}
 use Rattle.cell_paint.specs.Paints.{Paint, layout_of, IsSoundPaint}
 use Rattle.cell_paint.proofs.PaintTypes.{paint_has_types}
-use Rattle.fet_regions.specs.declared.transistors.Fet.{Fet}
-use Rattle.fet_regions.specs.Transistors.{transistor_of}
 use Rattle.own_record_laws.specs.CellNodes.NodeRecords.{AreNodeRecords}
 use Rattle.own_record_laws.proofs.CellNodes.PaintLaws.{paint_is_near}
-use Rattle.own_record_laws.specs.TreeRecords.FetRecords.{AreFetRecords, IsNodeBefore}
 use Rattle.cell_records.specs.steps.Exts.{IsExtOf}
-use Rattle.cell_records.specs.steps.FetsOfRegions.{IsSmallFet, AreRecordsOfFets}
 use Rattle.cell_records.proofs.OwnFets.{fets_are_small, own_fets}
 use Rattle.cell_records.proofs.records.cell_record.Goals as goal
 

@@ -1,8 +1,6 @@
-use Rattle.std.proofs.Common.{◌≡◌, suc, ◌<◌, ◌≤◌, length, slice_get, Some, true, [], ◌∷◌, arith, refl, ◌∙◌, length-set, length-append}
+use Rattle.cell_tree.proofs.Common.{◌≡◌, suc, ◌<◌, ◌≤◌, length, slice_get, Some, true, [], ◌∷◌, arith, refl, ◌∙◌, users_of, IsUserOf, size_at}
+use Rattle.std.proofs.Common.{length-set, length-append}
 use Rattle.std.proofs.lemmas.Option.{get_or_from_slice_get}
-use Rattle.cell_tree.specs.Cells.{users_of}
-use Rattle.cell_tree.specs.Above.{IsUserOf}
-use Rattle.cell_tree.specs.Sizes.{size_at}
 use Rattle.cell_tree.proofs.AboveLaws.{AreFound, AreFound-next, Adds-none, Adds-cell, AllStandBut-Adds, AllStandBut-mark, AllStandBut-higher, ComesAfterUsers-cell, unseen-set, StandsIn-end, found_all, EndsWith-cell}
 use Rattle.cell_tree.proofs.above.+above.Goals as goal
 

@@ -1,5 +1,4 @@
-use Rattle.std.proofs.Common.{◌+◌, ◌-◌, ◌*◌, ◌≤◌, ◌≡◌, length, vec_capacity}
-use Rattle.cell_tree.specs.Sizes.{size_at}
+use Rattle.cell_tree.proofs.Common.{◌+◌, ◌-◌, ◌*◌, ◌≤◌, ◌≡◌, length, vec_capacity, size_at}
 use Rattle.cell_tree.proofs.AboveLaws.{AreFound}
 use Rattle.cell_tree.proofs.above.+above.Given as goal
 

@@ -1,10 +1,5 @@
-use Rattle.std.proofs.Common.{List, length, sym, ap, subst, ◌∙◌, arith}
-use Rattle.cell_tree.specs.declared.cells.TreeCell.{TreeCell}
-use Rattle.cell_tree.specs.Cells.{states}
-use Rattle.cell_tree.specs.Whole.{IsWhole, tree_of}
-use Rattle.cell_tree.specs.Additions.{AreAdded, new_states}
-use Rattle.cell_tree.specs.Arrivals.{IsNewOrder}
-use Rattle.std.proofs.lemmas.List.{with_items_is}
+use Rattle.cell_tree.proofs.Common.{List, length, sym, ap, subst, ◌∙◌, arith, TreeCell, states, IsWhole, tree_of, AreAdded, new_states, IsNewOrder}
+use Rattle.cell_tree.proofs.Common.{with_items_is}
 use Rattle.cell_tree.proofs.TableLaws.{on_ok_both}
 use Rattle.cell_tree.proofs.ComeLaws.{all_lawful, old_children, old_acyclic, may_be_sized, come_whole, come_added}
 use Rattle.cell_tree.proofs.additions.add_all.Goals as goal

@@ -1,5 +1,4 @@
-use Rattle.std.proofs.Common.{arith}
-use Rattle.cell_tree.specs.Cells.{states}
+use Rattle.cell_tree.proofs.Common.{arith, states}
 use Rattle.cell_tree.proofs.TellLaws.{child_within, forgotten_next}
 use Rattle.cell_tree.proofs.additions.forget.Goals as goal
 

@@ -1,4 +1,4 @@
-use Rattle.std.proofs.Common.{arith}
+use Rattle.cell_tree.proofs.Common.{arith}
 use Rattle.cell_tree.proofs.TellLaws.{forgotten_more, forgotten_all}
 use Rattle.cell_tree.proofs.additions.forget_all.Goals as goal
 

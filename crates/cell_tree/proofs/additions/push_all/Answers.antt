@@ -1,10 +1,7 @@
-use Rattle.std.proofs.Common.{◌≡◌, suc, List, ◌∷◌, ◌++◌, All, sym, ap, subst, ◌∙◌, arith}
-use Rattle.cell_tree.specs.declared.cells.TreeCell.{TreeCell}
+use Rattle.cell_tree.proofs.Common.{◌≡◌, suc, List, ◌∷◌, ◌++◌, All, sym, ap, subst, ◌∙◌, arith, TreeCell, states, IsLawfulCell, new_states}
+use Rattle.cell_tree.proofs.Common.{AreBehind}
 use Rattle.cell_tree.specs.declared.new_cells.NewCell.{NewCell}
-use Rattle.cell_tree.specs.Cells.{states}
-use Rattle.cell_tree.specs.Trees.{IsLawfulCell}
-use Rattle.cell_tree.specs.Additions.{new_state, new_states}
-use Rattle.cell_tree.specs.Arrivals.{AreBehind}
+use Rattle.cell_tree.specs.Additions.{new_state}
 use Rattle.cell_tree.proofs.PushLaws.{behind_none, behind_next, come_next}
 use Rattle.cell_tree.proofs.additions.push_all.Goals as goal
 

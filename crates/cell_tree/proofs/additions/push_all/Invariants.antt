@@ -1,8 +1,4 @@
-use Rattle.std.proofs.Common.{◌≡◌, ◌++◌, All}
-use Rattle.cell_tree.specs.Cells.{states}
-use Rattle.cell_tree.specs.Trees.{IsLawfulCell}
-use Rattle.cell_tree.specs.Additions.{new_states}
-use Rattle.cell_tree.specs.Arrivals.{AreBehind}
+use Rattle.cell_tree.proofs.Common.{◌≡◌, ◌++◌, All, states, IsLawfulCell, new_states, AreBehind}
 use Rattle.cell_tree.proofs.additions.push_all.Given as goal
 
 abbrev pub invariant-loop-cell : goal.invariant-loop-cell

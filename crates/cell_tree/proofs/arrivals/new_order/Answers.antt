@@ -1,7 +1,5 @@
-use Rattle.std.proofs.Common.{subst}
+use Rattle.cell_tree.proofs.Common.{subst, states, children_of}
 use Rattle.use_orders.specs.NewCells.{IsOrderOf}
-use Rattle.cell_tree.specs.Cells.{states}
-use Rattle.cell_tree.specs.Additions.{children_of}
 use Rattle.cell_tree.proofs.GraphLaws.{lawful_children}
 use Rattle.cell_tree.proofs.OrderLaws.{new_order_of, first_below}
 use Rattle.cell_tree.proofs.arrivals.new_order.Goals as goal

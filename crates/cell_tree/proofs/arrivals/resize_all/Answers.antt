@@ -1,5 +1,4 @@
-use Rattle.std.proofs.Common.{sym, ◌∙◌}
-use Rattle.cell_tree.specs.declared.sizes.Dimension.TheVariants.{Depth, Elements, Hull}
+use Rattle.cell_tree.proofs.Common.{sym, ◌∙◌, Depth, Elements, Hull}
 use Rattle.cell_tree.proofs.FindLaws.{length-states}
 use Rattle.cell_tree.proofs.ArrivalLaws.{start_again, passes_one, passes_two, passes_three, sized_right, sized_within}
 use Rattle.cell_tree.proofs.arrivals.resize_all.Goals as goal

@@ -1,8 +1,4 @@
-use Rattle.std.proofs.Common.{◌≡◌, ℕ, suc, ◌+◌, List, get_or, sym, subst, ◌∙◌, arith}
-use Rattle.std.proofs.lemmas.Bool.{both_ways}
-use Rattle.cell_tree.specs.Sizes.{size_at, IsWithin}
-use Rattle.cell_tree.specs.Cells.{states}
-use Rattle.cell_tree.specs.Arrivals.{AreSettled}
+use Rattle.cell_tree.proofs.Common.{◌≡◌, ℕ, suc, ◌+◌, List, get_or, sym, subst, ◌∙◌, arith, both_ways, size_at, IsWithin, states, AreSettled}
 use Rattle.cell_tree.proofs.FindLaws.{length-states}
 use Rattle.cell_tree.proofs.ArrivalLaws.{SetsAt, set_kept, set_settled, set_stops}
 use Rattle.cell_tree.proofs.arrivals.resize_new.Goals as goal

@@ -1,5 +1,4 @@
-use Rattle.cell_tree.specs.Cells.{states}
-use Rattle.cell_tree.specs.Arrivals.{AreSettled, AreKept}
+use Rattle.cell_tree.proofs.Common.{states, AreSettled, AreKept}
 use Rattle.cell_tree.proofs.arrivals.resize_new.Given as goal
 
 abbrev pub invariant-loop-key : goal.invariant-loop-key

@@ -1,12 +1,6 @@
-use Rattle.std.proofs.Common.{◌<◌, length, ap, sym, subst, ◌∙◌, arith}
+use Rattle.cell_tree.proofs.Common.{◌<◌, length, ap, sym, subst, ◌∙◌, arith, length-set, same_Some, slice_get-set_same, HasChild, CellState, states}
+use Rattle.cell_tree.proofs.Common.{cell_at, with_inserted}
 use Rattle.std.specs.Prelude.{slice_get}
-use Rattle.std.proofs.lemmas.List.{length-set}
-use Rattle.std.proofs.lemmas.Option.{same_Some}
-use Rattle.geo_core.proofs.FiniteSets.Places.{slice_get-set_same}
-use Rattle.cell_tree.specs.Uses.{HasChild}
-use Rattle.cell_tree.specs.Sizes.{CellState}
-use Rattle.cell_tree.specs.Cells.{states}
-use Rattle.cell_tree.specs.Trees.{cell_at, with_inserted}
 use Rattle.cell_tree.proofs.FindLaws.{length-states}
 use Rattle.cell_tree.proofs.WholeLaws.{cell_is}
 use Rattle.cell_tree.proofs.UserLaws.{added_users}

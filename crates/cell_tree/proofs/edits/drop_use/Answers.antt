@@ -1,8 +1,4 @@
-use Rattle.std.proofs.Common.{ap, subst, ◌∙◌, arith}
-use Rattle.std.proofs.lemmas.Bool.{both_ways}
-use Rattle.cell_tree.specs.Uses.{HasChild}
-use Rattle.cell_tree.specs.Sizes.{CellState}
-use Rattle.cell_tree.specs.Trees.{cell_at}
+use Rattle.cell_tree.proofs.Common.{ap, subst, ◌∙◌, arith, both_ways, HasChild, CellState, cell_at}
 use Rattle.cell_tree.proofs.CellLaws.{cell_at-states}
 use Rattle.cell_tree.proofs.UserLaws.{removed_users}
 use Rattle.cell_tree.proofs.edits.drop_use.Goals as goal

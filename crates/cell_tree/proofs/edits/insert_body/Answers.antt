@@ -1,9 +1,4 @@
-use Rattle.std.proofs.Common.{[], ◌<◌, ◌≤◌, length, get_or, refl, ap, sym, subst, ℕ, List}
-use Rattle.std.specs.HashSet.{spare}
-use Rattle.cell_tree.specs.Uses.{HasIdAt}
-use Rattle.cell_tree.specs.declared.use_tables.UseBody.{UseBody}
-use Rattle.cell_tree.specs.Sizes.{CellState}
-use Rattle.cell_tree.specs.Trees.{with_inserted}
+use Rattle.cell_tree.proofs.Common.{[], ◌<◌, ◌≤◌, length, get_or, refl, ap, sym, subst, ℕ, List, spare, HasIdAt, UseBody, CellState, with_inserted}
 use Rattle.cell_tree.proofs.CellLaws.{cell_at-states, write_states, write_kept, read_here}
 use Rattle.cell_tree.proofs.edits.insert_body.Goals as goal
 

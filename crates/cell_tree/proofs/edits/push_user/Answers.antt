@@ -1,7 +1,4 @@
-use Rattle.std.proofs.Common.{[], ◌<◌, refl, ap, sym, subst, ◌∙◌}
-use Rattle.std.specs.Prelude.{nat_eq}
-use Rattle.std.specs.HashSet.{spare}
-use Rattle.indexmap.specs.IndexSet.{insert_key}
+use Rattle.cell_tree.proofs.Common.{[], ◌<◌, refl, ap, sym, subst, ◌∙◌, nat_eq, spare, insert_key}
 use Rattle.cell_tree.proofs.TableLaws.{on_ok}
 use Rattle.cell_tree.proofs.CellLaws.{write_same, write_others, write_here, read_here}
 use Rattle.cell_tree.proofs.edits.push_user.Goals as goal

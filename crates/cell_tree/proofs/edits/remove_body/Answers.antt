@@ -1,6 +1,4 @@
-use Rattle.std.proofs.Common.{[], get_or, refl, ap, ℕ, List}
-use Rattle.cell_tree.specs.declared.use_tables.UseBody.{UseBody}
-use Rattle.cell_tree.specs.Trees.{without_use}
+use Rattle.cell_tree.proofs.Common.{[], get_or, refl, ap, ℕ, List, UseBody, without_use}
 use Rattle.cell_tree.proofs.CellLaws.{write_states, write_kept}
 use Rattle.cell_tree.proofs.edits.remove_body.Goals as goal
 

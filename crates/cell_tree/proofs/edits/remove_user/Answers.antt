@@ -1,6 +1,5 @@
-use Rattle.std.proofs.Common.{[], refl, ap, sym, ◌∙◌}
-use Rattle.std.specs.Prelude.{nat_eq, false, if◌then◌else◌}
-use Rattle.cell_tree.specs.steps.Edits.{knows}
+use Rattle.cell_tree.proofs.Common.{[], refl, ap, sym, ◌∙◌, nat_eq, if◌then◌else◌, knows}
+use Rattle.std.specs.Prelude.{false}
 use Rattle.cell_tree.proofs.CellLaws.{write_same, write_others, write_here, read_here}
 use Rattle.cell_tree.proofs.edits.remove_user.Goals as goal
 

@@ -1,6 +1,4 @@
-use Rattle.std.proofs.Common.{[], ◌<◌, get_or, refl, ap, sym, subst, ℕ, List}
-use Rattle.std.proofs.lemmas.Result.{on_ok_weaker}
-use Rattle.cell_tree.specs.declared.use_tables.UseBody.{UseBody}
+use Rattle.cell_tree.proofs.Common.{[], ◌<◌, get_or, refl, ap, sym, subst, ℕ, List, on_ok_weaker, UseBody}
 use Rattle.cell_tree.proofs.CellLaws.{write_same, write_kept, write_here}
 use Rattle.cell_tree.proofs.edits.reserve_body.Goals as goal
 

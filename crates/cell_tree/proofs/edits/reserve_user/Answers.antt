@@ -1,7 +1,4 @@
-use Rattle.std.proofs.Common.{[], ◌<◌, refl, sym, subst}
-use Rattle.std.proofs.Common.{arith}
-use Rattle.std.proofs.lemmas.Result.{on_ok_weaker}
-use Rattle.std.specs.HashSet.{spare}
+use Rattle.cell_tree.proofs.Common.{[], ◌<◌, refl, sym, subst, arith, on_ok_weaker, spare}
 use Rattle.cell_tree.proofs.CellLaws.{write_same, write_kept, write_here}
 use Rattle.cell_tree.proofs.edits.reserve_user.Goals as goal
 

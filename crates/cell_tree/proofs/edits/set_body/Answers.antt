@@ -1,7 +1,4 @@
-use Rattle.std.proofs.Common.{[], ◌<◌, length, get_or, refl, ap, subst, ℕ, List}
-use Rattle.cell_tree.specs.declared.use_tables.UseBody.{UseBody}
-use Rattle.cell_tree.specs.Sizes.{CellState}
-use Rattle.cell_tree.specs.Trees.{with_use_set}
+use Rattle.cell_tree.proofs.Common.{[], ◌<◌, length, get_or, refl, ap, subst, ℕ, List, UseBody, CellState, with_use_set}
 use Rattle.cell_tree.proofs.CellLaws.{cell_at-states, write_states, write_kept}
 use Rattle.cell_tree.proofs.edits.set_body.Goals as goal
 

@@ -1,5 +1,4 @@
-use Rattle.std.proofs.Common.{[], refl}
-use Rattle.cell_tree.specs.Trees.{with_own}
+use Rattle.cell_tree.proofs.Common.{[], refl, with_own}
 use Rattle.cell_tree.proofs.CellLaws.{write_states, write_kept}
 use Rattle.cell_tree.proofs.edits.set_own.Goals as goal
 

@@ -1,8 +1,5 @@
-use Rattle.std.proofs.Common.{rules, ◌<◌, length, arith, ap, sym, ◌∙◌}
-use Rattle.cell_tree.specs.declared.sizes.Dimension.TheVariants.{Hull}
-use Rattle.cell_tree.specs.Sizes.{CellState, size_at, size_of}
-use Rattle.cell_tree.specs.Cells.{states}
-use Rattle.cell_tree.specs.Trees.{cell_at, with_own}
+use Rattle.cell_tree.proofs.Common.{rules, ◌<◌, length, arith, ap, sym, ◌∙◌, Hull, CellState, size_at, states, cell_at, with_own}
+use Rattle.cell_tree.specs.Sizes.{size_of}
 use Rattle.cell_tree.proofs.CellLaws.{cell_at-states}
 use Rattle.cell_tree.proofs.FindLaws.{state_read, length-states}
 use Rattle.cell_tree.proofs.WholeLaws.{cell_is}

@@ -1,4 +1,4 @@
-use Rattle.std.proofs.Common.{◌∙◌}
+use Rattle.cell_tree.proofs.Common.{◌∙◌}
 use Rattle.cell_tree.proofs.StateLaws.{inserted_size}
 use Rattle.cell_tree.proofs.resizes.size_with_placed.Goals as goal
 

@@ -1,8 +1,6 @@
-use Rattle.std.proofs.Common.{◌<◌, length, get_or, arith, ap, sym, subst, ◌∙◌}
+use Rattle.cell_tree.proofs.Common.{◌<◌, length, get_or, arith, ap, sym, subst, ◌∙◌, TreeCell, CellState, size_at, with_or_without, with_uses}
 use Rattle.std.proofs.lemmas.List.{get_or_default}
-use Rattle.cell_tree.specs.declared.cells.TreeCell.{TreeCell}
-use Rattle.cell_tree.specs.Sizes.{CellState, size_at, size_of, with_or_without}
-use Rattle.cell_tree.specs.Trees.{with_uses}
+use Rattle.cell_tree.specs.Sizes.{size_of}
 use Rattle.cell_tree.proofs.CellLaws.{cell_at-states}
 use Rattle.cell_tree.proofs.FindLaws.{state_read, length-states}
 use Rattle.cell_tree.proofs.resizes.size_with_use.Goals as goal

@@ -1,4 +1,4 @@
-use Rattle.std.proofs.Common.{◌∙◌, arith}
+use Rattle.cell_tree.proofs.Common.{◌∙◌, arith}
 use Rattle.cell_tree.proofs.MarkLaws.{copy_end}
 use Rattle.cell_tree.proofs.size_books.copy_sizes.Goals as goal
 

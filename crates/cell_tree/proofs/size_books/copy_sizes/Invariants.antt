@@ -1,5 +1,4 @@
-use Rattle.std.proofs.Common.{◌≡◌, ℕ}
-use Rattle.cell_tree.specs.Sizes.{size_at}
+use Rattle.cell_tree.proofs.Common.{◌≡◌, ℕ, size_at}
 use Rattle.cell_tree.proofs.MarkLaws.{StandsFrom}
 use Rattle.cell_tree.proofs.size_books.copy_sizes.Given as goal
 

@@ -1,6 +1,4 @@
-use Rattle.std.proofs.Common.{◌≡◌, ◌++◌, ◌∷◌, [], ◌-◌, length, replicate, ap, ◌∙◌, arith}
-use Rattle.std.proofs.lemmas.Bool.{cond-true}
-use Rattle.std.proofs.lemmas.List.{length-append}
+use Rattle.cell_tree.proofs.Common.{◌≡◌, ◌++◌, ◌∷◌, [], ◌-◌, length, replicate, ap, ◌∙◌, arith, cond-true, length-append}
 use Rattle.cell_tree.proofs.BookLaws.{filled_more}
 use Rattle.cell_tree.proofs.size_books.fill.Goals as goal
 

@@ -1,4 +1,4 @@
-use Rattle.std.proofs.Common.{◌≡◌, ◌++◌, ◌-◌, ◌≤◌, length, replicate, vec_capacity}
+use Rattle.cell_tree.proofs.Common.{◌≡◌, ◌++◌, ◌-◌, ◌≤◌, length, replicate, vec_capacity}
 use Rattle.cell_tree.proofs.size_books.fill.Given as goal
 
 abbrev pub invariant-loop : goal.invariant-loop

@@ -1,6 +1,4 @@
-use Rattle.std.proofs.Common.{◌≡◌, ℕ, ◌<◌}
-use Rattle.cell_tree.specs.Above.{at, StandsIn}
-use Rattle.cell_tree.specs.Trees.{stamp_at}
+use Rattle.cell_tree.proofs.Common.{◌≡◌, ℕ, ◌<◌, at, StandsIn, stamp_at}
 use Rattle.cell_tree.proofs.size_books.raise_stamps.Given as goal
 
 abbrev pub invariant-loop-key : goal.invariant-loop-key

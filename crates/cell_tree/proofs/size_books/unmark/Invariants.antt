@@ -1,5 +1,4 @@
-use Rattle.std.proofs.Common.{ℕ}
-use Rattle.cell_tree.specs.Above.{IsSeen}
+use Rattle.cell_tree.proofs.Common.{ℕ, IsSeen}
 use Rattle.cell_tree.proofs.MarkLaws.{StandsFrom}
 use Rattle.cell_tree.proofs.size_books.unmark.Given as goal
 

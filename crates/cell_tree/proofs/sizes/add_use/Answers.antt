@@ -1,7 +1,4 @@
-use Rattle.std.proofs.Common.{arith, ◌∙◌, ap, subst}
-use Rattle.cell_tree.specs.Hulls.{round_both}
-use Rattle.cell_tree.specs.Sizes.{IsWithin}
-use Rattle.cell_tree.specs.declared.sizes.Dimension.{Dimension}
+use Rattle.cell_tree.proofs.Common.{arith, ◌∙◌, ap, subst, round_both, IsWithin, Dimension}
 use Rattle.cell_tree.proofs.SizeLaws.{added-depth, added-elements, added-hull, product_few}
 use Rattle.cell_tree.proofs.sizes.add_use.Goals as goal
 

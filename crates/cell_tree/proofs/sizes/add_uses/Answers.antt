@@ -1,6 +1,5 @@
-use Rattle.std.proofs.Common.{rules, ◌<◌, arith, length, ◌∙◌, sym, ap}
-use Rattle.cell_tree.specs.declared.sizes.Size.{Size}
-use Rattle.cell_tree.specs.Sizes.{size_at, added}
+use Rattle.cell_tree.proofs.Common.{rules, ◌<◌, arith, length, ◌∙◌, sym, ap, Size, size_at}
+use Rattle.cell_tree.specs.Sizes.{added}
 use Rattle.cell_tree.proofs.SizeLaws.{body_at, grown-next}
 use Rattle.cell_tree.proofs.sizes.add_uses.Goals as goal
 

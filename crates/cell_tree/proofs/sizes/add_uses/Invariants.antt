@@ -1,6 +1,5 @@
-use Rattle.std.proofs.Common.{◌≡◌, ◌+◌, ◌-◌, ◌*◌, ◌≤◌, take, drop}
+use Rattle.cell_tree.proofs.Common.{◌≡◌, ◌+◌, ◌-◌, ◌*◌, ◌≤◌, take, drop, size_at, grown}
 use Rattle.cell_tree.specs.declared.limits.TheConstants.{MOST_DEPTH, MOST_ELEMENTS_OF_USE}
-use Rattle.cell_tree.specs.Sizes.{size_at, grown}
 use Rattle.cell_tree.proofs.sizes.add_uses.Given as goal
 
 abbrev pub invariant-loop-k : goal.invariant-loop-k

@@ -1,4 +1,5 @@
-use Rattle.std.proofs.Common.{arith, mul_comm}
+use Rattle.cell_tree.proofs.Common.{arith}
+use Rattle.std.proofs.Common.{mul_comm}
 use Rattle.geo_core.proofs.ElementLaws.{length-elements_of, rows, columns}
 use Rattle.cell_tree.proofs.sizes.count.Goals as goal
 

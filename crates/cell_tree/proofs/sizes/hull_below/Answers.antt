@@ -1,6 +1,5 @@
-use Rattle.std.proofs.Common.{◌≡◌, Some, sym, ap, subst, ◌∙◌}
+use Rattle.cell_tree.proofs.Common.{◌≡◌, Some, sym, ap, subst, ◌∙◌, element_hulls, round_all}
 use Rattle.geo_core.specs.Images.{rect_image}
-use Rattle.cell_tree.specs.Hulls.{element_hulls, round_all}
 use Rattle.cell_tree.proofs.HullLaws.{round_all-grid, round_all-alone}
 use Rattle.cell_tree.proofs.sizes.hull_below.Goals as goal
 use Rattle.cell_tree.proofs.sizes.hull_below.Goals.{in-Some-grid, in-None}

@@ -1,6 +1,4 @@
-use Rattle.std.proofs.Common.{◌-◌, ◌∙◌, ap, take}
-use Rattle.cell_tree.specs.declared.sizes.Size.{Size}
-use Rattle.cell_tree.specs.Sizes.{size_at, grown}
+use Rattle.cell_tree.proofs.Common.{◌-◌, ◌∙◌, ap, take, Size, size_at, grown}
 use Rattle.cell_tree.proofs.SizeLaws.{alike_trans, alike_refl, grown-alike, grown-all}
 use Rattle.cell_tree.proofs.sizes.measured.Goals as goal
 

@@ -1,5 +1,4 @@
-use Rattle.std.proofs.Common.{rules, ◌≡◌, ◌<◌, length, ◌∙◌, sym, subst}
-use Rattle.cell_tree.specs.Sizes.{size_at, grown, with_or_without}
+use Rattle.cell_tree.proofs.Common.{rules, ◌≡◌, ◌<◌, length, ◌∙◌, sym, subst, size_at, grown, with_or_without}
 use Rattle.cell_tree.proofs.SizeLaws.{refolded_with, refolded_without}
 use Rattle.cell_tree.proofs.sizes.refolded.Goals as goal
 use Rattle.cell_tree.proofs.sizes.refolded.Goals.{in-Some, in-None}

@@ -1,7 +1,4 @@
-use Rattle.std.proofs.Common.{◌∙◌, ap}
-use Rattle.cell_tree.specs.declared.sizes.Dimension.TheVariants.{Depth, Elements, Hull}
-use Rattle.cell_tree.specs.declared.sizes.Size.{Size}
-use Rattle.cell_tree.specs.Sizes.{size_at, grown, with_or_without}
+use Rattle.cell_tree.proofs.Common.{◌∙◌, ap, Depth, Elements, Hull, Size, size_at, grown, with_or_without}
 use Rattle.cell_tree.proofs.SizeLaws.{size_from}
 use Rattle.cell_tree.proofs.sizes.size_with.Goals as goal
 

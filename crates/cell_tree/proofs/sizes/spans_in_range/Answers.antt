@@ -1,4 +1,4 @@
-use Rattle.std.proofs.Common.{rules}
+use Rattle.cell_tree.proofs.Common.{rules}
 use Rattle.cell_tree.proofs.SpreadLaws.{spans_iff}
 use Rattle.cell_tree.proofs.sizes.spans_in_range.Goals as goal
 

@@ -1,5 +1,4 @@
-use Rattle.std.proofs.Common.{arith}
-use Rattle.cell_tree.specs.declared.sizes.Dimension.TheVariants.{Depth, Elements, Hull}
+use Rattle.cell_tree.proofs.Common.{arith, Depth, Elements, Hull}
 use Rattle.cell_tree.proofs.sizes.with_use.Goals as goal
 
 pub add_use-deep-requires-clause-within : goal.add_use-deep-requires-clause-within

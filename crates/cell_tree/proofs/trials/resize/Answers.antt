@@ -1,5 +1,4 @@
-use Rattle.std.proofs.Common.{rules, ◌-◌, ◌<◌, length, arith, sym, ◌∙◌}
-use Rattle.std.proofs.lemmas.Bool.{both_ways}
+use Rattle.cell_tree.proofs.Common.{rules, ◌-◌, ◌<◌, length, arith, sym, ◌∙◌, both_ways}
 use Rattle.cell_tree.proofs.FindLaws.{order_of, length-states}
 use Rattle.cell_tree.proofs.StepLaws.{fit_start, children_fit, set_next, fit_next, stops_next, fit_done}
 use Rattle.cell_tree.proofs.trials.resize.Goals as goal

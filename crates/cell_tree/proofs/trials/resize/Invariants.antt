@@ -1,4 +1,4 @@
-use Rattle.cell_tree.specs.Cells.{states}
+use Rattle.cell_tree.proofs.Common.{states}
 use Rattle.cell_tree.proofs.StepLaws.{AreFit}
 use Rattle.cell_tree.proofs.trials.resize.Given as goal
 

@@ -1,8 +1,6 @@
-use Rattle.std.proofs.Common.{◌≡◌, arith, ap, sym, ◌∙◌, subst, get_or, slice_set}
-use Rattle.std.proofs.lemmas.Option.{same_Some}
+use Rattle.cell_tree.proofs.Common.{◌≡◌, arith, ap, sym, ◌∙◌, subst, get_or, slice_set, same_Some, TreeCell, size_at, AreAlike}
 use Rattle.std.proofs.lemmas.List.{get_or_default}
-use Rattle.cell_tree.specs.declared.cells.TreeCell.{TreeCell}
-use Rattle.cell_tree.specs.Sizes.{size_at, size_of, AreAlike}
+use Rattle.cell_tree.specs.Sizes.{size_of}
 use Rattle.cell_tree.proofs.FindLaws.{state_read, length-states}
 use Rattle.cell_tree.proofs.trials.resize_one.Goals as goal
 

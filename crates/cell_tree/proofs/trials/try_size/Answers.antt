@@ -1,5 +1,4 @@
-use Rattle.std.proofs.Common.{refl, ◌∙◌}
-use Rattle.cell_tree.specs.declared.sizes.Dimension.TheVariants.{Depth, Elements, Hull}
+use Rattle.cell_tree.proofs.Common.{refl, ◌∙◌, Depth, Elements, Hull}
 use Rattle.cell_tree.proofs.WholeTrialLaws.{ready, ready_within, two_alike, stops_one, stops_two, stops_three, all_others, all_tried, all_within}
 use Rattle.cell_tree.proofs.trials.try_size.Goals as goal
 

@@ -1,10 +1,5 @@
-use Rattle.std.proofs.Common.{◌≡◌, ◌≤◌, ℕ, List, length, rules}
-use Rattle.use_orders.specs.LibraryOrder.{IsLibraryOrder}
-use Rattle.cell_library.specs.Additions.{children_in}
+use Rattle.cif_commands.proofs.Common.{◌≡◌, ◌≤◌, ℕ, List, length, rules, IsLibraryOrder, children_in, LONGEST_TEXT, IsCifText, both_ok}
 use Rattle.cell_library.specs.Libraries.{seen}
-use Rattle.cif_writing.specs.declared.limits.TheConstants.{LONGEST_TEXT}
-use Rattle.cif_writing.specs.Symbols.{IsCifText}
-use Rattle.line_answers.proofs.AnswerLaws.{both_ok}
 use Rattle.cif_commands.proofs.CifLaws.{text_stored}
 use Rattle.cif_commands.proofs.command_cif.cif.Goals as goal
 

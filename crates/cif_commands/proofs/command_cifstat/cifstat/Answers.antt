@@ -1,9 +1,4 @@
-use Rattle.std.proofs.Common.{◌≡◌, ℕ, List, rules, subst}
-use Rattle.std.proofs.lemmas.Result.{IfOk-weaker}
-use Rattle.session_model.specs.Effects.{AnswersFetching}
-use Rattle.session_model.specs.Fetches.{text_in}
-use Rattle.cif_commands.specs.CommandCif.{cif_file}
-use Rattle.cif_commands.specs.CommandCifstat.{MeasuresFetched}
+use Rattle.cif_commands.proofs.Common.{◌≡◌, ℕ, List, rules, subst, IfOk-weaker, AnswersFetching, text_in, cif_file, MeasuresFetched}
 use Rattle.cif_commands.proofs.command_cifstat.cifstat.Goals as goal
 
 pub returns-clause-effect : goal.returns-clause-effect

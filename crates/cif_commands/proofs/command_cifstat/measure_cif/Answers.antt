@@ -1,7 +1,5 @@
-use Rattle.std.proofs.Common.{◌≡◌, map, rules, subst, sym}
-use Rattle.std.specs.Prelude.{All}
-use Rattle.cif_commands.specs.CommandCifstat.{stat_lines}
-use Rattle.cif_commands.specs.steps.Layers.{HasNearStrips, layer_area}
+use Rattle.cif_commands.proofs.Common.{◌≡◌, map, rules, subst, sym, All, stat_lines, layer_area}
+use Rattle.cif_commands.specs.steps.Layers.{HasNearStrips}
 use Rattle.cif_commands.proofs.CifstatLaws.{cif_told}
 use Rattle.cif_commands.proofs.LayerLaws.{layers_inside, layers_told}
 use Rattle.cif_commands.proofs.NearStrips.{near_layers}

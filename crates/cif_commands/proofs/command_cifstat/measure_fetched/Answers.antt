@@ -1,8 +1,7 @@
-use Rattle.std.proofs.Common.{◌≡◌, [], ◌∷◌, Ok, Err, subst}
-use Rattle.std.proofs.lemmas.Result.{IfOk-weaker}
+use Rattle.cif_commands.proofs.Common.{◌≡◌, [], ◌∷◌, subst, IfOk-weaker, text_in, both_ok}
+use Rattle.std.proofs.Common.{Ok, Err}
 use Rattle.session_model.specs.declared.fetching.Fetched.{Fetched}
-use Rattle.session_model.specs.Fetches.{FetchMeans, text_in}
-use Rattle.line_answers.proofs.AnswerLaws.{both_ok}
+use Rattle.session_model.specs.Fetches.{FetchMeans}
 use Rattle.cif_commands.proofs.CifstatLaws.{file_measured, file_refused}
 use Rattle.cif_commands.proofs.command_cifstat.measure_fetched.Goals as goal
 

@@ -1,6 +1,5 @@
-use Rattle.std.proofs.Common.{◌≡◌, Ok, rules}
-use Rattle.std.proofs.lemmas.Result.{IfOk-weaker}
-use Rattle.cif_reading.specs.CifTexts.{cif_in}
+use Rattle.cif_commands.proofs.Common.{◌≡◌, rules, IfOk-weaker, cif_in}
+use Rattle.std.proofs.Common.{Ok}
 use Rattle.cif_commands.proofs.CifstatLaws.{text_measured}
 use Rattle.cif_commands.proofs.command_cifstat.measure_text.Goals as goal
 

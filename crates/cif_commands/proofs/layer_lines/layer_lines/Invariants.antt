@@ -1,6 +1,5 @@
-use Rattle.std.proofs.Common.{◌≡◌, ◌++◌, drop, map}
-use Rattle.cif_commands.specs.CommandCifstat.{layer_line}
-use Rattle.cif_commands.specs.steps.Layers.{layer_area}
+use Rattle.cif_commands.proofs.Common.{◌≡◌, map, layer_line, layer_area}
+use Rattle.std.proofs.Common.{◌++◌, drop}
 use Rattle.cif_commands.proofs.layer_lines.layer_lines.Given as goal
 
 -- the lines so far and those of the layers that are left are the lines of all

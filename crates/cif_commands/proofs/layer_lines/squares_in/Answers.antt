@@ -1,11 +1,9 @@
-use Rattle.std.proofs.Common.{◌≡◌, ◌<◌, ◌+◌, ◌∙◌, ℤ, pos, ◌+ℤ◌, length, take, get_or, to_z, of_z, sym, ap, subst, rules, arith}
+use Rattle.cif_commands.proofs.Common.{◌≡◌, ◌<◌, ◌∙◌, ℤ, pos, length, get_or, sym, ap, subst, rules, arith, Rect, sum_on, area_of}
+use Rattle.std.proofs.Common.{◌+◌, ◌+ℤ◌, take, to_z, of_z}
 use Rattle.std.specs.Int.{w64, w128}
 use Rattle.std.specs.Int.RustNames.{FitsSigned}
 use Rattle.std.proofs.lemmas.Int.{to_z-of_z}
-use Rattle.geo_core.specs.declared.squares.Rect.{Rect}
-use Rattle.geo_core.specs.FiniteSets.Total.{sum_on}
 use Rattle.key_sums.proofs.SumLaws.{Bounded, bounded_fits, bounded_more, fits_is}
-use Rattle.rect_contacts.specs.Squares.{area_of}
 use Rattle.cif_commands.proofs.StripTotals.{area_more}
 use Rattle.cif_commands.proofs.layer_lines.squares_in.Goals as goal
 

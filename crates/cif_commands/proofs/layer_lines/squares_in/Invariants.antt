@@ -1,7 +1,6 @@
-use Rattle.std.proofs.Common.{◌≡◌, take}
-use Rattle.geo_core.specs.FiniteSets.Total.{sum_on}
+use Rattle.cif_commands.proofs.Common.{◌≡◌, sum_on, area_of}
+use Rattle.std.proofs.Common.{take}
 use Rattle.key_sums.proofs.SumLaws.{Bounded}
-use Rattle.rect_contacts.specs.Squares.{area_of}
 use Rattle.cif_commands.proofs.layer_lines.squares_in.Given as goal
 
 -- what was counted are the areas of the strips so far

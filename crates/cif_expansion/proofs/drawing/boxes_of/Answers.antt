@@ -1,7 +1,4 @@
-use Rattle.std.proofs.Common.{◌≡◌, [], ◌∷◌, length, ◌∙◌, ap, arith}
-use Rattle.std.proofs.lemmas.Result.{err_from_is_err_and}
-use Rattle.cif_expansion.specs.steps.Drawings.{LeavesRange}
-use Rattle.cif_expansion.specs.Expansions.{StandsOutside}
+use Rattle.cif_expansion.proofs.Common.{◌≡◌, [], ◌∷◌, length, ◌∙◌, ap, arith, err_from_is_err_and, LeavesRange, StandsOutside}
 use Rattle.cif_expansion.proofs.DrawnLaws.{range_fault_weaker}
 use Rattle.cif_expansion.proofs.ExpansionLaws.{all_drawn_at, begun_outside, half_begun, last_read, lawful_last, near_last, outside_last, drawn_last}
 use Rattle.cif_expansion.proofs.drawing.boxes_of.Goals as goal

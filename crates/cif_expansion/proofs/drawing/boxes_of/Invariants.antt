@@ -1,4 +1,4 @@
-use Rattle.std.proofs.Common.{length}
+use Rattle.cif_expansion.proofs.Common.{length}
 use Rattle.cif_expansion.proofs.ExpansionLaws.{IsHalfDrawn}
 use Rattle.cif_expansion.proofs.drawing.boxes_of.Given as goal
 

@@ -1,5 +1,4 @@
-use Rattle.std.proofs.Common.{◌≡◌, ℕ, [], length}
-use Rattle.cif_expansion.specs.steps.Drawings.{list_at}
+use Rattle.cif_expansion.proofs.Common.{◌≡◌, ℕ, [], length, list_at}
 use Rattle.cif_expansion.proofs.drawing.empty_lists.Given as goal
 
 abbrev pub invariant-loop : goal.invariant-loop

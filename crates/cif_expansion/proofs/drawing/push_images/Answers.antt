@@ -1,9 +1,4 @@
-use Rattle.std.proofs.Common.{sym, subst}
-use Rattle.finite_sets.specs.Lists.{In}
-use Rattle.finite_sets.proofs.Members.{In-get_or}
-use Rattle.geo_core.specs.declared.transforms.Transform.{Transform}
-use Rattle.geo_core.specs.Images.{rect_image}
-use Rattle.cif_expansion.specs.Reach.{LiesInRange}
+use Rattle.cif_expansion.proofs.Common.{sym, subst, In, In-get_or, Transform, rect_image, LiesInRange}
 use Rattle.cif_expansion.proofs.StepLaws.{all_more, images_more}
 use Rattle.cif_expansion.proofs.drawing.push_images.Goals as goal
 

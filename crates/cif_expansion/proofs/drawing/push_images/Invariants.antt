@@ -1,7 +1,4 @@
-use Rattle.std.proofs.Common.{◌≡◌, ◌++◌, map, take}
-use Rattle.std.specs.Prelude.{All}
-use Rattle.geo_core.specs.Images.{rect_image}
-use Rattle.cif_expansion.specs.Reach.{LiesInRange}
+use Rattle.cif_expansion.proofs.Common.{◌≡◌, ◌++◌, map, take, All, rect_image, LiesInRange}
 use Rattle.cif_expansion.proofs.drawing.push_images.Given as goal
 
 abbrev pub invariant-loop-placement : goal.invariant-loop-placement

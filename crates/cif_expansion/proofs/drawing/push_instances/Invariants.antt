@@ -1,5 +1,4 @@
-use Rattle.std.proofs.Common.{◌≡◌, ◌++◌, map, take}
-use Rattle.geo_core.specs.Images.{composed}
+use Rattle.cif_expansion.proofs.Common.{◌≡◌, ◌++◌, map, take, composed}
 use Rattle.cif_expansion.proofs.drawing.push_instances.Given as goal
 
 abbrev pub invariant-loop-placement : goal.invariant-loop-placement

@@ -1,6 +1,5 @@
-use Rattle.std.proofs.Common.{subst}
+use Rattle.cif_expansion.proofs.Common.{subst, size_of}
 use Rattle.std.specs.Prelude.{Option, MatchOption}
-use Rattle.cif_model.specs.Sizes.{size_of}
 use Rattle.cif_expansion.specs.declared.limits.CifLimit.{CifLimit}
 use Rattle.cif_expansion.specs.Limits.{IsFirstPast, IsWithinLimits}
 use Rattle.cif_expansion.proofs.StripLaws.{expanded}

@@ -1,7 +1,4 @@
-use Rattle.std.proofs.Common.{sym, subst, rules}
-use Rattle.std.proofs.lemmas.Int.{to_z-of_z}
-use Rattle.std.specs.Int.{w128}
-use Rattle.std.specs.Int.RustNames.{FitsSigned}
+use Rattle.cif_expansion.proofs.Common.{sym, subst, rules, to_z-of_z, w128, FitsSigned}
 use Rattle.cif_expansion.specs.Reach.{IsPaintable}
 use Rattle.cif_expansion.proofs.placements.lies_in_range.Goals as goal
 

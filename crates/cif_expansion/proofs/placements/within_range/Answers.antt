@@ -1,7 +1,5 @@
-use Rattle.std.proofs.Common.{arith}
-use Rattle.std.proofs.lemmas.Int.{ints}
+use Rattle.cif_expansion.proofs.Common.{arith, ints, LiesInRange}
 use Rattle.geo_core.proofs.SquareLaws.{rect_is}
-use Rattle.cif_expansion.specs.Reach.{LiesInRange}
 use Rattle.cif_expansion.specs.steps.WideRects.{area_of}
 use Rattle.cif_expansion.proofs.placements.within_range.Goals as goal
 

@@ -1,6 +1,5 @@
-use Rattle.std.proofs.Common.{◌≡◌, List, map, take}
+use Rattle.cif_expansion.proofs.Common.{◌≡◌, List, map, take, capped}
 use Rattle.cif_model.specs.Sizes.{CifSize, size_of_items}
-use Rattle.cif_expansion.specs.steps.CappedSizes.{capped}
 use Rattle.cif_expansion.proofs.sizes.size_of_items.Given as goal
 
 abbrev pub invariant-loop-item : goal.invariant-loop-item

@@ -1,6 +1,5 @@
-use Rattle.std.proofs.Common.{◌≡◌, map, take}
+use Rattle.cif_expansion.proofs.Common.{◌≡◌, map, take, capped}
 use Rattle.cif_model.specs.Sizes.{sizes_of}
-use Rattle.cif_expansion.specs.steps.CappedSizes.{capped}
 use Rattle.cif_expansion.proofs.sizes.sizes_of.Given as goal
 
 abbrev pub invariant-loop-symbol : goal.invariant-loop-symbol

@@ -1,5 +1,4 @@
-use Rattle.std.proofs.Common.{◌≡◌, ◌++◌, length}
-use Rattle.cif_forms.specs.Commands.{goes_on, moves_in}
+use Rattle.cif_forms.proofs.Common.{◌≡◌, ◌++◌, length, goes_on, moves_in}
 use Rattle.cif_forms.proofs.commands.moves_in.Given as goal
 
 abbrev pub invariant-loop-step : goal.invariant-loop-step

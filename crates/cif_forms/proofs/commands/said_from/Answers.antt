@@ -1,7 +1,6 @@
-use Rattle.std.proofs.Common.{◌≡◌, ◌∷◌, true, IfOk, sym, ap, subst, ◌∙◌}
-use Rattle.std.specs.Char.{is_ascii_digit}
+use Rattle.cif_forms.proofs.Common.{◌≡◌, ◌∷◌, true, sym, ap, ◌∙◌, is_ascii_digit, layer_said, said_from}
+use Rattle.std.proofs.Common.{IfOk, subst}
 use Rattle.std.proofs.lemmas.List.{nil_from_length}
-use Rattle.cif_forms.specs.Commands.{layer_said, said_from}
 use Rattle.cif_forms.proofs.FormLaws.{said_from-digit}
 use Rattle.cif_forms.proofs.commands.said_from.Goals as goal
 

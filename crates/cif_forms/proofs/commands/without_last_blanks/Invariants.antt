@@ -1,5 +1,4 @@
-use Rattle.std.proofs.Common.{◌≡◌, length}
-use Rattle.cif_forms.specs.Commands.{without_last_blanks}
+use Rattle.cif_forms.proofs.Common.{◌≡◌, length, without_last_blanks}
 use Rattle.cif_forms.proofs.commands.without_last_blanks.Given as goal
 
 abbrev pub invariant-loop-rest : goal.invariant-loop-rest

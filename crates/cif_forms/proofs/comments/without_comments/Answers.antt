@@ -1,6 +1,6 @@
-use Rattle.std.proofs.Common.{◌++◌, append-nil, get_or, sym, ap, ◌∙◌, arith}
+use Rattle.cif_forms.proofs.Common.{◌++◌, append-nil, get_or, sym, ap, ◌∙◌, arith, at_start, shown_from}
 use Rattle.std.proofs.Math.ListN.{drop_of_length-le}
-use Rattle.cif_forms.specs.Comments.{at_start, shown_from, without_comments}
+use Rattle.cif_forms.specs.Comments.{without_comments}
 use Rattle.cif_forms.proofs.CommentLaws.{depth-behind, shown-more}
 use Rattle.cif_forms.proofs.comments.without_comments.Goals as goal
 

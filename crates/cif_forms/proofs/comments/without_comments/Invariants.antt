@@ -1,5 +1,4 @@
-use Rattle.std.proofs.Common.{◌≡◌, ◌≤◌, ◌++◌, drop}
-use Rattle.cif_forms.specs.Comments.{at_start, shown_from}
+use Rattle.cif_forms.proofs.Common.{◌≡◌, ◌≤◌, ◌++◌, drop, at_start, shown_from}
 use Rattle.cif_forms.proofs.comments.without_comments.Given as goal
 
 abbrev pub invariant-loop-byte : goal.invariant-loop-byte

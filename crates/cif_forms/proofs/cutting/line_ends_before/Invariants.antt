@@ -1,5 +1,4 @@
-use Rattle.std.proofs.Common.{◌≡◌, ◌≤◌, ◌+◌, drop}
-use Rattle.cif_forms.specs.Cutting.{line_ends_before}
+use Rattle.cif_forms.proofs.Common.{◌≡◌, ◌≤◌, ◌+◌, drop, line_ends_before}
 use Rattle.cif_forms.proofs.cutting.line_ends_before.Given as goal
 
 abbrev pub invariant-loop-byte : goal.invariant-loop-byte

@@ -1,10 +1,7 @@
-use Rattle.std.proofs.Common.{◌≡◌, ◌≢◌, ◌+◌, false, Err, sym, ◌∙◌}
-use Rattle.std.specs.List.{slice_split}
+use Rattle.cif_forms.proofs.Common.{◌≡◌, ◌+◌, false, Err, sym, ◌∙◌, slice_split, is_semicolon, line_of_command, first_faulty_part_or}
+use Rattle.cif_forms.proofs.Common.{line_ends_before, commands_from, step_on}
+use Rattle.std.proofs.Common.{◌≢◌}
 use Rattle.std.proofs.lemmas.Result.{IfErr-weaker}
-use Rattle.cif_forms.specs.Bytes.{is_semicolon}
-use Rattle.cif_forms.specs.Cutting.{line_of_command}
-use Rattle.text_form.specs.Parts.{first_faulty_part_or}
-use Rattle.cif_forms.specs.Cutting.{line_ends_before, commands_from, step_on}
 use Rattle.cif_forms.proofs.CuttingLaws.{last-faulty}
 use Rattle.cif_forms.proofs.cutting.read_commands.Goals as goal
 

@@ -1,9 +1,4 @@
-use Rattle.std.proofs.Common.{◌≡◌, ◌≤◌, ◌+◌, length}
-use Rattle.std.specs.List.{slice_split}
-use Rattle.cif_forms.specs.Bytes.{is_semicolon}
-use Rattle.cif_forms.specs.Cutting.{line_of_command}
-use Rattle.text_form.specs.Parts.{first_faulty_part_or}
-use Rattle.cif_forms.specs.Cutting.{commands_from, step_on}
+use Rattle.cif_forms.proofs.Common.{◌≡◌, ◌≤◌, ◌+◌, length, slice_split, is_semicolon, line_of_command, first_faulty_part_or, commands_from, step_on}
 use Rattle.cif_forms.proofs.cutting.read_commands.Given as goal
 
 abbrev pub invariant-loop-command : goal.invariant-loop-command

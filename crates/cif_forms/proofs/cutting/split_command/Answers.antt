@@ -1,8 +1,7 @@
-use Rattle.std.proofs.Common.{◌+◌, ◌-◌, ◌∷◌, length, take, drop, true, sym, ap, ◌∙◌, arith, length-drop}
-use Rattle.std.specs.List.{slice_split}
+use Rattle.cif_forms.proofs.Common.{◌+◌, ◌-◌, ◌∷◌, length, take, drop, true, sym, ap, ◌∙◌, arith, slice_split, is_semicolon, command_at}
+use Rattle.cif_forms.proofs.Common.{commands_from, line_ends}
+use Rattle.std.proofs.Common.{length-drop}
 use Rattle.std.proofs.lemmas.List.{take_all}
-use Rattle.cif_forms.specs.Bytes.{is_semicolon}
-use Rattle.cif_forms.specs.Cutting.{command_at, commands_from, line_ends}
 use Rattle.cif_forms.proofs.CuttingLaws.{cut-at, last-at}
 use Rattle.cif_forms.proofs.cutting.split_command.Goals as goal
 

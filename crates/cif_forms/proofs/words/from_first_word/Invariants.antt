@@ -1,5 +1,4 @@
-use Rattle.std.proofs.Common.{◌≡◌, length}
-use Rattle.cif_forms.specs.Words.{from_first_word}
+use Rattle.cif_forms.proofs.Common.{◌≡◌, length, from_first_word}
 use Rattle.cif_forms.proofs.words.from_first_word.Given as goal
 
 abbrev pub invariant-loop-rest : goal.invariant-loop-rest

@@ -1,8 +1,7 @@
-use Rattle.std.proofs.Common.{FitsSigned, Err, rules, sym, ap, ◌∙◌, arith}
+use Rattle.cif_forms.proofs.Common.{Err, sym, ap, ◌∙◌, arith, Empty, Digit, Number}
+use Rattle.std.proofs.Common.{FitsSigned, rules}
 use Rattle.std.specs.Int.{w64}
 use Rattle.std.proofs.lemmas.Int.{to_z-of_z}
-use Rattle.text_scan.specs.declared.numeral.NumFault.TheVariants.{Empty, Digit}
-use Rattle.cif_forms.specs.declared.words.CifWord.TheVariants.{Number}
 use Rattle.cif_forms.proofs.NumberLaws.{held-ok, held-past, held-none}
 use Rattle.cif_forms.proofs.words.held.Goals as goal
 

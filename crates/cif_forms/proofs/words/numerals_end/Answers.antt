@@ -1,4 +1,4 @@
-use Rattle.std.proofs.Common.{sym}
+use Rattle.cif_forms.proofs.Common.{sym}
 use Rattle.cif_forms.proofs.WordLaws.{end-none}
 use Rattle.cif_forms.proofs.words.numerals_end.Goals as goal
 

@@ -1,6 +1,4 @@
-use Rattle.std.proofs.Common.{◌<◌, length, arith}
-use Rattle.std.proofs.lemmas.Grind.{common_steps}
-use Rattle.cif_forms.specs.Words.{from_first_word}
+use Rattle.cif_forms.proofs.Common.{◌<◌, length, arith, common_steps, from_first_word}
 use Rattle.cif_forms.proofs.WordLaws.{words_in-none, words_in-split, length-from_first_word}
 use Rattle.cif_forms.proofs.words.split_word.Goals as goal
 

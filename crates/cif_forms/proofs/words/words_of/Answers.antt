@@ -1,5 +1,4 @@
-use Rattle.std.proofs.Common.{◌∷◌, [], append_assoc, arith}
-use Rattle.std.proofs.lemmas.Grind.{common_steps}
+use Rattle.cif_forms.proofs.Common.{◌∷◌, [], append_assoc, arith, common_steps}
 use Rattle.cif_forms.specs.Words.{word_of, words_of}
 use Rattle.cif_forms.proofs.WordLaws.{words_of-more, words_of-none}
 use Rattle.cif_forms.proofs.words.words_of.Goals as goal

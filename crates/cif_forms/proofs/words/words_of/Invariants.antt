@@ -1,4 +1,4 @@
-use Rattle.std.proofs.Common.{◌≡◌, ◌++◌, length}
+use Rattle.cif_forms.proofs.Common.{◌≡◌, ◌++◌, length}
 use Rattle.cif_forms.specs.Words.{words_of}
 use Rattle.cif_forms.proofs.words.words_of.Given as goal
 

@@ -1,6 +1,5 @@
-use Rattle.std.proofs.Common.{◌≡◌, drop, true}
-use Rattle.std.specs.List.{list_all}
-use Rattle.cif_reading.specs.SaidSteps.{move_is_in_range, move_is_whole}
+use Rattle.cif_reading.proofs.Common.{◌≡◌, drop, true, list_all, move_is_in_range}
+use Rattle.cif_reading.specs.SaidSteps.{move_is_whole}
 use Rattle.cif_reading.proofs.steps.are_whole.Given as goal
 
 abbrev pub invariant-loop-step : goal.invariant-loop-step

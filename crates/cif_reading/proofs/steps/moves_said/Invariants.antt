@@ -1,6 +1,4 @@
-use Rattle.std.proofs.Common.{◌≡◌, ◌++◌, drop, map, true}
-use Rattle.std.specs.List.{list_all}
-use Rattle.cif_reading.specs.SaidSteps.{move_is_in_range, move_said}
+use Rattle.cif_reading.proofs.Common.{◌≡◌, ◌++◌, drop, map, true, list_all, move_is_in_range, move_said}
 use Rattle.cif_reading.proofs.steps.moves_said.Given as goal
 
 abbrev pub invariant-loop-step : goal.invariant-loop-step

@@ -1,4 +1,4 @@
-use Rattle.std.proofs.Common.{sym, ◌∙◌}
+use Rattle.cif_writing.proofs.Common.{sym, ◌∙◌}
 use Rattle.cif_writing.proofs.CommandLaws.{turn_appended}
 use Rattle.cif_writing.proofs.commands.append_turn.Goals as goal
 

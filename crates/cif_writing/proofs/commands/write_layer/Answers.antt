@@ -1,4 +1,5 @@
-use Rattle.std.proofs.Common.{to_z, arith}
+use Rattle.cif_writing.proofs.Common.{arith}
+use Rattle.std.proofs.Common.{to_z}
 use Rattle.std.specs.Int.{w128}
 use Rattle.std.proofs.lemmas.Int.{ints}
 use Rattle.cif_writing.proofs.CommandLaws.{layer_appended}

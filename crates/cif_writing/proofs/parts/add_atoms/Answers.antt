@@ -1,7 +1,4 @@
-use Rattle.std.proofs.Common.{◌+◌, length, map}
-use Rattle.tech_model.specs.declared.raw.PartSet.{PartSet}
-use Rattle.tech_model.specs.Types.{parts_of}
-use Rattle.cif_writing.specs.Parts.{is_atom}
+use Rattle.cif_writing.proofs.Common.{◌+◌, length, map, PartSet, parts_of, is_atom}
 use Rattle.cif_writing.proofs.PartLaws.{made_on}
 use Rattle.cif_writing.proofs.parts.add_atoms.Goals as goal
 

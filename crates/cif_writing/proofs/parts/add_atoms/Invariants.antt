@@ -1,6 +1,4 @@
-use Rattle.std.proofs.Common.{◌≡◌, ◌++◌, map}
-use Rattle.tech_model.specs.Types.{parts_of}
-use Rattle.cif_writing.specs.Parts.{is_atom, atom_sets}
+use Rattle.cif_writing.proofs.Common.{◌≡◌, ◌++◌, map, parts_of, is_atom, atom_sets}
 use Rattle.cif_writing.proofs.PartLaws.{made_from}
 use Rattle.cif_writing.proofs.parts.add_atoms.Given as goal
 

@@ -1,6 +1,4 @@
-use Rattle.std.proofs.Common.{◌+◌, length, map}
-use Rattle.tech_model.specs.declared.raw.PartSet.{PartSet}
-use Rattle.cif_writing.specs.Parts.{is_second_image, own_mark}
+use Rattle.cif_writing.proofs.Common.{◌+◌, length, map, PartSet, is_second_image, own_mark}
 use Rattle.cif_writing.proofs.PartLaws.{made_on}
 use Rattle.cif_writing.proofs.parts.add_marks.Goals as goal
 

@@ -1,5 +1,4 @@
-use Rattle.std.proofs.Common.{◌≡◌, ◌++◌, map}
-use Rattle.cif_writing.specs.Parts.{is_second_image, own_mark, mark_sets}
+use Rattle.cif_writing.proofs.Common.{◌≡◌, ◌++◌, map, is_second_image, own_mark, mark_sets}
 use Rattle.cif_writing.proofs.PartLaws.{made_from}
 use Rattle.cif_writing.proofs.parts.add_marks.Given as goal
 

@@ -1,11 +1,5 @@
-use Rattle.std.proofs.Common.{◌≡◌, List, ap, subst, ◌∙◌}
+use Rattle.cif_writing.proofs.Common.{◌≡◌, List, ap, subst, ◌∙◌, Rect, IsInUnion, IsStrips, RawTech, seen, view_at, areas_with, HoldsPart}
 use Rattle.std.proofs.lemmas.Result.{IfOk-weaker}
-use Rattle.geo_core.specs.declared.squares.Rect.{Rect}
-use Rattle.geo_core.specs.Strips.{IsInUnion, IsStrips}
-use Rattle.tech_model.specs.declared.raw.RawTech.{RawTech}
-use Rattle.cell_library.specs.Libraries.{seen}
-use Rattle.cell_library.specs.Views.{view_at}
-use Rattle.cif_writing.specs.Parts.{areas_with, HoldsPart}
 use Rattle.cif_writing.proofs.StripLaws.{strips_of_part}
 use Rattle.cif_writing.proofs.strips.part_strips.Goals as goal
 

@@ -1,5 +1,4 @@
-use Rattle.std.proofs.Common.{sym}
-use Rattle.cell_library.proofs.ElementCounts.{use_is_lawful}
+use Rattle.cif_writing.proofs.Common.{sym, use_is_lawful}
 use Rattle.cif_writing.proofs.writing.body_at.Goals as goal
 
 pub returns-clause-lawful : goal.returns-clause-lawful

@@ -1,9 +1,5 @@
-use Rattle.std.proofs.Common.{◌<◌, ℕ, List, length, map, drop, subst}
-use Rattle.std.proofs.lemmas.Option.{slice_get-get_or}
-use Rattle.std.proofs.lemmas.Result.{err_from_is_err_and}
-use Rattle.text_scan.specs.Written.{text_of}
-use Rattle.cif_writing.specs.declared.limits.TheConstants.{LONGEST_TEXT}
-use Rattle.cif_writing.specs.Commands.{box_command}
+use Rattle.cif_writing.proofs.Common.{◌<◌, ℕ, List, length, map, drop, subst, slice_get-get_or, err_from_is_err_and, text_of, LONGEST_TEXT}
+use Rattle.cif_writing.proofs.Common.{box_command}
 use Rattle.cif_writing.proofs.WritingLaws.{line_first, line_on, line_last, longer, passed_on}
 use Rattle.cif_writing.proofs.writing.write_boxes.Goals as goal
 

@@ -1,6 +1,4 @@
-use Rattle.std.proofs.Common.{◌≡◌, ◌++◌, map, drop}
-use Rattle.text_scan.specs.Written.{text_of}
-use Rattle.cif_writing.specs.Commands.{box_command}
+use Rattle.cif_writing.proofs.Common.{◌≡◌, ◌++◌, map, drop, text_of, box_command}
 use Rattle.cif_writing.proofs.writing.write_boxes.Given as goal
 
 -- what stands and the boxes that are left are all

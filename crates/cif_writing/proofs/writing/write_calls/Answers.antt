@@ -1,9 +1,4 @@
-use Rattle.std.proofs.Common.{◌+◌, ℕ, List, refl, arith}
-use Rattle.std.proofs.lemmas.Result.{err_from_is_err_and}
-use Rattle.cell_tree.specs.declared.use_tables.UseBody.{UseBody}
-use Rattle.cell_library.specs.Libraries.{seen}
-use Rattle.cell_library.specs.Views.{view_at}
-use Rattle.cif_writing.specs.Symbols.{IsUse}
+use Rattle.cif_writing.proofs.Common.{◌+◌, ℕ, List, refl, arith, err_from_is_err_and, UseBody, seen, view_at, IsUse}
 use Rattle.cif_writing.proofs.OneText.{one_of_uses}
 use Rattle.cif_writing.proofs.WritingLaws.{passed_on, too_long_at, writes_all, writes_more, writes_none}
 use Rattle.cif_writing.proofs.writing.write_calls.Goals as goal

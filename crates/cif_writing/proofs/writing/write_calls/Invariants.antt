@@ -1,8 +1,4 @@
-use Rattle.std.proofs.Common.{ℕ, List}
-use Rattle.cell_tree.specs.declared.use_tables.UseBody.{UseBody}
-use Rattle.cell_library.specs.Libraries.{seen}
-use Rattle.cell_library.specs.Views.{view_at}
-use Rattle.cif_writing.specs.Symbols.{IsUse}
+use Rattle.cif_writing.proofs.Common.{ℕ, List, UseBody, seen, view_at, IsUse}
 use Rattle.cif_writing.proofs.WritingLaws.{WritesFirst}
 use Rattle.cif_writing.proofs.writing.write_calls.Given as goal
 

@@ -1,13 +1,5 @@
-use Rattle.std.proofs.Common.{◌<◌, ℕ, List, length, map, sym, ap, subst, ◌∙◌}
-use Rattle.std.proofs.lemmas.List.{length-map}
-use Rattle.std.proofs.lemmas.Result.{err_from_is_err_and}
-use Rattle.ext_model.specs.declared.tables.CellKey.{CellKey}
-use Rattle.geo_core.specs.FiniteSets.Lists.{In}
-use Rattle.geo_core.proofs.FiniteSets.Places.{In-slice_get}
-use Rattle.cell_library.specs.Additions.{children_in}
-use Rattle.cell_library.specs.Libraries.{seen}
-use Rattle.cif_writing.specs.declared.limits.TheConstants.{LONGEST_TEXT}
-use Rattle.cif_writing.specs.Symbols.{symbol_number}
+use Rattle.cif_writing.proofs.Common.{◌<◌, ℕ, List, length, map, sym, ap, subst, ◌∙◌, length-map, err_from_is_err_and, CellKey, In, In-slice_get}
+use Rattle.cif_writing.proofs.Common.{children_in, seen, LONGEST_TEXT, symbol_number}
 use Rattle.cif_writing.proofs.OrderLaws.{order_there}
 use Rattle.cif_writing.proofs.SymbolLaws.{one_text, symbols_as, symbols_too_long, text_written, too_long_as}
 use Rattle.cif_writing.proofs.WritingLaws.{passed_on}

@@ -1,8 +1,5 @@
-use Rattle.std.proofs.Common.{◌≡◌, ◌++◌, List, map, subst}
+use Rattle.cif_writing.proofs.Common.{◌≡◌, ◌++◌, List, map, subst, Transform, text_of, call_command}
 use Rattle.std.specs.Prelude.{OnOk}
-use Rattle.geo_core.specs.declared.transforms.Transform.{Transform}
-use Rattle.text_scan.specs.Written.{text_of}
-use Rattle.cif_writing.specs.Commands.{call_command}
 use Rattle.cif_writing.proofs.SymbolLaws.{elements_of_grid}
 use Rattle.cif_writing.proofs.writing.write_elements.Goals as goal
 

@@ -1,8 +1,4 @@
-use Rattle.std.proofs.Common.{map}
-use Rattle.std.specs.Prelude.{Some}
-use Rattle.cell_tree.specs.Uses.{displacements}
-use Rattle.cell_library.specs.LayoutTrees.{element_transform}
-use Rattle.cif_writing.specs.Commands.{call_command}
+use Rattle.cif_writing.proofs.Common.{map, Some, displacements, element_transform, call_command}
 use Rattle.cif_writing.proofs.WritingLaws.{line_first, line_on}
 use Rattle.cif_writing.proofs.writing.write_grid.Goals as goal
 

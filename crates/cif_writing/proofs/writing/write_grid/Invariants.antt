@@ -1,9 +1,4 @@
-use Rattle.std.proofs.Common.{◌≡◌, ◌++◌, map, drop}
-use Rattle.std.specs.Prelude.{Some}
-use Rattle.text_scan.specs.Written.{text_of}
-use Rattle.cell_tree.specs.Uses.{displacements}
-use Rattle.cell_library.specs.LayoutTrees.{element_transform}
-use Rattle.cif_writing.specs.Commands.{call_command}
+use Rattle.cif_writing.proofs.Common.{◌≡◌, ◌++◌, map, drop, Some, text_of, displacements, element_transform, call_command}
 use Rattle.cif_writing.proofs.writing.write_grid.Given as goal
 
 -- what stands and the calls that are left are all

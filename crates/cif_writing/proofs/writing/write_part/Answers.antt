@@ -1,8 +1,4 @@
-use Rattle.std.proofs.Common.{◌≡◌, ◌++◌, map, sym, ◌∙◌}
-use Rattle.std.proofs.lemmas.Result.{on_ok_weaker}
-use Rattle.text_scan.specs.Written.{text_of}
-use Rattle.cif_writing.specs.Commands.{box_command, part_lines}
-use Rattle.cif_writing.specs.steps.Writing.{IsTooLongWith}
+use Rattle.cif_writing.proofs.Common.{◌≡◌, ◌++◌, map, sym, ◌∙◌, on_ok_weaker, text_of, box_command, part_lines, IsTooLongWith}
 use Rattle.cif_writing.proofs.SymbolLaws.{boxes_too_long, boxes_written}
 use Rattle.cif_writing.proofs.WritingLaws.{refused_weaker}
 use Rattle.cif_writing.proofs.writing.write_part.Goals as goal

@@ -1,9 +1,4 @@
-use Rattle.std.proofs.Common.{◌+◌, get_or, arith}
-use Rattle.std.proofs.lemmas.Result.{err_from_is_err_and}
-use Rattle.cell_library.specs.Libraries.{seen}
-use Rattle.cell_library.specs.Views.{view_at}
-use Rattle.cif_writing.specs.Parts.{part_sets}
-use Rattle.cif_writing.specs.Symbols.{IsPart}
+use Rattle.cif_writing.proofs.Common.{◌+◌, get_or, arith, err_from_is_err_and, seen, view_at, part_sets, IsPart}
 use Rattle.cif_writing.proofs.OneText.{one_part}
 use Rattle.cif_writing.proofs.PartLaws.{length-part_sets, part_at, part_some}
 use Rattle.cif_writing.proofs.SymbolLaws.{part_too_long, part_written}

@@ -1,7 +1,4 @@
-use Rattle.cell_library.specs.Libraries.{seen}
-use Rattle.cell_library.specs.Views.{view_at}
-use Rattle.cif_writing.specs.Parts.{part_sets}
-use Rattle.cif_writing.specs.Symbols.{IsPart}
+use Rattle.cif_writing.proofs.Common.{seen, view_at, part_sets, IsPart}
 use Rattle.cif_writing.proofs.WritingLaws.{WritesFirst}
 use Rattle.cif_writing.proofs.writing.write_parts.Given as goal
 

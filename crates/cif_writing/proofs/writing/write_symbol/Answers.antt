@@ -1,8 +1,4 @@
-use Rattle.std.proofs.Common.{◌++◌, ◌∷◌, [], ℕ, List, ap, ◌∙◌}
-use Rattle.std.proofs.lemmas.Result.{err_from_is_err_and}
-use Rattle.text_scan.specs.Written.{text_of}
-use Rattle.cell_library.specs.Libraries.{seen}
-use Rattle.cif_writing.specs.Commands.{start_command, name_command}
+use Rattle.cif_writing.proofs.Common.{◌++◌, ◌∷◌, [], ℕ, List, ap, ◌∙◌, err_from_is_err_and, text_of, seen, start_command, name_command}
 use Rattle.cif_writing.proofs.SymbolLaws.{calls_too_long, parts_too_long, symbol_written}
 use Rattle.cif_writing.proofs.WritingLaws.{passed_on}
 use Rattle.cif_writing.proofs.writing.write_symbol.Goals as goal

@@ -1,12 +1,5 @@
-use Rattle.std.proofs.Common.{◌+◌, ◌<◌, ℕ, List, length, map, get_or, subst, arith}
-use Rattle.std.proofs.lemmas.List.{length-map}
-use Rattle.std.proofs.lemmas.Option.{slice_get-get_or}
-use Rattle.std.proofs.lemmas.Result.{err_from_is_err_and}
-use Rattle.ext_model.specs.declared.tables.CellKey.{CellKey}
-use Rattle.geo_core.proofs.FiniteSets.Places.{In-slice_get, slice_get-map_there}
-use Rattle.cell_library.specs.Libraries.{seen}
-use Rattle.cif_writing.specs.declared.limits.TheConstants.{LONGEST_TEXT}
-use Rattle.cif_writing.specs.Symbols.{IsSymbol}
+use Rattle.cif_writing.proofs.Common.{◌+◌, ◌<◌, ℕ, List, length, map, get_or, subst, arith, length-map, slice_get-get_or, err_from_is_err_and}
+use Rattle.cif_writing.proofs.Common.{CellKey, In-slice_get, slice_get-map_there, seen, LONGEST_TEXT, IsSymbol}
 use Rattle.cif_writing.proofs.OneText.{one_of_cells}
 use Rattle.cif_writing.proofs.WritingLaws.{passed_on, too_long_at, too_long_with, writes_all, writes_more, writes_none}
 use Rattle.cif_writing.proofs.writing.write_symbols.Goals as goal

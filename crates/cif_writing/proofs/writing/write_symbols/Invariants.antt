@@ -1,6 +1,4 @@
-use Rattle.std.proofs.Common.{map}
-use Rattle.cell_library.specs.Libraries.{seen}
-use Rattle.cif_writing.specs.Symbols.{IsSymbol}
+use Rattle.cif_writing.proofs.Common.{map, seen, IsSymbol}
 use Rattle.cif_writing.proofs.WritingLaws.{WritesFirst}
 use Rattle.cif_writing.proofs.writing.write_symbols.Given as goal
 

@@ -1,10 +1,4 @@
-use Rattle.std.proofs.Common.{◌≡◌, ◌++◌, map}
-use Rattle.std.proofs.lemmas.Result.{on_ok_weaker}
-use Rattle.text_scan.specs.Written.{text_of}
-use Rattle.cell_library.specs.Libraries.{seen}
-use Rattle.cif_writing.specs.Commands.{call_command}
-use Rattle.cif_writing.specs.Symbols.{elements_of_use, IsUse}
-use Rattle.cif_writing.specs.steps.Writing.{AreTooLong, IsTooLongWith}
+use Rattle.cif_writing.proofs.Common.{◌≡◌, ◌++◌, map, on_ok_weaker, text_of, seen, call_command, elements_of_use, IsUse, AreTooLong, IsTooLongWith}
 use Rattle.cif_writing.proofs.SymbolLaws.{use_too_long, use_written}
 use Rattle.cif_writing.proofs.WritingLaws.{refused_weaker}
 use Rattle.cif_writing.proofs.writing.write_use.Goals as goal

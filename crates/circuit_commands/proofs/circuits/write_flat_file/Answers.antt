@@ -1,11 +1,8 @@
-use Rattle.std.proofs.Common.{◌≡◌, ◌≤◌, ◌++◌, ◌∷◌, [], ℕ, List, length, sym, subst, rules}
-use Rattle.std.specs.Prelude.{codes}
-use Rattle.std.proofs.lemmas.Result.{IfOk-weaker}
+use Rattle.circuit_commands.proofs.Common.{◌≡◌, ◌≤◌, ◌++◌, ◌∷◌, [], ℕ, List, sym, subst, rules, codes, IfOk-weaker, Written, reply}
+use Rattle.std.proofs.Common.{length}
 use Rattle.ext_text.specs.declared.limits.TheConstants.{LONGEST_TEXT}
 use Rattle.ext_text.specs.WrittenTexts.{flat_text}
-use Rattle.circuit_commands.specs.declared.circuits.Written.{Written}
 use Rattle.circuit_commands.specs.Circuits.{IsFlatWritten, flat_reply}
-use Rattle.line_answers.specs.LineEffects.{reply}
 use Rattle.circuit_commands.proofs.circuits.write_flat_file.Goals as goal
 
 pub returns-in_ok-flat_lines-in-Ok-clause-written : goal.returns-in_ok-flat_lines-in-Ok-clause-written

@@ -1,13 +1,8 @@
-use Rattle.std.proofs.Common.{◌≡◌, ◌∙◌, ℕ, List, inl, refl, sym, ap, subst}
-use Rattle.std.proofs.lemmas.Result.{IfOk-weaker}
+use Rattle.circuit_commands.proofs.Common.{◌≡◌, ◌∙◌, ℕ, List, inl, refl, sym, ap, subst, IfOk-weaker, All, fetched_by, ArrayExt, circuit_files}
+use Rattle.circuit_commands.proofs.Common.{answers_refusal, both_ok, Ext2simMeans}
 use Rattle.session_model.specs.Effects.{AnswersFetching, GivesFetching}
-use Rattle.session_model.specs.FileTrees.{All, fetched_by}
-use Rattle.ext_model.specs.declared.arrays.ArrayExt.{ArrayExt}
 use Rattle.ext_loading.specs.declared.loading.LoadedExts.{LoadedExts}
 use Rattle.ext_loading.specs.Loads.{AreRead, LoadGives}
-use Rattle.ext_loading.specs.Readings.{circuit_files}
-use Rattle.line_answers.proofs.AnswerLaws.{answers_refusal, both_ok}
-use Rattle.circuit_commands.specs.CommandExt2sim.{Ext2simMeans}
 use Rattle.circuit_commands.specs.Refusals.{tree_refusal}
 use Rattle.circuit_commands.proofs.command_ext2sim.ext2sim.Goals as goal
 

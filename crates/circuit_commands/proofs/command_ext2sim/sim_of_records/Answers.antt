@@ -1,12 +1,6 @@
-use Rattle.std.proofs.Common.{List, inl, inr, sym, subst, rules}
-use Rattle.std.proofs.lemmas.Result.{IfOk-weaker}
-use Rattle.session_model.specs.declared.report.ReportLine.{ReportLine}
+use Rattle.circuit_commands.proofs.Common.{List, inl, inr, sym, subst, rules, IfOk-weaker, ReportLine, plains, with_fets, IsOfInside, both_ok}
 use Rattle.circuit_model.specs.Refusals.{IsFlatFaultOf}
-use Rattle.ext_loading.specs.PlainRecords.Plains.{plains}
-use Rattle.flatten.specs.Sinks.{with_fets}
 use Rattle.circuit_commands.specs.declared.circuits.CircuitFile.TheVariants.{Sim}
-use Rattle.line_answers.specs.LineEffects.{IsOfInside}
-use Rattle.line_answers.proofs.AnswerLaws.{both_ok}
 use Rattle.circuit_commands.proofs.CircuitInside.{written_inside}
 use Rattle.circuit_commands.proofs.TreeCommands.{refuses_records, writes_tree}
 use Rattle.circuit_commands.proofs.command_ext2sim.sim_of_records.Goals as goal

@@ -1,7 +1,4 @@
-use Rattle.std.proofs.Common.{sym, subst, rules}
-use Rattle.std.proofs.lemmas.Result.{IfOk-weaker}
-use Rattle.flatten.specs.Sinks.{with_fets}
-use Rattle.circuit_commands.specs.declared.circuits.Written.TheVariants.{Passed}
+use Rattle.circuit_commands.proofs.Common.{sym, subst, rules, IfOk-weaker, with_fets, Passed}
 use Rattle.circuit_commands.specs.declared.limits.Limit.{Limit}
 use Rattle.circuit_commands.specs.Circuits.{IsSimWritten}
 use Rattle.circuit_commands.proofs.WrittenSims.{not_written, sim_written}

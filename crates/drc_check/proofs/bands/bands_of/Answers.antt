@@ -1,10 +1,7 @@
-use Rattle.std.proofs.Common.{◌≡◌, ◌≤ℤ◌, ◌<ℤ◌, ◌+ℤ◌, ◌++◌, ◌∷◌, [], ℤ, true, rules, w64, of_z, to_z, FitsSigned, refl, sym, ap, subst, ◌∙◌, arith}
-use Rattle.std.specs.Int.{int_min}
+use Rattle.drc_check.proofs.Common.{◌≡◌, ◌≤ℤ◌, ◌<ℤ◌, ◌+ℤ◌, ◌++◌, ◌∷◌, [], ℤ, true, rules, w64, of_z, to_z, FitsSigned, refl, sym, ap, subst, ◌∙◌}
+use Rattle.drc_check.proofs.Common.{arith, int_min, ints, to_z-of_z, Rect, AreBandsBelow}
 use lib.Signed.{lt_z}
-use Rattle.std.proofs.lemmas.Int.{ints, to_z-of_z}
-use Rattle.geo_core.specs.declared.squares.Rect.{Rect}
 use Rattle.geo_core.proofs.SquareLaws.{rect_is}
-use Rattle.drc_check.specs.steps.Bands.{AreBandsBelow}
 use Rattle.drc_check.proofs.BandLaws.{band_bounds, band_more, left_falls, min_in_bits, rows_between}
 use Rattle.drc_check.proofs.bands.bands_of.Goals as goal
 

@@ -1,6 +1,4 @@
-use Rattle.std.proofs.Common.{◌≤ℤ◌, ◌-ℤ◌, pos}
-use Rattle.std.specs.Int.RustNames.{unsigned_abs}
-use Rattle.drc_check.specs.steps.Bands.{AreBandsBelow}
+use Rattle.drc_check.proofs.Common.{◌≤ℤ◌, ◌-ℤ◌, pos, unsigned_abs, AreBandsBelow}
 use Rattle.drc_check.proofs.bands.bands_of.Given as goal
 
 -- the bands so far have all squares of the hull below this row

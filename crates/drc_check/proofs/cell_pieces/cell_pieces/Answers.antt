@@ -1,8 +1,5 @@
-use Rattle.std.proofs.Common.{◌≡◌, false, sym, subst, ◌∙◌}
-use Rattle.geo_core.specs.Areas.{has_square}
+use Rattle.drc_check.proofs.Common.{◌≡◌, false, sym, subst, ◌∙◌, has_square, seen, AreCellPieces}
 use Rattle.cell_library.specs.LayoutTrees.{tree_at}
-use Rattle.cell_library.specs.Libraries.{seen}
-use Rattle.drc_check.specs.steps.CellPieces.{AreCellPieces}
 use Rattle.drc_check.proofs.CellPieceLaws.{empty_hull, hull_in_range, no_hull, pieces_of_hull}
 use Rattle.drc_check.proofs.cell_pieces.cell_pieces.Goals as goal
 

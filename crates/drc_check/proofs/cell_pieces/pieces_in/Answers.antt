@@ -1,22 +1,7 @@
-use Rattle.std.proofs.Common.{◌≡◌, ◌+◌, ℕ, Bool, List, pos, take, sym, subst, ◌∙◌, arith}
-use Rattle.std.specs.Prelude.{slice_index_or}
-use Rattle.std.proofs.lemmas.List.{take_all}
-use Rattle.finite_sets.specs.Lists.{In, Lists}
-use Rattle.finite_sets.proofs.Members.{In-get_or}
-use Rattle.geo_core.specs.declared.squares.Rect.{Rect}
-use Rattle.geo_core.specs.Covering.{Covers}
-use Rattle.geo_core.specs.Strips.{IsInUnion}
-use Rattle.tech_model.specs.declared.raw.RawTech.{RawTech}
-use Rattle.hierarchy_model.specs.Offences.LayoutModel.Places.{Place}
-use Rattle.cell_library.specs.declared.part_tiles.PartTile.{PartTile}
+use Rattle.drc_check.proofs.Common.{◌≡◌, ◌+◌, ℕ, Bool, List, pos, take, sym, subst, ◌∙◌, arith, slice_index_or, take_all, In, Lists, In-get_or, Rect}
+use Rattle.drc_check.proofs.Common.{Covers, IsInUnion, RawTech, Place, PartTile, LibraryParts, seen, IsPartTileIn, set_of_part, set_of_tiles}
+use Rattle.drc_check.proofs.Common.{ListedPiece, AreBandsOf, AreListedPiecesIn, IsMarkedType, AddsListed}
 use Rattle.cell_library.specs.LayoutTrees.{tree_at}
-use Rattle.cell_library.specs.Libraries.{LibraryParts, seen}
-use Rattle.cell_library.specs.PartTiles.{IsPartTileIn, set_of_part, set_of_tiles}
-use Rattle.drc_check.specs.declared.pieces.ListedPiece.{ListedPiece}
-use Rattle.drc_check.specs.steps.Bands.{AreBandsOf}
-use Rattle.drc_check.specs.steps.CellPieces.{AreListedPiecesIn}
-use Rattle.drc_check.specs.steps.Listed.{IsMarkedType}
-use Rattle.drc_check.specs.steps.Pieces.{AddsListed}
 use Rattle.drc_check.proofs.VisitPieces.{bands_are_hull, next_band, pieces_of_visit}
 use Rattle.drc_check.proofs.cell_pieces.pieces_in.Goals as goal
 

@@ -1,8 +1,5 @@
-use Rattle.std.proofs.Common.{◌≡◌, ◌≤◌, take}
-use Rattle.geo_core.specs.Strips.{IsInUnion}
-use Rattle.cell_library.specs.Libraries.{seen}
+use Rattle.drc_check.proofs.Common.{◌≡◌, ◌≤◌, take, IsInUnion, seen, AreListedPiecesIn}
 use Rattle.cell_library.specs.LayoutTrees.{tree_at}
-use Rattle.drc_check.specs.steps.CellPieces.{AreListedPiecesIn}
 use Rattle.drc_check.proofs.cell_pieces.pieces_in.Given as goal
 
 -- the pieces so far are those of the bands so far, by visits of the same library

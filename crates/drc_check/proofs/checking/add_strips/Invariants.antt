@@ -1,5 +1,4 @@
-use Rattle.std.proofs.Common.{◌≡◌, ◌++◌, map, take}
-use Rattle.drc_check.specs.Violations.{violation_of}
+use Rattle.drc_check.proofs.Common.{◌≡◌, ◌++◌, map, take, violation_of}
 use Rattle.drc_check.proofs.checking.add_strips.Given as goal
 
 abbrev pub invariant-loop-area : goal.invariant-loop-area

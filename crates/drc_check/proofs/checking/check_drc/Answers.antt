@@ -1,17 +1,8 @@
-use Rattle.std.proofs.Common.{◌≤◌, ◌<◌, ℕ, List, length, sym, subst, arith}
-use Rattle.std.specs.Prelude.{All}
-use Rattle.finite_sets.proofs.Searches.{All-In, All-from_In}
-use Rattle.hierarchy_model.specs.Offences.LayoutModel.FlatSets.{flat_sets}
+use Rattle.drc_check.proofs.Common.{◌≤◌, ◌<◌, ℕ, List, length, sym, subst, arith, All, All-In, All-from_In, flat_sets, seen, Rule, IsLawfulRule}
+use Rattle.drc_check.proofs.Common.{ListedPiece, Violation, IsSoundPiece, ViolatesIn, AreListedPieces, IsListedAt, AreRuleStripsFrom}
 use Rattle.cell_library.specs.LayoutTrees.{tree_at}
-use Rattle.cell_library.specs.Libraries.{seen}
-use Rattle.drc_rules.specs.declared.rules.Rule.{Rule}
 use Rattle.drc_rules.specs.declared.limits.TheConstants.{MOST_RULES}
-use Rattle.drc_rules.specs.LawfulRules.{IsLawfulRule}
-use Rattle.drc_check.specs.declared.pieces.ListedPiece.{ListedPiece}
-use Rattle.drc_check.specs.declared.violations.Violation.{Violation}
-use Rattle.drc_check.specs.steps.Checks.{IsSoundPiece, ViolatesIn}
-use Rattle.drc_check.specs.steps.Pieces.{AreListedPieces, IsListedAt}
-use Rattle.drc_check.specs.Violations.{AreRuleStripsFrom, AreViolations, Violates}
+use Rattle.drc_check.specs.Violations.{AreViolations, Violates}
 use Rattle.drc_check.proofs.SquareLaws.{violates_by_pieces, violates_in_pieces}
 use Rattle.drc_check.proofs.ViolationLaws.{if_ok_then, strip_of_rule, strips_alike}
 use Rattle.drc_check.proofs.checking.check_drc.Goals as goal

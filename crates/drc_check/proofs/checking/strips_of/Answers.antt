@@ -1,18 +1,8 @@
-use Rattle.std.proofs.Common.{◌≡◌, ℤ, List, sym, ap, subst, ◌∙◌, rules, of_z, to_z}
-use Rattle.std.proofs.lemmas.Int.{to_z-of_z}
+use Rattle.drc_check.proofs.Common.{◌≡◌, ℤ, List, sym, ap, subst, ◌∙◌, rules, of_z, to_z, to_z-of_z, All, IfOk, Rect, IsProper, IsInUnion, IsStrips}
+use Rattle.drc_check.proofs.Common.{SET_EDGE, IsBounded, TypeId, RuleKind, areas_of_list, ViolatesBy}
 use mir.Syntax.{w64}
 use mir.Val.{SFits}
-use Rattle.std.specs.Prelude.{All, IfOk}
-use Rattle.geo_core.specs.declared.squares.Rect.{Rect}
-use Rattle.geo_core.specs.Covering.{IsProper}
-use Rattle.geo_core.specs.Strips.{IsInUnion, IsStrips}
-use Rattle.square_sets.specs.declared.limits.TheConstants.{SET_EDGE}
 use Rattle.square_sets.specs.Boxes.{IsTooNarrow, IsTooNear, IsTooTight}
-use Rattle.square_sets.specs.Reaches.{IsBounded}
-use Rattle.tech_model.specs.declared.raw.TypeId.{TypeId}
-use Rattle.drc_rules.specs.declared.rules.RuleKind.{RuleKind}
-use Rattle.drc_check.specs.steps.Checks.{areas_of_list}
-use Rattle.drc_check.specs.Violations.{ViolatesBy}
 use Rattle.drc_check.proofs.AreaLaws.{areas_bounded, areas_proper}
 use Rattle.drc_check.proofs.checking.strips_of.Goals as goal
 

@@ -1,10 +1,6 @@
-use Rattle.std.proofs.Common.{◌≡◌, ◌+◌, ◌++◌, ◌∷◌, [], List, length, map, take, sym, ap, subst, ◌∙◌, arith}
-use Rattle.std.proofs.lemmas.List.{length-take-le, take_more}
-use Rattle.geo_core.specs.declared.squares.Rect.{Rect}
-use Rattle.drc_rules.specs.declared.rules.Rule.{Rule}
-use Rattle.drc_check.specs.declared.violations.Violation.{Violation}
-use Rattle.drc_check.specs.steps.Checks.{ViolatesIn}
-use Rattle.drc_check.specs.Violations.{violation_of, AreRuleStripsFrom}
+use Rattle.drc_check.proofs.Common.{◌≡◌, ◌+◌, ◌++◌, ◌∷◌, [], List, length, map, take, sym, ap, subst, ◌∙◌, arith, take_more, Rect, Rule, Violation}
+use Rattle.drc_check.proofs.Common.{ViolatesIn, violation_of, AreRuleStripsFrom}
+use Rattle.std.proofs.lemmas.List.{length-take-le}
 use Rattle.drc_check.proofs.ViolationLaws.{strips_more}
 use Rattle.drc_check.proofs.checking.violations_of.Goals as goal
 

@@ -1,6 +1,4 @@
-use Rattle.std.proofs.Common.{take}
-use Rattle.drc_check.specs.steps.Checks.{ViolatesIn}
-use Rattle.drc_check.specs.Violations.{AreRuleStripsFrom}
+use Rattle.drc_check.proofs.Common.{take, ViolatesIn, AreRuleStripsFrom}
 use Rattle.drc_check.proofs.checking.violations_of.Given as goal
 
 -- the strips so far are those of the rules so far

@@ -1,9 +1,5 @@
-use Rattle.std.proofs.Common.{◌≡◌, ◌+◌, ◌++◌, ◌∷◌, [], inl, inr, List, take, sym, ap, subst, ◌∙◌}
-use Rattle.std.proofs.lemmas.List.{take_all, take_more}
-use Rattle.finite_sets.specs.Lists.{In}
-use Rattle.finite_sets.proofs.Members.{In-push_cases}
-use Rattle.drc_rules.specs.declared.rules.Rule.{Rule}
-use Rattle.drc_check.specs.steps.Listed.{IsListedType}
+use Rattle.drc_check.proofs.Common.{◌≡◌, ◌+◌, ◌++◌, ◌∷◌, [], inl, inr, List, take, sym, ap, subst, ◌∙◌, take_all, take_more, In, In-push_cases, Rule}
+use Rattle.drc_check.proofs.Common.{IsListedType}
 use Rattle.drc_check.proofs.marks.listed_types.Goals as goal
 
 pub loop-rule-preserved : goal.loop-rule-preserved

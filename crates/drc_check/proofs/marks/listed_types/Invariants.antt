@@ -1,7 +1,4 @@
-use Rattle.std.proofs.Common.{◌≡◌, ℕ, take, vec_len}
-use Rattle.tech_model.specs.declared.raw.TypeId.{TypeId}
-use Rattle.drc_check.specs.declared.marks.TheConstants.{TYPE_NUMBERS}
-use Rattle.drc_check.specs.steps.Listed.{IsListedType, IsMarkedType}
+use Rattle.drc_check.proofs.Common.{◌≡◌, ℕ, take, vec_len, TypeId, TYPE_NUMBERS, IsListedType, IsMarkedType}
 use Rattle.drc_check.proofs.marks.listed_types.Given as goal
 
 -- the types of the rules so far are marked

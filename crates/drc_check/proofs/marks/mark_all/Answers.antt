@@ -1,10 +1,5 @@
-use Rattle.std.proofs.Common.{◌≡◌, ◌<◌, inl, inr, true, length, get_or, take, ap, subst, ◌∙◌, rules}
-use Rattle.std.proofs.Math.ListN.{set}
-use Rattle.std.proofs.lemmas.List.{take_more}
-use Rattle.finite_sets.specs.Lists.{In}
-use Rattle.finite_sets.proofs.Members.{In-push_cases}
-use Rattle.tech_model.specs.declared.raw.TypeId.{TypeId}
-use Rattle.drc_check.specs.steps.Listed.{IsMarkedType}
+use Rattle.drc_check.proofs.Common.{◌≡◌, ◌<◌, inl, inr, true, length, get_or, take, ap, subst, ◌∙◌, rules, set, take_more, In, In-push_cases, TypeId}
+use Rattle.drc_check.proofs.Common.{IsMarkedType}
 use Rattle.drc_check.proofs.MarkLaws.{mark_kept, mark_set}
 use Rattle.drc_check.proofs.marks.mark_all.Goals as goal
 

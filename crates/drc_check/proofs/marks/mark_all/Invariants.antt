@@ -1,8 +1,4 @@
-use Rattle.std.proofs.Common.{◌≡◌, ℕ, take, vec_len}
-use Rattle.finite_sets.specs.Lists.{In}
-use Rattle.tech_model.specs.declared.raw.TypeId.{TypeId}
-use Rattle.drc_check.specs.declared.marks.TheConstants.{TYPE_NUMBERS}
-use Rattle.drc_check.specs.steps.Listed.{IsMarkedType}
+use Rattle.drc_check.proofs.Common.{◌≡◌, ℕ, take, vec_len, In, TypeId, TYPE_NUMBERS, IsMarkedType}
 use Rattle.drc_check.proofs.marks.mark_all.Given as goal
 
 -- the types so far are marked, and all that were before

@@ -1,7 +1,4 @@
-use Rattle.std.proofs.Common.{◌+◌, Vec, Global, length, sym, ap, subst, ◌∙◌, arith}
-use Rattle.tech_model.specs.declared.raw.RawTech.{RawTech}
-use Rattle.drc_check.specs.declared.pieces.ListedPiece.{ListedPiece}
-use Rattle.drc_check.specs.steps.Pieces.{AddsMadePieces}
+use Rattle.drc_check.proofs.Common.{◌+◌, Vec, Global, length, sym, ap, subst, ◌∙◌, arith, RawTech, ListedPiece, AddsMadePieces}
 use Rattle.drc_check.proofs.PlanePieces.{IsListedBelow, all_planes, plane_added, plane_left_out}
 use Rattle.drc_check.proofs.pieces.add_listed.Goals as goal
 use Rattle.drc_check.proofs.pieces.add_listed.Goals.{then-names_plane+in_ok-add_of_plane, else-names_plane}

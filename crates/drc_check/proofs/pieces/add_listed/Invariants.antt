@@ -1,4 +1,4 @@
-use Rattle.drc_check.specs.steps.Pieces.{AddsMadePieces}
+use Rattle.drc_check.proofs.Common.{AddsMadePieces}
 use Rattle.drc_check.proofs.PlanePieces.{IsListedBelow}
 use Rattle.drc_check.proofs.pieces.add_listed.Given as goal
 

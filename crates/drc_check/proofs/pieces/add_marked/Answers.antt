@@ -1,8 +1,4 @@
-use Rattle.std.proofs.Common.{Vec, Global, sym, ap, ◌∙◌}
-use Rattle.std.specs.Prelude.{Some, None}
-use Rattle.std.proofs.lemmas.List.{append-nil}
-use Rattle.drc_check.specs.declared.pieces.ListedPiece.{ListedPiece}
-use Rattle.drc_check.specs.steps.Pieces.{stack_piece}
+use Rattle.drc_check.proofs.Common.{Vec, Global, sym, ap, ◌∙◌, Some, None, append-nil, ListedPiece, stack_piece}
 use Rattle.drc_check.proofs.FoundLists.{filter_map-next}
 use Rattle.drc_check.proofs.pieces.add_marked.Goals as goal
 use Rattle.drc_check.proofs.pieces.add_marked.Goals.{in-Some+in_ok-push, in_default}

@@ -1,6 +1,4 @@
-use Rattle.std.proofs.Common.{◌≡◌, ◌++◌, take}
-use Rattle.std.specs.List.{filter_map}
-use Rattle.drc_check.specs.steps.Pieces.{stack_piece}
+use Rattle.drc_check.proofs.Common.{◌≡◌, ◌++◌, take, filter_map, stack_piece}
 use Rattle.drc_check.proofs.pieces.add_marked.Given as goal
 
 abbrev pub invariant-loop-stack : goal.invariant-loop-stack

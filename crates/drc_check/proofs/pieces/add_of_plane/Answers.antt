@@ -1,13 +1,8 @@
-use Rattle.std.proofs.Common.{◌≡◌, ◌++◌, List, sym, ap, subst, ◌∙◌}
-use Rattle.std.specs.Prelude.{All, map}
-use Rattle.std.specs.List.{filter_map}
-use Rattle.finite_sets.proofs.Searches.{All-from_In, on_ok_both}
-use Rattle.geo_core.specs.declared.squares.Rect.{Rect}
-use Rattle.rect_overlays.specs.declared.stacks.Stack.{Stack}
+use Rattle.drc_check.proofs.Common.{◌≡◌, ◌++◌, List, sym, ap, subst, ◌∙◌, All, filter_map, All-from_In, Rect, Stack, PartSet, RawTech, set_in}
+use Rattle.drc_check.proofs.Common.{stack_piece, tiles_of_plane, HasMembersIn}
+use Rattle.std.specs.Prelude.{map}
+use Rattle.finite_sets.proofs.Searches.{on_ok_both}
 use Rattle.rect_overlays.specs.Stacks.{AreStacks}
-use Rattle.tech_model.specs.declared.raw.PartSet.{PartSet}
-use Rattle.tech_model.specs.declared.raw.RawTech.{RawTech}
-use Rattle.drc_check.specs.steps.Pieces.{set_in, stack_piece, tiles_of_plane, HasMembersIn}
 use Rattle.drc_check.proofs.StackPieces.{areas_on, members_in, sets_on, stack_pieces, stack_pieces_lie}
 use Rattle.drc_check.proofs.pieces.add_of_plane.Goals as goal
 

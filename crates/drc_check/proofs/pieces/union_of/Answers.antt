@@ -1,6 +1,4 @@
-use Rattle.std.proofs.Common.{ℕ, bit_or, get_or, take, sym, ◌∙◌, ap}
-use Rattle.std.proofs.lemmas.List.{take_more}
-use Rattle.drc_check.specs.steps.Pieces.{member_union, part_set_at}
+use Rattle.drc_check.proofs.Common.{ℕ, bit_or, get_or, take, sym, ◌∙◌, ap, take_more, member_union, part_set_at}
 use Rattle.drc_check.proofs.StackPieces.{member_union-push}
 use Rattle.drc_check.proofs.pieces.union_of.Goals as goal
 

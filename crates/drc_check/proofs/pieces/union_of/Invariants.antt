@@ -1,5 +1,4 @@
-use Rattle.std.proofs.Common.{◌≡◌, take}
-use Rattle.drc_check.specs.steps.Pieces.{member_union}
+use Rattle.drc_check.proofs.Common.{◌≡◌, take, member_union}
 use Rattle.drc_check.proofs.pieces.union_of.Given as goal
 
 abbrev pub invariant-loop-member : goal.invariant-loop-member

@@ -1,9 +1,6 @@
-use Rattle.std.proofs.Common.{◌≡◌, ◌∙◌, subst, sym}
-use Rattle.std.specs.Int.{w64}
-use Rattle.script_lines.specs.declared.commands.Command.{Command}
+use Rattle.edit_script.proofs.Common.{◌≡◌, ◌∙◌, subst, sym, w64, Command, Applies}
 use Rattle.script_lines.specs.declared.commands.Command.TheVariants as command
 use Rattle.script_lines.specs.Forms.{IsFormed}
-use Rattle.edit_script.specs.Answers.{Applies}
 use Rattle.edit_script.proofs.NumberLaws.{number_passed, position_passed}
 use Rattle.edit_script.proofs.applying.dispatch.Goals as goal
 use mir.Val.{of_z, to_z}

@@ -1,4 +1,4 @@
-use Rattle.std.proofs.Common.{sym}
+use Rattle.edit_script.proofs.Common.{sym}
 use Rattle.edit_script.proofs.CellLaws.{found_there}
 use Rattle.edit_script.proofs.lookups.cell_called.Goals as goal
 

@@ -1,5 +1,4 @@
-use Rattle.std.proofs.Common.{◌<◌, length, subst}
-use Rattle.tech_model.specs.declared.raw.RawTech.{RawTech}
+use Rattle.edit_script.proofs.Common.{◌<◌, length, subst, RawTech}
 use Rattle.edit_script.proofs.CellLaws.{layer_there}
 use Rattle.edit_script.proofs.lookups.label_layer.Goals as goal
 

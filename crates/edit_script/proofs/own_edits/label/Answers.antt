@@ -1,6 +1,5 @@
-use Rattle.std.proofs.Common.{◌≡◌, ◌∙◌, ap, unsigned_abs}
-use Rattle.std.specs.Int.{w64}
-use Rattle.std.proofs.lemmas.Int.{to_z-of_z}
+use Rattle.edit_script.proofs.Common.{◌≡◌, ◌∙◌, ap, w64, to_z-of_z}
+use Rattle.std.proofs.Common.{unsigned_abs}
 use Rattle.edit_script.proofs.OwnLaws.{label_applies}
 use Rattle.edit_script.proofs.own_edits.label.Goals as goal
 use mir.Val.{of_z, to_z}

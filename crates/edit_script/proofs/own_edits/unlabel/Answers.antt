@@ -1,5 +1,4 @@
-use Rattle.cell_library.specs.Libraries.{edits_of, seen}
-use Rattle.cell_library.specs.Refusals.{EditIsRefused, UnlabelIsRefused}
+use Rattle.edit_script.proofs.Common.{edits_of, seen, EditIsRefused, UnlabelIsRefused}
 use Rattle.edit_script.proofs.AnswerLaws.{or_lacks_memory}
 use Rattle.edit_script.proofs.OwnLaws.{unlabel_applies}
 use Rattle.edit_script.proofs.own_edits.unlabel.Goals as goal

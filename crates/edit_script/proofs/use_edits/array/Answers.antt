@@ -1,5 +1,4 @@
-use Rattle.cell_library.specs.Libraries.{edits_of, seen}
-use Rattle.cell_library.specs.Refusals.{ArrayIsRefused, EditIsRefused}
+use Rattle.edit_script.proofs.Common.{edits_of, seen, ArrayIsRefused, EditIsRefused}
 use Rattle.edit_script.proofs.AnswerLaws.{or_lacks_memory}
 use Rattle.edit_script.proofs.UseLaws.{array_applies}
 use Rattle.edit_script.proofs.use_edits.array.Goals as goal

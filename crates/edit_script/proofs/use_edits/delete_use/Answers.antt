@@ -1,5 +1,4 @@
-use Rattle.cell_library.specs.Libraries.{edits_of, seen}
-use Rattle.cell_library.specs.Refusals.{DeleteIsRefused, EditIsRefused}
+use Rattle.edit_script.proofs.Common.{edits_of, seen, DeleteIsRefused, EditIsRefused}
 use Rattle.edit_script.proofs.AnswerLaws.{or_lacks_memory}
 use Rattle.edit_script.proofs.UseLaws.{delete_applies}
 use Rattle.edit_script.proofs.use_edits.delete_use.Goals as goal

@@ -1,8 +1,4 @@
-use Rattle.std.proofs.Common.{◌≡◌}
-use Rattle.std.specs.Int.{w64}
-use Rattle.std.proofs.lemmas.Int.{to_z-of_z}
-use Rattle.cell_library.specs.Libraries.{edits_of, seen}
-use Rattle.cell_library.specs.Refusals.{EditIsRefused, MoveIsRefused}
+use Rattle.edit_script.proofs.Common.{◌≡◌, w64, to_z-of_z, edits_of, seen, EditIsRefused, MoveIsRefused}
 use Rattle.edit_script.proofs.AnswerLaws.{or_lacks_memory}
 use Rattle.edit_script.proofs.UseLaws.{move_applies}
 use Rattle.edit_script.proofs.use_edits.move_use.Goals as goal

@@ -1,7 +1,5 @@
-use Rattle.std.proofs.Common.{List, ◌++◌, sym, ap, ◌∙◌, append_assoc, take}
+use Rattle.element_index.proofs.Common.{List, ◌++◌, sym, ap, ◌∙◌, append_assoc, take, Rect, rects_of}
 use Rattle.std.proofs.lemmas.List.{take_all}
-use Rattle.geo_core.specs.declared.squares.Rect.{Rect}
-use Rattle.element_index.specs.Forests.{rects_of}
 use Rattle.element_index.proofs.ForestLaws.{rects_of-more}
 use Rattle.element_index.proofs.forests.collect.Goals as goal
 

@@ -1,5 +1,4 @@
-use Rattle.std.proofs.Common.{◌≡◌, ◌++◌, take}
-use Rattle.element_index.specs.Forests.{rects_of}
+use Rattle.element_index.proofs.Common.{◌≡◌, ◌++◌, take, rects_of}
 use Rattle.element_index.proofs.forests.collect.Given as goal
 
 -- the rectangles of the trees so far

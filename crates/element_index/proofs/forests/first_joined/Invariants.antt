@@ -1,4 +1,4 @@
-use Rattle.std.proofs.Common.{◌≤◌, length}
+use Rattle.element_index.proofs.Common.{◌≤◌, length}
 use Rattle.element_index.proofs.forests.first_joined.Given as goal
 
 abbrev pub invariant-loop-first : goal.invariant-loop-first

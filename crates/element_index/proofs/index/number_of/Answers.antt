@@ -1,8 +1,7 @@
-use Rattle.std.proofs.Common.{◌≡◌, ◌≤◌, [], ◌∷◌, ◌++◌, inl, inr, length, refl, sym, arith, length-append}
-use Rattle.element_index.specs.declared.limits.TheConstants.{MOST_IDS}
+use Rattle.element_index.proofs.Common.{◌≡◌, ◌≤◌, [], ◌∷◌, ◌++◌, inl, inr, length, refl, sym, arith, length-append, MOST_IDS, stands_where_found}
+use Rattle.element_index.proofs.Common.{stands_nowhere}
 use Rattle.element_index.proofs.IdLaws.{new_id, last_id, there_In}
 use Rattle.element_index.proofs.index.number_of.Goals as goal
-use Rattle.name_index.proofs.Positions.{stands_where_found, stands_nowhere}
 
 pub returns-in-Some-clause-number : goal.returns-in-Some-clause-number
 returns-in-Some-clause-number c = stands_where_found c.args.ids.now c.args.id.now c.in-Some.number (sym c.in-Some.ensures)

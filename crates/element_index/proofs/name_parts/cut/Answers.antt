@@ -1,4 +1,4 @@
-use Rattle.std.proofs.Common.{sym}
+use Rattle.element_index.proofs.Common.{sym}
 use Rattle.element_index.proofs.PartLaws.{absent_unfound, absent_before, cut_parts}
 use Rattle.element_index.proofs.name_parts.cut.Goals as goal
 

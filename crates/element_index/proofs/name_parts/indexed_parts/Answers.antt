@@ -1,5 +1,5 @@
-use Rattle.std.proofs.Common.{◌==◌, ℕ, List, length, ap, ◌∙◌}
-use Rattle.std.proofs.lemmas.Bool.{both_ways}
+use Rattle.element_index.proofs.Common.{ℕ, List, length, ap, ◌∙◌, both_ways}
+use Rattle.std.proofs.Common.{◌==◌}
 use Rattle.element_index.proofs.PartLaws.{no_bracket, no_comma, no_end, cut_name, cuts_are_parts}
 use Rattle.element_index.proofs.name_parts.indexed_parts.Goals as goal
 use Rattle.element_index.proofs.name_parts.indexed_parts.Goals.{then-not-is_empty-via-then-not-is_empty}

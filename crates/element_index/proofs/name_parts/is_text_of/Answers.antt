@@ -1,9 +1,5 @@
-use Rattle.std.proofs.Common.{◌≡◌, sym, ap, ◌∙◌, arith}
+use Rattle.element_index.proofs.Common.{◌≡◌, sym, ap, ◌∙◌, arith, w64, to_z-of_z, bytes_eq-Decides, decimal}
 use Rattle.std.specs.Fmt.{signed_decimal}
-use Rattle.std.specs.Int.{w64}
-use Rattle.std.proofs.lemmas.Int.{to_z-of_z}
-use Rattle.std.proofs.lemmas.Slice.Eq.{bytes_eq-Decides}
-use Rattle.text_scan.specs.Decimal.{decimal}
 use Rattle.text_scan.proofs.DecimalLemmas.{decimal-std}
 use Rattle.element_index.proofs.name_parts.is_text_of.Goals as goal
 

@@ -1,7 +1,4 @@
-use Rattle.std.proofs.Common.{arith}
-use Rattle.std.proofs.lemmas.Int.{ints, clamps}
-use Rattle.geo_core.proofs.SquareLaws.{rect_is}
-use Rattle.element_index.specs.Squares.{grid_area}
+use Rattle.element_index.proofs.Common.{arith, ints, clamps, rect_is, grid_area}
 use Rattle.element_index.proofs.SquareLaws.{short_low, short_high, fits_wide}
 use Rattle.element_index.proofs.uses.grid_area.Goals as goal
 

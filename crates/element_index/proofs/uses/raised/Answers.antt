@@ -1,8 +1,4 @@
-use Rattle.std.proofs.Common.{◌≡◌, pos, ◌*ℤ◌, to_z, of_z, arith}
-use Rattle.std.specs.Int.{w64}
-use Rattle.std.proofs.lemmas.Int.{ints}
-use Rattle.geo_core.proofs.SquareLaws.{rect_is}
-use Rattle.element_index.specs.Squares.{raised}
+use Rattle.element_index.proofs.Common.{◌≡◌, pos, ◌*ℤ◌, to_z, of_z, arith, w64, ints, rect_is, raised}
 use Rattle.element_index.proofs.uses.raised.Goals as goal
 
 pub returns : goal.returns

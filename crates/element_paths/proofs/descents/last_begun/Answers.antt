@@ -1,11 +1,11 @@
-use Rattle.std.proofs.Common.{◌≡◌, ℕ, ◌-◌, ◌<◌, ◌≤◌, true, false, List, length, get_or, inl, inr, ap, arith, rules}
+use Rattle.element_paths.proofs.Common.{◌≡◌, ℕ, ◌-◌, ◌<◌, ◌≤◌, List, length, get_or, inl, inr, ap, arith, rules, get_or_from_slice_get}
+use Rattle.element_paths.proofs.Common.{slice_get_within, UseStart, HasBegun, IsLastBegun}
+use Rattle.std.proofs.Common.{true, false}
 use Rattle.std.specs.Prelude.{nat_le}
 use Rattle.std.specs.List.Sorted.{IsNonDecreasingBy, IsPartitionedBy, IsPartitionPoint}
 use Rattle.std.proofs.lemmas.Bool.{cases_lt, leb-false, leb-true}
 use Rattle.std.proofs.lemmas.List.Sorted.{IsPartitionedBy-leb, IsPartitionPoint-from_clause}
-use Rattle.std.proofs.lemmas.Option.{get_or_from_slice_get, slice_get-get_or, slice_get_within}
-use Rattle.element_paths.specs.declared.starts.UseStart.{UseStart}
-use Rattle.element_paths.specs.UseStarts.{HasBegun, IsLastBegun}
+use Rattle.std.proofs.lemmas.Option.{slice_get-get_or}
 use Rattle.element_paths.proofs.descents.last_begun.Goals as goal
 
 -- The uses before the place have begun at this number, and the others have not.

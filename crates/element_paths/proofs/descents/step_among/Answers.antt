@@ -1,10 +1,5 @@
-use Rattle.std.proofs.Common.{ℕ, ◌+◌, ◌-◌, ◌/◌, ◌%◌, ◌<◌, length, get_or, sym, ap, subst, arith}
-use Rattle.cell_tree.specs.Uses.{displacements}
-use Rattle.library_trees.specs.CellLibrary.LayoutTrees.{tree_at}
-use Rattle.library_trees.specs.CellLibrary.Libraries.{seen}
-use Rattle.library_trees.specs.CellLibrary.Views.{view_at}
-use Rattle.library_trees.proofs.CellLibrary.ElementCounts.{use_is_lawful}
-use Rattle.element_paths.specs.declared.starts.UseStart.{UseStart}
+use Rattle.element_paths.proofs.Common.{ℕ, ◌+◌, ◌-◌, ◌/◌, ◌%◌, ◌<◌, length, get_or, sym, ap, subst, arith, displacements, tree_at, seen, view_at}
+use Rattle.element_paths.proofs.Common.{use_is_lawful, UseStart}
 use Rattle.element_paths.specs.UseStarts.{IsStepDown}
 use Rattle.element_paths.proofs.DescentLaws.{element_is_within, has_begun, position_fits, some_stand, step_to, use_above}
 use Rattle.element_paths.proofs.StartLaws.{none_past, starts_rise}

@@ -1,14 +1,8 @@
-use Rattle.std.proofs.Common.{◌≡◌, ℕ, ℤ, pos, ◌<◌, List, length, Some, None, to_z, of_z, w64, sym, ap, subst, ◌∙◌, arith, rules}
-use Rattle.std.specs.Prelude.{Option, slice_get}
-use Rattle.std.specs.Option.{option_map}
-use Rattle.std.proofs.lemmas.Int.{to_z-of_z}
-use Rattle.std.proofs.lemmas.Option.{slice_get-map}
+use Rattle.element_paths.proofs.Common.{◌≡◌, ℕ, ℤ, pos, ◌<◌, List, length, Some, None, to_z, of_z, w64, sym, ap, subst, ◌∙◌, arith, rules, Option}
+use Rattle.element_paths.proofs.Common.{slice_get, option_map, to_z-of_z, slice_get-map, Grid, elements_of, displacements, array_element}
+use Rattle.element_paths.proofs.Common.{use_elements, HasNameAt}
 use Rattle.std.proofs.lemmas.Result.{IfOk-weaker}
-use Rattle.geo_core.specs.declared.grids.Grid.{Grid}
-use Rattle.geo_core.specs.Elements.{elements_of}
-use Rattle.cell_tree.specs.Uses.{displacements}
-use Rattle.library_trees.specs.ElementNames.{array_element, indexed_name, use_elements}
-use Rattle.element_paths.specs.UseStarts.{HasNameAt}
+use Rattle.library_trees.specs.ElementNames.{indexed_name}
 use Rattle.element_paths.proofs.element_names.element_name.Goals as goal
 
 -- an element of an array has a name with its two indices

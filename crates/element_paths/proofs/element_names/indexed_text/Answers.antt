@@ -1,8 +1,6 @@
-use Rattle.std.proofs.Common.{◌≡◌, ℕ, ℤ, List, [], ◌∷◌, ◌++◌, to_z, of_z, w64, ap, ◌∙◌, arith, rules}
+use Rattle.element_paths.proofs.Common.{◌≡◌, ℕ, ℤ, List, [], ◌∷◌, ◌++◌, to_z, of_z, w64, ap, ◌∙◌, arith, rules, ints, to_z-of_z, append_assoc}
 use Rattle.std.specs.Int.{w128}
 use Rattle.std.specs.Int.RustNames.{FitsSigned}
-use Rattle.std.proofs.lemmas.Int.{ints, to_z-of_z}
-use Rattle.std.proofs.lemmas.List.{append_assoc}
 use Rattle.text_scan.specs.Decimal.{decimal}
 use Rattle.element_paths.proofs.element_names.indexed_text.Goals as goal
 

@@ -1,15 +1,6 @@
-use Rattle.std.proofs.Common.{◌≡◌, ◌≤◌, ℕ, List, [], length, map, ap, sym, Some, ◌∙◌, arith}
-use Rattle.std.specs.Prelude.{slice_get}
-use Rattle.std.specs.Option.{option_map}
-use Rattle.std.proofs.lemmas.List.{length-map, take_all}
-use Rattle.std.proofs.lemmas.Option.{slice_get-map, slice_get_within}
-use Rattle.geo_core.specs.Images.{six_of}
+use Rattle.element_paths.proofs.Common.{◌≡◌, ◌≤◌, ℕ, List, [], length, map, ap, sym, Some, ◌∙◌, arith, slice_get, option_map, length-map, take_all}
+use Rattle.element_paths.proofs.Common.{slice_get-map, slice_get_within, six_of, UseBody, seen, view_at, use_is_lawful, library_use, library_uses}
 use Rattle.ext_model.specs.declared.arrays.ArrayUse.{ArrayUse}
-use Rattle.cell_tree.specs.declared.use_tables.UseBody.{UseBody}
-use Rattle.library_trees.specs.CellLibrary.Libraries.{seen}
-use Rattle.library_trees.specs.CellLibrary.Views.{view_at}
-use Rattle.library_trees.proofs.CellLibrary.ElementCounts.{use_is_lawful}
-use Rattle.library_trees.specs.CellRecords.{library_use, library_uses}
 use Rattle.element_paths.proofs.RecordLaws.{added_on, few_uses}
 use Rattle.element_paths.proofs.StartLaws.{none_past}
 use Rattle.element_paths.proofs.recorded_uses.use_records.Goals as goal

@@ -1,7 +1,4 @@
-use Rattle.std.proofs.Common.{◌≡◌, ◌-◌, length, take}
-use Rattle.library_trees.specs.CellLibrary.Libraries.{seen}
-use Rattle.library_trees.specs.CellLibrary.Views.{view_at}
-use Rattle.library_trees.specs.CellRecords.{library_uses}
+use Rattle.element_paths.proofs.Common.{◌≡◌, ◌-◌, length, take, seen, view_at, library_uses}
 use Rattle.element_paths.proofs.recorded_uses.use_records.Given as goal
 
 -- the records so far are those of the first uses

@@ -1,14 +1,5 @@
-use Rattle.std.proofs.Common.{◌≡◌, ℕ, ◌+◌, ◌≤◌, List, length, Some, None, sym, ap, subst, ◌∙◌, arith}
-use Rattle.std.specs.Prelude.{slice_get}
-use Rattle.std.proofs.lemmas.Option.{slice_get_within}
-use Rattle.cell_tree.specs.declared.limits.TheConstants.{MOST_ELEMENTS_BELOW}
-use Rattle.cell_tree.specs.declared.use_tables.UseBody.{UseBody}
-use Rattle.cell_tree.specs.Uses.{displacements}
-use Rattle.library_trees.specs.CellLibrary.LayoutTrees.{tree_at}
-use Rattle.library_trees.specs.CellLibrary.Libraries.{seen}
-use Rattle.library_trees.specs.CellLibrary.Views.{view_at}
-use Rattle.library_trees.proofs.CellLibrary.ElementCounts.{use_is_lawful}
-use Rattle.element_paths.specs.declared.starts.UseStart.{UseStart}
+use Rattle.element_paths.proofs.Common.{◌≡◌, ℕ, ◌+◌, ◌≤◌, List, length, Some, None, sym, ap, subst, ◌∙◌, arith, slice_get, slice_get_within}
+use Rattle.element_paths.proofs.Common.{MOST_ELEMENTS_BELOW, UseBody, displacements, tree_at, seen, view_at, use_is_lawful, UseStart}
 use Rattle.element_paths.proofs.StartLaws.{all_starts, ends_within, first_more, standing_of, AreFirstStarts}
 use Rattle.element_paths.proofs.UseLaws.{UsesWithIds}
 use Rattle.element_paths.proofs.starts.starts_of.Goals as goal

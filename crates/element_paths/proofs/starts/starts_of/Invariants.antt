@@ -1,7 +1,5 @@
-use Rattle.std.proofs.Common.{◌-◌, length, vec_len}
-use Rattle.library_trees.specs.CellLibrary.LayoutTrees.{tree_at}
-use Rattle.library_trees.specs.CellLibrary.Libraries.{seen}
-use Rattle.library_trees.specs.CellLibrary.Views.{view_at}
+use Rattle.element_paths.proofs.Common.{◌-◌, length, tree_at, seen, view_at}
+use Rattle.std.proofs.Common.{vec_len}
 use Rattle.element_paths.proofs.StartLaws.{AreFirstStarts}
 use Rattle.element_paths.proofs.starts.starts_of.Given as goal
 

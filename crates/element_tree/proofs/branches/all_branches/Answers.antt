@@ -1,4 +1,4 @@
-use Rattle.std.proofs.Common.{◌∙◌, arith}
+use Rattle.element_tree.proofs.Common.{◌∙◌, arith}
 use Rattle.element_tree.proofs.Measures.{row_read, read_within}
 use Rattle.element_tree.proofs.Rows.{uses_read, read_long, read_size, branches_more}
 use Rattle.element_tree.proofs.branches.all_branches.Goals as goal

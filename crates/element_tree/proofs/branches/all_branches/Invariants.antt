@@ -1,5 +1,4 @@
-use Rattle.std.proofs.Common.{take}
-use Rattle.element_tree.specs.steps.Forests.{AreBranches}
+use Rattle.element_tree.proofs.Common.{take, AreBranches}
 use Rattle.element_tree.proofs.branches.all_branches.Given as goal
 
 abbrev pub invariant-loop-cell : goal.invariant-loop-cell

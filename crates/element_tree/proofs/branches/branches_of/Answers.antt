@@ -1,11 +1,5 @@
-use Rattle.std.proofs.Common.{◌≡◌, length, subst, sym}
-use Rattle.std.specs.Prelude.{IsPermutation}
-use Rattle.std.specs.List.{range_with_len}
-use Rattle.std.specs.List.Sorted.{IsSorted}
-use Rattle.ext_model.specs.NameParts.{element_cmp}
+use Rattle.element_tree.proofs.Common.{◌≡◌, length, subst, sym, IsPermutation, range_with_len, IsSorted, element_cmp, value_at, AreBranchesOf}
 use Rattle.element_tree.specs.steps.NameOrder.{id_at}
-use Rattle.element_tree.specs.Sizes.{value_at}
-use Rattle.element_tree.specs.steps.Forests.{AreBranchesOf}
 use Rattle.element_tree.proofs.Steps.{AreNumbers}
 use Rattle.element_tree.proofs.RankSums.{ranks_are}
 use Rattle.element_tree.proofs.branches.branches_of.Goals as goal

@@ -1,4 +1,4 @@
-use Rattle.std.proofs.Common.{◌≡◌, length}
+use Rattle.element_tree.proofs.Common.{◌≡◌, length}
 use Rattle.element_tree.proofs.branches.empty_lists.Given as goal
 
 abbrev pub invariant-loop : goal.invariant-loop

@@ -1,9 +1,4 @@
-use Rattle.std.proofs.Common.{get_or, ap, arith, rules}
-use Rattle.std.proofs.lemmas.List.{get_or_default}
-use Rattle.std.proofs.lemmas.List.Sums.{sum_by_more}
-use Rattle.element_tree.specs.declared.tree.Branch.{Branch}
-use Rattle.element_tree.specs.Sizes.{value_at}
-use Rattle.element_tree.specs.steps.RankSteps.{size_at}
+use Rattle.element_tree.proofs.Common.{get_or, ap, arith, rules, get_or_default, sum_by_more, Branch, value_at, size_at}
 use Rattle.element_tree.proofs.Steps.{AreSteps-long, AreSteps-set, AreNumbers, number_within, numbers_long, numbers_sum, rank_steps_more}
 use Rattle.element_tree.proofs.branches.with_rank_steps.Goals as goal
 

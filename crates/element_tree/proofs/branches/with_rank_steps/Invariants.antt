@@ -1,8 +1,4 @@
-use Rattle.std.proofs.Common.{◌≡◌, suc, take}
-use Rattle.std.specs.List.{sum_by}
-use Rattle.element_tree.specs.Sizes.{value_at}
-use Rattle.element_tree.specs.steps.Forests.{AreSteps}
-use Rattle.element_tree.specs.steps.RankSteps.{size_at, HaveRankSteps}
+use Rattle.element_tree.proofs.Common.{◌≡◌, suc, take, sum_by, value_at, AreSteps, size_at, HaveRankSteps}
 use Rattle.element_tree.proofs.branches.with_rank_steps.Given as goal
 
 abbrev pub invariant-loop-number : goal.invariant-loop-number

@@ -1,9 +1,5 @@
-use Rattle.std.proofs.Common.{◌++◌, ◌∷◌, [], get_or, take, refl, sym, subst, arith}
-use Rattle.std.proofs.lemmas.List.{take_more, get_or_default}
-use Rattle.std.proofs.lemmas.List.Sums.{sum_by_more}
-use Rattle.element_tree.specs.declared.tree.Branch.{Branch}
-use Rattle.element_tree.specs.Sizes.{value_at}
-use Rattle.element_tree.specs.steps.Forests.{AreSteps}
+use Rattle.element_tree.proofs.Common.{◌++◌, ◌∷◌, [], get_or, take, refl, sym, subst, arith, take_more, get_or_default, sum_by_more, Branch}
+use Rattle.element_tree.proofs.Common.{value_at, AreSteps}
 use Rattle.element_tree.proofs.Steps.{AreSteps-push}
 use Rattle.element_tree.proofs.branches.with_steps.Goals as goal
 

@@ -1,8 +1,6 @@
-use Rattle.std.proofs.Common.{ℕ, ◌<◌, ◌+◌, ◌-◌, ◌++◌, List, length, get_or, sym, ◌∙◌, ap, subst, arith, rules}
-use Rattle.element_tree.specs.declared.tree.Branch.{Branch}
-use Rattle.element_tree.specs.declared.tree.TreeElement.{TreeElement}
-use Rattle.element_tree.specs.steps.Links.{links_of, flats_below}
-use Rattle.element_tree.specs.steps.Rooms.{HasRoom}
+use Rattle.element_tree.proofs.Common.{ℕ, ◌<◌, ◌+◌, ◌-◌, ◌++◌, List, length, get_or, sym, ◌∙◌, ap, subst, arith, rules, Branch, TreeElement}
+use Rattle.element_tree.proofs.Common.{flats_below, HasRoom}
+use Rattle.element_tree.specs.steps.Links.{links_of}
 use Rattle.element_tree.proofs.Growth.{added_more, added_all, added_none, room_step, room_rank, room_below, row_long, length-row}
 use Rattle.element_tree.proofs.Growth.{row_read, link_in, link_read}
 use Rattle.element_tree.proofs.elements.+add_elements.Goals as goal

@@ -1,4 +1,4 @@
-use Rattle.std.proofs.Common.{◌≡◌, ◌-◌}
+use Rattle.element_tree.proofs.Common.{◌≡◌, ◌-◌}
 use Rattle.element_tree.proofs.Growth.{added}
 use Rattle.element_tree.proofs.elements.+add_elements.Given as goal
 

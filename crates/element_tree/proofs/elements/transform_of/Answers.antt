@@ -1,4 +1,4 @@
-use Rattle.std.proofs.Common.{sym, ◌∙◌, ap}
+use Rattle.element_tree.proofs.Common.{sym, ◌∙◌, ap}
 use Rattle.circuit_model.specs.Elements.{transform_of}
 use Rattle.element_tree.proofs.Transforms.{transform_of-six}
 use Rattle.element_tree.proofs.elements.transform_of.Goals as goal

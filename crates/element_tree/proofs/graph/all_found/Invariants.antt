@@ -1,5 +1,4 @@
-use Rattle.std.proofs.Common.{◌≡◌, map, take}
-use Rattle.element_tree.specs.steps.Goals.{found_goals}
+use Rattle.element_tree.proofs.Common.{◌≡◌, map, take, found_goals}
 use Rattle.element_tree.proofs.graph.all_found.Given as goal
 
 -- the records passed have their lists

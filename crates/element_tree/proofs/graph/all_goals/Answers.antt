@@ -1,10 +1,5 @@
-use Rattle.std.proofs.Common.{◌≡◌, ◌∷◌, ◌++◌, [], List, ℕ, Option, map, sym, ap, ◌∙◌, take}
-use Rattle.std.specs.List.{position}
-use Rattle.std.specs.Str.{bytes_eq}
+use Rattle.element_tree.proofs.Common.{◌≡◌, ◌∷◌, ◌++◌, [], List, ℕ, Option, map, sym, ap, ◌∙◌, take, position, bytes_eq, UseRec, CellExt, goals_in}
 use Rattle.std.proofs.lemmas.List.{map_more}
-use Rattle.ext_model.specs.declared.records.UseRec.{UseRec}
-use Rattle.ext_model.specs.declared.records.CellExt.{CellExt}
-use Rattle.element_tree.specs.steps.Goals.{goals_in}
 use Rattle.element_tree.proofs.graph.all_goals.Goals as goal
 
 pub loop-ext-preserved : goal.loop-ext-preserved

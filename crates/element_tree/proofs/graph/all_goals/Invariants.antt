@@ -1,5 +1,4 @@
-use Rattle.std.proofs.Common.{◌≡◌, map, take}
-use Rattle.element_tree.specs.steps.Goals.{goals_in}
+use Rattle.element_tree.proofs.Common.{◌≡◌, map, take, goals_in}
 use Rattle.element_tree.proofs.graph.all_goals.Given as goal
 
 -- the records passed have their lists

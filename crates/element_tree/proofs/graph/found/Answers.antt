@@ -1,7 +1,6 @@
-use Rattle.std.proofs.Common.{◌∷◌, ◌++◌, [], List, ℕ, Some, None, sym, ap, ◌∙◌}
+use Rattle.element_tree.proofs.Common.{◌∷◌, ◌++◌, [], List, ℕ, Some, None, sym, ap, ◌∙◌, append-nil}
 use Rattle.std.specs.declared.alloc.Global.{Global}
 use Rattle.std.specs.Prelude.{Vec}
-use Rattle.std.proofs.lemmas.List.{append-nil}
 use Rattle.element_tree.proofs.Cells.{found_more}
 use Rattle.element_tree.proofs.graph.found.Goals as goal
 use Rattle.element_tree.proofs.graph.found.Goals.{in-Some+in_ok-push, in_default}

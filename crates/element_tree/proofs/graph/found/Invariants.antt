@@ -1,5 +1,4 @@
-use Rattle.std.proofs.Common.{◌≡◌, take}
-use Rattle.element_tree.specs.steps.Goals.{found_goals}
+use Rattle.element_tree.proofs.Common.{◌≡◌, take, found_goals}
 use Rattle.element_tree.proofs.graph.found.Given as goal
 
 -- those among the goals passed have been taken

@@ -1,7 +1,4 @@
-use Rattle.std.proofs.Common.{◌∷◌, ◌++◌, [], List, ℕ, Bool, cond, sym, ap, ◌∙◌, take}
-use Rattle.std.specs.List.{list_any}
-use Rattle.std.specs.Str.{bytes_eq}
-use Rattle.element_tree.specs.steps.Goals.{cells_of}
+use Rattle.element_tree.proofs.Common.{◌∷◌, ◌++◌, [], List, ℕ, Bool, cond, sym, ap, ◌∙◌, take, list_any, bytes_eq, cells_of}
 use Rattle.element_tree.proofs.Cells.{new_cell, cells_more}
 use Rattle.element_tree.proofs.graph.index_of.Goals as goal
 

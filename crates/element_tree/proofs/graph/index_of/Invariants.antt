@@ -1,5 +1,4 @@
-use Rattle.std.proofs.Common.{◌≡◌, take}
-use Rattle.element_tree.specs.steps.Goals.{cells_of}
+use Rattle.element_tree.proofs.Common.{◌≡◌, take, cells_of}
 use Rattle.element_tree.proofs.graph.index_of.Given as goal
 
 -- the cells of the records passed are in the index

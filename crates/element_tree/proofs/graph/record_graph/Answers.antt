@@ -1,11 +1,6 @@
-use Rattle.std.proofs.Common.{List, ℕ, Some, sym, ap, subst, ◌∙◌, inl, inr, map}
-use Rattle.std.specs.Option.{option_map}
-use Rattle.std.proofs.lemmas.Option.{get_or_from_slice_get}
-use Rattle.element_tree.specs.steps.Walks.{Graph, IsGraph, IsOrder, walk_fault as number_fault}
-use Rattle.element_tree.specs.declared.faults.WalkFault.{WalkFault}
+use Rattle.element_tree.proofs.Common.{List, ℕ, Some, sym, ap, subst, ◌∙◌, inl, inr, map, option_map, get_or_from_slice_get, Graph, IsGraph, IsOrder}
+use Rattle.element_tree.proofs.Common.{number_fault, WalkFault, IsGraphOf, cells_of, found_goals, goal_graph, IsUseOf, IsNamedFault}
 use Rattle.circuit_model.specs.Refusals.{walk_fault}
-use Rattle.element_tree.specs.Graphs.{IsGraphOf}
-use Rattle.element_tree.specs.steps.Goals.{cells_of, found_goals, goal_graph, IsUseOf, IsNamedFault}
 use Rattle.element_tree.proofs.RecordWalks.{fault_named, walks_find}
 use Rattle.element_tree.proofs.Orders.{is_graph, graph_of_order, fault_at, named_is}
 use Rattle.element_tree.proofs.graph.record_graph.Goals as goal

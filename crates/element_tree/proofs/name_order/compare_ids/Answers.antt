@@ -1,6 +1,4 @@
-use Rattle.std.proofs.Common.{◌≡◌, ◌∷◌, [], refl}
-use Rattle.ext_model.specs.declared.names.TheConstants.{SLASH}
-use Rattle.std.specs.Ordering.{nat_cmp}
+use Rattle.element_tree.proofs.Common.{◌≡◌, ◌∷◌, [], refl, SLASH, nat_cmp}
 use Rattle.std.proofs.lemmas.Iterator.{YieldsList-from_slice}
 use Rattle.std.proofs.lemmas.Iterator.Consumers.{YieldsList-from_chain}
 use Rattle.std.proofs.lemmas.Iterator.Search.{cmp_from_yields_List}

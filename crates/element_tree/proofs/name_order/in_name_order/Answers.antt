@@ -1,8 +1,6 @@
-use Rattle.std.proofs.Common.{rules}
-use Rattle.std.specs.Ordering.{is_lt}
+use Rattle.element_tree.proofs.Common.{rules, is_lt, element_cmp}
 use Rattle.std.proofs.lemmas.Fn.{always_returns_same}
 use Rattle.std.proofs.lemmas.List.Sorted.{ranks_by}
-use Rattle.ext_model.specs.NameParts.{element_cmp}
 use Rattle.element_tree.specs.steps.NameOrder.{id_at}
 use Rattle.element_tree.proofs.NameOrders.{element_cmp_total}
 use Rattle.element_tree.proofs.name_order.in_name_order.Goals as goal

@@ -1,4 +1,4 @@
-use Rattle.std.proofs.Common.{◌++◌, [], ◌∷◌, sym, ◌∙◌, ap}
+use Rattle.element_tree.proofs.Common.{◌++◌, [], ◌∷◌, sym, ◌∙◌, ap}
 use Rattle.name_index.proofs.FiniteSets.Searches.{range_one_more}
 use Rattle.element_tree.proofs.name_order.numbers_below.Goals as goal
 

@@ -1,7 +1,4 @@
-use Rattle.std.proofs.Common.{length, map, ◌∙◌, ap, arith}
-use Rattle.std.proofs.lemmas.List.{length-set}
-use Rattle.circuit_model.specs.Refusals.{greatest}
-use Rattle.element_tree.specs.Sizes.{value_at, chain_from}
+use Rattle.element_tree.proofs.Common.{length, map, ◌∙◌, ap, arith, length-set, greatest, value_at, chain_from}
 use Rattle.element_tree.proofs.Measures.{row_read, read_within, read_greatest, read_measured}
 use Rattle.element_tree.proofs.sizes.chain_lengths.Goals as goal
 

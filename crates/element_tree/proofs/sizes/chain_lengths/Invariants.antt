@@ -1,5 +1,4 @@
-use Rattle.std.proofs.Common.{◌≡◌, length, reverse, take}
-use Rattle.element_tree.specs.Sizes.{chain_from, AreMeasured}
+use Rattle.element_tree.proofs.Common.{◌≡◌, length, reverse, take, chain_from, AreMeasured}
 use Rattle.element_tree.proofs.sizes.chain_lengths.Given as goal
 
 abbrev pub invariant-loop-cell : goal.invariant-loop-cell

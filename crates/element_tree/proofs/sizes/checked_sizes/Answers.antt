@@ -1,4 +1,4 @@
-use Rattle.std.proofs.Common.{inr, arith}
+use Rattle.element_tree.proofs.Common.{inr, arith}
 use Rattle.element_tree.proofs.Counting.{number_read, depth_fault, elements_fault, no_tree_fault}
 use Rattle.element_tree.proofs.sizes.checked_sizes.Goals as goal
 

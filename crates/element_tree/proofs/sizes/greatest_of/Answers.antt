@@ -1,7 +1,4 @@
-use Rattle.std.proofs.Common.{◌≡◌, get_or, max, ◌∙◌, ap, arith, sym}
-use Rattle.std.proofs.lemmas.Grind.{common_steps}
-use Rattle.std.proofs.lemmas.List.{get_or_default}
-use Rattle.element_tree.specs.Sizes.{value_at}
+use Rattle.element_tree.proofs.Common.{◌≡◌, get_or, max, ◌∙◌, ap, arith, sym, common_steps, get_or_default, value_at}
 use Rattle.element_tree.proofs.Measures.{greatest_more}
 use Rattle.element_tree.proofs.sizes.greatest_of.Goals as goal
 

@@ -1,6 +1,4 @@
-use Rattle.std.proofs.Common.{◌≡◌, map, take}
-use Rattle.circuit_model.specs.Refusals.{greatest}
-use Rattle.element_tree.specs.Sizes.{value_at}
+use Rattle.element_tree.proofs.Common.{◌≡◌, map, take, greatest, value_at}
 use Rattle.element_tree.proofs.sizes.greatest_of.Given as goal
 
 abbrev pub invariant-loop-child : goal.invariant-loop-child

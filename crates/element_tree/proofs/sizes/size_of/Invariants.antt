@@ -1,5 +1,4 @@
-use Rattle.std.proofs.Common.{◌≡◌, map, take}
-use Rattle.element_tree.specs.Sizes.{value_at, size_from}
+use Rattle.element_tree.proofs.Common.{◌≡◌, map, take, value_at, size_from}
 use Rattle.element_tree.proofs.sizes.size_of.Given as goal
 
 abbrev pub invariant-loop-child : goal.invariant-loop-child

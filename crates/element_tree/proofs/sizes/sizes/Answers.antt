@@ -1,8 +1,5 @@
-use Rattle.std.proofs.Common.{suc, ◌≤◌, length, map, ◌∙◌, ap, arith}
-use Rattle.std.proofs.lemmas.List.{length-set}
+use Rattle.element_tree.proofs.Common.{suc, ◌≤◌, length, map, ◌∙◌, ap, arith, length-set, MOST_FLAT_ELEMENTS, value_at, size_from}
 use Rattle.std.proofs.lemmas.List.Elements.{All-set}
-use Rattle.circuit_model.specs.declared.limits.TheConstants.{MOST_FLAT_ELEMENTS}
-use Rattle.element_tree.specs.Sizes.{value_at, size_from}
 use Rattle.element_tree.proofs.Measures.{row_read, read_within, read_measured}
 use Rattle.element_tree.proofs.sizes.sizes.Goals as goal
 

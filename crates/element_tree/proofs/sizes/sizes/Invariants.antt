@@ -1,6 +1,4 @@
-use Rattle.std.proofs.Common.{◌≡◌, suc, ◌≤◌, All, length, reverse, take}
-use Rattle.circuit_model.specs.declared.limits.TheConstants.{MOST_FLAT_ELEMENTS}
-use Rattle.element_tree.specs.Sizes.{size_from, AreMeasured}
+use Rattle.element_tree.proofs.Common.{◌≡◌, suc, ◌≤◌, All, length, reverse, take, MOST_FLAT_ELEMENTS, size_from, AreMeasured}
 use Rattle.element_tree.proofs.sizes.sizes.Given as goal
 
 abbrev pub invariant-loop-cell : goal.invariant-loop-cell

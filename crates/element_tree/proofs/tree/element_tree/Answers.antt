@@ -1,9 +1,5 @@
-use Rattle.std.proofs.Common.{◌≡◌, ◌++◌, subst, sym, ◌∙◌, ap}
-use Rattle.circuit_model.specs.declared.limits.TheConstants.{LONGEST_CHAIN}
-use Rattle.element_tree.specs.Trees.{IsTreeOf}
-use Rattle.element_tree.specs.steps.Links.{links_of, flats_below, top_flat}
-use Rattle.element_tree.specs.steps.Forests.{AreBranches}
-use Rattle.element_tree.specs.steps.Rooms.{HasRoom}
+use Rattle.element_tree.proofs.Common.{◌≡◌, ◌++◌, subst, sym, ◌∙◌, ap, LONGEST_CHAIN, IsTreeOf, flats_below, AreBranches, HasRoom}
+use Rattle.element_tree.specs.steps.Links.{links_of, top_flat}
 use Rattle.element_tree.proofs.TreeLaws.{room_at_root, tree_is}
 use Rattle.element_tree.proofs.tree.element_tree.Goals as goal
 

@@ -1,7 +1,7 @@
-use Rattle.std.proofs.Common.{◌≡◌, length, ◌-◌, refl, sym, ◌∙◌, ap, subst, arith, inr, reverse, [], ◌∷◌, ◌++◌, get_or, set, vec_len}
+use Rattle.element_tree.proofs.Common.{◌≡◌, length, ◌-◌, refl, sym, ◌∙◌, ap, subst, arith, inr, reverse, [], ◌∷◌, ◌++◌, get_or, set, New, Open}
+use Rattle.element_tree.proofs.Common.{IsUnderWay}
+use Rattle.std.proofs.Common.{vec_len}
 use Rattle.std.specs.Option.{option_to_list}
-use Rattle.element_tree.specs.declared.walks.Mark.TheVariants.{New, Open}
-use Rattle.element_tree.specs.steps.UnderWay.{IsUnderWay}
 use Rattle.element_tree.proofs.WalkLaws.{started}
 use Rattle.element_tree.proofs.Turns.{IsTurn, top_from, some_top, get_or-replicate_same, top_within, child_within, next_at, marked}
 use Rattle.element_tree.proofs.Turns.{turn_nowhere, turn_cycle, turn_done, turn_new, turn_over, falls_taken, falls_done}

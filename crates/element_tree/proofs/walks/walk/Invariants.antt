@@ -1,5 +1,4 @@
-use Rattle.std.proofs.Common.{◌+◌, ◌-◌, length, reverse}
-use Rattle.element_tree.specs.steps.UnderWay.{IsUnderWay, uses_left}
+use Rattle.element_tree.proofs.Common.{◌+◌, ◌-◌, length, reverse, IsUnderWay, uses_left}
 use Rattle.element_tree.proofs.walks.walk.Given as goal
 
 abbrev pub invariant-loop-cell : goal.invariant-loop-cell

@@ -1,13 +1,8 @@
-use Rattle.std.proofs.Common.{◌≡◌, ◌≤◌, ◌<◌, ◌+◌, ◌∙◌, ◌++◌, ◌∷◌, [], ℕ, true, false, List, length, get_or, take, vec_capacity, Vec, Global}
-use Rattle.std.proofs.Common.{ap, sym, subst, arith, length-append}
+use Rattle.ext_cache.proofs.Common.{◌≡◌, ◌≤◌, ◌<◌, ◌+◌, ◌∙◌, ◌++◌, ◌∷◌, [], ℕ, true, false, List, length, get_or, take, vec_capacity, ap, sym, subst}
+use Rattle.ext_cache.proofs.Common.{arith, length-append, CellKey, seen, dirty_cells, is_dirty, stamp_in, with_record, Extracted, Undo, undo_of}
+use Rattle.std.proofs.Common.{Vec, Global}
 use Rattle.std.proofs.lemmas.List.{length-map}
-use Rattle.ext_model.specs.declared.tables.CellKey.{CellKey}
-use Rattle.tree_merges.specs.CellLibrary.Libraries.{seen}
-use Rattle.ext_cache.specs.Caches.{dirty_cells, is_dirty, stamp_in, with_record}
-use Rattle.ext_cache.specs.declared.extraction.Extracted.{Extracted}
-use Rattle.ext_cache.specs.declared.undo.Undo.{Undo}
 use Rattle.ext_cache.specs.Refusals.{IsUncleanIn}
-use Rattle.ext_cache.specs.steps.Undoing.{undo_of}
 use Rattle.tree_merges.proofs.HierMerge.CleanOrders.{clean_before, first_unclean_there, number_at, numbers, ordered_there}
 use Rattle.ext_cache.proofs.LoopLaws.{has_work_next, has_work_passed, kept_below, made_along, passed, renewed, told_dirty, work_all, work_next}
 use Rattle.ext_cache.proofs.LoopLaws.{work_passed}

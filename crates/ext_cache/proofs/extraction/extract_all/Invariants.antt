@@ -1,6 +1,4 @@
-use Rattle.std.proofs.Common.{ℕ, ◌≤◌, ◌+◌, length, take, vec_capacity}
-use Rattle.tree_merges.specs.CellLibrary.Libraries.{seen}
-use Rattle.ext_cache.specs.Caches.{IsWorkOfAll, dirty_cells}
+use Rattle.ext_cache.proofs.Common.{ℕ, ◌≤◌, ◌+◌, length, take, vec_capacity, seen, IsWorkOfAll, dirty_cells}
 use Rattle.tree_merges.proofs.HierMerge.CleanOrders.{numbers}
 use Rattle.ext_cache.proofs.LoopLaws.{IsMadeTo}
 use Rattle.ext_cache.proofs.WorkLaws.{HasWorkOf}

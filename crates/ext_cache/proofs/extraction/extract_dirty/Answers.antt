@@ -1,10 +1,5 @@
-use Rattle.std.proofs.Common.{◌≡◌, ℕ, List, map, subst, sym}
-use Rattle.ext_model.specs.declared.tables.CellKey.{CellKey}
-use Rattle.use_orders.specs.LibraryOrder.{IsLibraryOrder}
+use Rattle.ext_cache.proofs.Common.{◌≡◌, ℕ, List, map, subst, sym, CellKey, IsLibraryOrder, children_in, tree_at, seen}
 use Rattle.hierarchy_model.specs.Laws.{CleanCellsKeepWhatTheyHave}
-use Rattle.tree_merges.specs.CellLibrary.Additions.{children_in}
-use Rattle.tree_merges.specs.CellLibrary.LayoutTrees.{tree_at}
-use Rattle.tree_merges.specs.CellLibrary.Libraries.{seen}
 use Rattle.ext_cache.proofs.CleanLaws.{root_is_clean}
 use Rattle.ext_cache.proofs.SerialLaws.{extraction_is_counted, serials_are_new}
 use Rattle.ext_cache.proofs.extraction.extract_dirty.Goals as goal

@@ -1,19 +1,11 @@
-use Rattle.std.proofs.Common.{◌≡◌, ℕ, List, [], sym, subst, arith}
+use Rattle.ext_cache.proofs.Common.{◌≡◌, ℕ, List, [], sym, subst, arith, All, option_map, nat_cmp, RawTech, ExtEntry, seen, HaveKeptRecordsBelow}
+use Rattle.ext_cache.proofs.Common.{view_at, IsOwnRecord, MadeRecord}
 use Rattle.std.proofs.lemmas.Result.{IfOk-weaker}
-use Rattle.std.specs.Prelude.{All, option_map}
 use Rattle.std.specs.FinMap as fin_map
-use Rattle.std.specs.Ordering.{nat_cmp}
 use Rattle.tech_model.specs.declared.raw.Label.{Label}
-use Rattle.tech_model.specs.declared.raw.RawTech.{RawTech}
 use Rattle.tree_merges.specs.Names.Labels.{IsLabelOf}
-use Rattle.ext_model.specs.declared.tables.ExtEntry.{ExtEntry}
-use Rattle.tree_merges.specs.CellLibrary.Libraries.{seen}
-use Rattle.tree_merges.specs.ElementPaths.LibraryTrees.KeptRecords.{HaveKeptRecordsBelow}
-use Rattle.tree_merges.specs.CellLibrary.Views.{view_at}
 use Rattle.tree_merges.specs.CellLibrary.CellPaint.Paints.{layout_of}
-use Rattle.cell_records.specs.TreeRecords.OwnRecords.{IsOwnRecord}
 use Rattle.lawful_trees.proofs.LibraryTrees.LabelLaws.{labels_may_name}
-use Rattle.ext_cache.specs.declared.extraction.MadeRecord.{MadeRecord}
 use Rattle.ext_cache.proofs.MadeLaws.{found_empty, made_is_now, own_record_of}
 use Rattle.ext_cache.proofs.extraction.tree_record.Goals as goal
 

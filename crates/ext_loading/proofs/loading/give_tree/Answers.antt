@@ -1,7 +1,6 @@
-use Rattle.std.proofs.Common.{subst}
+use Rattle.ext_loading.proofs.Common.{subst, children_in}
 use Rattle.use_orders.specs.NewCells.{IsOrderOf}
 use Rattle.use_orders.proofs.Acyclic.{order_leaves_no_cycle}
-use Rattle.ext_loading.specs.Loads.{children_in}
 use Rattle.ext_loading.proofs.loading.give_tree.Goals as goal
 
 pub returns-in-Acyclic-clause-given : goal.returns-in-Acyclic-clause-given

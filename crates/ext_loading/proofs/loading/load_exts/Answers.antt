@@ -1,12 +1,7 @@
-use Rattle.std.proofs.Common.{[], ◌∷◌, inr, subst, sym, List, ℕ}
+use Rattle.ext_loading.proofs.Common.{[], ◌∷◌, inr, subst, sym, List, ℕ, GivesFetching, StopsAsking, files_of, ExtLoadFault, IsFitTree, LoadGives}
+use Rattle.ext_loading.proofs.Common.{LoadIsRefused, circuit_files, GivesTree}
 use Rattle.std.proofs.lemmas.Result.{IfOk-weaker}
-use Rattle.session_model.specs.Effects.{GivesFetching}
-use Rattle.session_model.specs.FileTrees.{StopsAsking, files_of}
 use Rattle.session_model.proofs.StopLaws.{refusal_told}
-use Rattle.ext_loading.specs.declared.faults.ExtLoadFault.{ExtLoadFault}
-use Rattle.ext_loading.specs.Loads.{IsFitTree, LoadGives, LoadIsRefused}
-use Rattle.ext_loading.specs.Readings.{circuit_files}
-use Rattle.ext_loading.specs.steps.Trees.{GivesTree}
 use Rattle.ext_loading.proofs.LoadLaws.{file_refuses, tree_fits, tree_given}
 use Rattle.ext_loading.proofs.Positions.{children_are_cells}
 use Rattle.ext_loading.proofs.loading.load_exts.Goals as goal

@@ -1,16 +1,13 @@
-use Rattle.std.proofs.Common.{◌≡◌, ◌∙◌, [], ◌∷◌, sym, ap, subst, List, ℕ, arith}
-use Rattle.std.specs.Prelude.{reverse, Option, None, Err}
+use Rattle.ext_loading.proofs.Common.{◌≡◌, ◌∙◌, [], ◌∷◌, sym, ap, subst, List, ℕ, arith, reverse, Option, None, Err, CallPlan, after_fetches, All}
+use Rattle.ext_loading.proofs.Common.{GoesOn, Reads, StopsAsking, files_of, circuit_files}
 use Rattle.std.proofs.lemmas.List.{nil_from_length}
 use Rattle.std.proofs.lemmas.Result.{err_from_is_err_and}
-use Rattle.outside_io.specs.CallPlans.{CallPlan}
-use Rattle.session_model.specs.Effects.{after_fetches}
-use Rattle.session_model.specs.FileTrees.{All, GoesOn, Reads, StopsAsking, end, files_of}
+use Rattle.session_model.specs.FileTrees.{end}
 use Rattle.session_model.specs.steps.Stops.{kinds_of_told}
 use Rattle.session_model.proofs.FetchLaws.{calm_from, calm_then}
 use Rattle.session_model.proofs.FileTreeLaws.{stops_asking_later}
 use Rattle.session_model.proofs.StopLaws.{refused_by}
 use Rattle.ext_loading.specs.Loads.{cause_of_load}
-use Rattle.ext_loading.specs.Readings.{circuit_files}
 use Rattle.ext_loading.specs.steps.Trees.{AreSoFar}
 use Rattle.ext_loading.proofs.ReadingLaws.{next_name, so_far_end}
 use Rattle.ext_loading.proofs.loading.read_below.Goals as goal

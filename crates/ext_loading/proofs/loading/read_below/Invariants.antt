@@ -1,10 +1,6 @@
-use Rattle.std.proofs.Common.{◌≡◌, [], ◌∷◌, Some}
-use Rattle.std.specs.Prelude.{reverse}
-use Rattle.outside_io.specs.Files.{Files}
+use Rattle.ext_loading.proofs.Common.{◌≡◌, [], ◌∷◌, reverse, Files, after_fetches, GoesOn, files_of, circuit_files}
+use Rattle.std.proofs.Common.{Some}
 use Rattle.session_model.specs.Causes.{IsCalm}
-use Rattle.session_model.specs.Effects.{after_fetches}
-use Rattle.session_model.specs.FileTrees.{GoesOn, files_of}
-use Rattle.ext_loading.specs.Readings.{circuit_files}
 use Rattle.ext_loading.specs.steps.Trees.{work_left, AreSoFar}
 use Rattle.ext_loading.proofs.loading.read_below.Given as goal
 

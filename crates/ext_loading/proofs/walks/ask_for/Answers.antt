@@ -1,7 +1,6 @@
-use Rattle.std.proofs.Common.{◌∙◌, ◌++◌, ap, ℕ, List, map}
+use Rattle.ext_loading.proofs.Common.{◌∙◌, ◌++◌, ap, ℕ, List, map, ArrayUse}
 use Rattle.std.proofs.lemmas.Iterator.Adapters.{YieldsList-from_rev_slice}
 use Rattle.std.proofs.lemmas.Iterator.Consumers.{YieldsList-end}
-use Rattle.ext_model.specs.declared.arrays.ArrayUse.{ArrayUse}
 use Rattle.ext_loading.proofs.ReadingLaws.{map-reverse}
 use Rattle.ext_loading.proofs.walks.ask_for.Goals as goal
 

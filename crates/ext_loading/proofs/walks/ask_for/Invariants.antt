@@ -1,4 +1,4 @@
-use Rattle.std.proofs.Common.{◌≡◌, ◌++◌, map}
+use Rattle.ext_loading.proofs.Common.{◌≡◌, ◌++◌, map}
 use Rattle.ext_loading.proofs.walks.ask_for.Given as goal
 
 abbrev pub invariant-loop-used : goal.invariant-loop-used

@@ -1,4 +1,4 @@
-use Rattle.std.proofs.Common.{sym, ◌∙◌, ap}
+use Rattle.ext_model.proofs.Common.{sym, ◌∙◌, ap}
 use Rattle.ext_model.proofs.NameKinds.{is_byte, ends_in-last}
 use Rattle.ext_model.proofs.names.ends_in.Goals as goal
 

@@ -1,4 +1,5 @@
-use Rattle.std.proofs.Common.{◌≡◌, ◌≤◌, length, take, vec_capacity}
+use Rattle.ext_model.proofs.Common.{◌≡◌, ◌≤◌, length}
+use Rattle.std.proofs.Common.{take, vec_capacity}
 use Rattle.ext_model.proofs.records.copy_parts.Given as goal
 
 -- as many parts as were passed have been copied, and there is room for all

@@ -1,5 +1,4 @@
-use Rattle.std.proofs.Common.{◌≡◌, [], length}
-use Rattle.ext_reading.specs.LineForms.{sides_from}
+use Rattle.ext_reading.proofs.Common.{◌≡◌, [], length, sides_from}
 use Rattle.ext_reading.proofs.fet_forms.sides_in.Given as goal
 
 -- what the words that are left add is what all of them give

@@ -1,6 +1,4 @@
-use Rattle.std.proofs.Common.{◌∙◌, ap}
-use Rattle.std.specs.Option.{is_some}
-use Rattle.std.specs.Str.{bytes_eq}
+use Rattle.ext_reading.proofs.Common.{◌∙◌, ap, is_some, bytes_eq}
 use Rattle.ext_reading.proofs.NameLaws.{found_place}
 use Rattle.ext_reading.proofs.known_names.is_among.Goals as goal
 

@@ -1,9 +1,7 @@
-use Rattle.std.proofs.Common.{◌≡◌, ◌∙◌, sym, subst, Option, w64}
+use Rattle.ext_reading.proofs.Common.{◌≡◌, ◌∙◌, sym, subst, Option, names_in, ElementRange, all_lead, second_of, count_of}
+use Rattle.std.proofs.Common.{w64}
 use Rattle.std.proofs.lemmas.Int.{to_z-of_z}
 use Rattle.geo_core.proofs.ElementLaws.{kept}
-use Rattle.element_index.specs.GivenNames.{names_in}
-use Rattle.ext_reading.specs.declared.lines.ElementRange.{ElementRange}
-use Rattle.ext_reading.specs.Drafts.{all_lead, second_of, count_of}
 use Rattle.ext_reading.proofs.RowPaths.{row_known-same, range_leads}
 use Rattle.ext_reading.proofs.UseNames.{wider}
 use Rattle.ext_reading.proofs.known_names.seconds_lead.Goals as goal

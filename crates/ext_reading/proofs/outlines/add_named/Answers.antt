@@ -1,7 +1,4 @@
-use Rattle.std.proofs.Common.{Option, sym}
-use Rattle.geo_core.specs.declared.grids.Grid.{Grid}
-use Rattle.ext_model.specs.LawfulArrays.{HasIdForm}
-use Rattle.ext_reading.specs.Ranges.{grid_in}
+use Rattle.ext_reading.proofs.Common.{Option, sym, Grid, HasIdForm, grid_in}
 use Rattle.ext_reading.proofs.LawfulDrafts.{grid_in-has}
 use Rattle.ext_reading.proofs.Outcomes.{value_has}
 use Rattle.ext_reading.proofs.outlines.add_named.Goals as goal

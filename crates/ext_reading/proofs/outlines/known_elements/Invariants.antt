@@ -1,7 +1,4 @@
-use Rattle.std.proofs.Common.{◌≡◌, []}
-use Rattle.std.specs.Prelude.{fold}
-use Rattle.text_scan.specs.Lines.{lines_of}
-use Rattle.ext_reading.specs.ExtTexts.{with_line}
+use Rattle.ext_reading.proofs.Common.{◌≡◌, [], fold, lines_of, with_line}
 use Rattle.ext_reading.proofs.outlines.known_elements.Given as goal
 
 -- what the lines that are left add is what all of them give

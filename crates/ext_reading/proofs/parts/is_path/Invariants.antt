@@ -1,5 +1,4 @@
-use Rattle.std.proofs.Common.{◌≡◌, length}
-use Rattle.ext_reading.specs.Parts.{is_path}
+use Rattle.ext_reading.proofs.Common.{◌≡◌, length, is_path}
 use Rattle.ext_reading.proofs.parts.is_path.Given as goal
 
 -- the names so far are of their form

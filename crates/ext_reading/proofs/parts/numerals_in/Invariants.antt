@@ -1,5 +1,4 @@
-use Rattle.std.proofs.Common.{◌≡◌}
-use Rattle.ext_reading.specs.Parts.{numerals_from, numerals_in}
+use Rattle.ext_reading.proofs.Common.{◌≡◌, numerals_from, numerals_in}
 use Rattle.ext_reading.proofs.parts.numerals_in.Given as goal
 
 -- what the words that are left add is what all of them give

@@ -1,5 +1,4 @@
-use Rattle.std.proofs.Common.{sym}
-use Rattle.ext_reading.specs.Parts.{is_slash}
+use Rattle.ext_reading.proofs.Common.{sym, is_slash}
 use Rattle.ext_reading.proofs.PathLaws.{split_at_place, split_nowhere}
 use Rattle.ext_reading.proofs.parts.split_at_slash.Goals as goal
 

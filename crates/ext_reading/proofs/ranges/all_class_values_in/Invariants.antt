@@ -1,5 +1,4 @@
-use Rattle.std.proofs.Common.{◌≡◌, [], length}
-use Rattle.ext_reading.specs.Ranges.{class_values_from}
+use Rattle.ext_reading.proofs.Common.{◌≡◌, [], length, class_values_from}
 use Rattle.ext_reading.proofs.ranges.all_class_values_in.Given as goal
 
 -- what the numbers that are left add is what all of them give

@@ -1,5 +1,4 @@
-use Rattle.std.proofs.Common.{◌≡◌, length}
-use Rattle.ext_reading.specs.Ranges.{measures_from, measures_in}
+use Rattle.ext_reading.proofs.Common.{◌≡◌, length, measures_from, measures_in}
 use Rattle.ext_reading.proofs.ranges.measures_in.Given as goal
 
 -- what the numbers that are left add is what all of them give

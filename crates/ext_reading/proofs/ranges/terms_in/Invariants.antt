@@ -1,6 +1,5 @@
-use Rattle.std.proofs.Common.{◌≡◌, [], length}
+use Rattle.ext_reading.proofs.Common.{◌≡◌, [], length, terms_from}
 use Rattle.std.specs.Vec.Iter.{into_iter_items, into_iter_len}
-use Rattle.ext_reading.specs.Ranges.{terms_from}
 use Rattle.ext_reading.proofs.ranges.terms_in.Given as goal
 
 -- what the terminals that are left add is what all of them give

@@ -1,10 +1,5 @@
-use Rattle.std.proofs.Common.{◌≡◌, ◌∙◌, sym, ap, ℕ, List, Err}
-use Rattle.text_scan.specs.Lines.{lines_of}
+use Rattle.ext_reading.proofs.Common.{◌≡◌, ◌∙◌, sym, ap, ℕ, List, Err, lines_of, text_state, ExtReadFault, Outline, Draft, nothing_yet, step, finish}
 use Rattle.text_form.specs.declared.reading.At.{At}
-use Rattle.text_form.specs.Folds.{text_state}
-use Rattle.ext_reading.specs.declared.faults.ExtReadFault.{ExtReadFault}
-use Rattle.ext_reading.specs.declared.outlines.Outline.{Outline}
-use Rattle.ext_reading.specs.Drafts.{Draft, nothing_yet, step, finish}
 use Rattle.ext_reading.specs.ExtTexts.{outline_of, draft_in}
 use Rattle.ext_reading.proofs.reading.draft_in.Goals as goal
 

@@ -1,5 +1,4 @@
-use Rattle.std.proofs.Common.{subst, sym}
-use Rattle.ext_model.specs.LawfulArrays.{IsLawfulArrayExt}
+use Rattle.ext_reading.proofs.Common.{subst, sym, IsLawfulArrayExt}
 use Rattle.ext_reading.proofs.LawfulTexts.{draft_in-lawful}
 use Rattle.ext_reading.proofs.reading.read_ext.Goals as goal
 

@@ -1,4 +1,4 @@
-use Rattle.std.proofs.Common.{sym}
+use Rattle.ext_reading.proofs.Common.{sym}
 use Rattle.ext_reading.proofs.PathLaws.{before_found, behind_found, before_whole, behind_nothing}
 use Rattle.ext_reading.proofs.use_names.cut_at.Goals as goal
 

@@ -1,6 +1,5 @@
-use Rattle.std.proofs.Common.{[], ◌∷◌}
+use Rattle.ext_reading.proofs.Common.{[], ◌∷◌, indexed_name}
 use Rattle.std.proofs.lemmas.List.{append_assoc}
-use Rattle.ext_model.specs.ElementNames.{indexed_name}
 use Rattle.ext_reading.proofs.use_names.first_text.Goals as goal
 
 pub returns : goal.returns

@@ -1,7 +1,4 @@
-use Rattle.std.proofs.Common.{◌≡◌, ◌∙◌, sym, Option}
-use Rattle.std.specs.Prelude.{Some}
-use Rattle.ext_reading.specs.declared.lines.ElementRange.{ElementRange}
-use Rattle.ext_reading.specs.Drafts.{IsElementRange, range_of}
+use Rattle.ext_reading.proofs.Common.{◌≡◌, ◌∙◌, sym, Option, Some, ElementRange, IsElementRange, range_of}
 use Rattle.ext_reading.proofs.Outcomes.{if_ok-more}
 use Rattle.ext_reading.proofs.UseNames.{range_of-is}
 use Rattle.ext_reading.proofs.use_names.range_in.Goals as goal

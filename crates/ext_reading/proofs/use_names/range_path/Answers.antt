@@ -1,6 +1,5 @@
-use Rattle.std.proofs.Common.{◌≡◌, ℕ, List, [], ◌∷◌, ◌++◌}
+use Rattle.ext_reading.proofs.Common.{◌≡◌, ℕ, List, [], ◌∷◌, ◌++◌, decimal}
 use Rattle.std.proofs.lemmas.List.{append_assoc}
-use Rattle.text_scan.specs.Decimal.{decimal}
 use Rattle.ext_reading.proofs.use_names.range_path.Goals as goal
 
 -- the parts one after another

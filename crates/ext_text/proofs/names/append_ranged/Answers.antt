@@ -1,8 +1,5 @@
-use Rattle.std.proofs.Common.{◌≡◌, ℤ, pos, ◌+ℤ◌, ◌-ℤ◌, List, ℕ, ◌++◌, ap, ◌∙◌}
-use Rattle.std.specs.Int.{w128}
+use Rattle.ext_text.proofs.Common.{◌≡◌, ℤ, pos, ◌+ℤ◌, ◌-ℤ◌, List, ℕ, ◌++◌, ap, ◌∙◌, w128, decimal, before, behind, first_index}
 use mir.Val.{of_z, to_z}
-use Rattle.text_scan.specs.Decimal.{decimal}
-use Rattle.ext_model.specs.Plain.{before, behind, first_index}
 use Rattle.ext_text.proofs.AppendedLines.{ranged_appended}
 use Rattle.ext_text.proofs.PathCuts.{index_passed, last_index, low_index}
 use Rattle.ext_text.proofs.names.append_ranged.Goals as goal

@@ -1,7 +1,4 @@
-use Rattle.std.proofs.Common.{◌≡◌, ◌++◌, take}
-use Rattle.std.specs.List.{flat_map}
-use Rattle.text_scan.specs.Written.{behind_blanks}
-use Rattle.ext_text.specs.WrittenTexts.{term_words}
+use Rattle.ext_text.proofs.Common.{◌≡◌, ◌++◌, take, flat_map, behind_blanks, term_words}
 use Rattle.ext_text.proofs.records.append_terms.Given as goal
 
 -- the terminals passed have been appended

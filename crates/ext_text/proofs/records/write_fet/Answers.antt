@@ -1,4 +1,4 @@
-use Rattle.ext_text.specs.WrittenTexts.{fet_words}
+use Rattle.ext_text.proofs.Common.{fet_words}
 use Rattle.ext_text.proofs.AppendedLines.{fet_appended, line_written}
 use Rattle.ext_text.proofs.records.write_fet.Goals as goal
 

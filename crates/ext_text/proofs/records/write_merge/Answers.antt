@@ -1,4 +1,4 @@
-use Rattle.ext_text.specs.WrittenTexts.{merge_words}
+use Rattle.ext_text.proofs.Common.{merge_words}
 use Rattle.ext_text.proofs.AppendedLines.{merge_appended, line_written}
 use Rattle.ext_text.proofs.records.write_merge.Goals as goal
 

@@ -1,4 +1,4 @@
-use Rattle.ext_text.specs.WrittenTexts.{use_words}
+use Rattle.ext_text.proofs.Common.{use_words}
 use Rattle.ext_text.proofs.AppendedLines.{use_appended, line_written}
 use Rattle.ext_text.proofs.records.write_use.Goals as goal
 

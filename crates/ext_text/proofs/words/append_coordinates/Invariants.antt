@@ -1,6 +1,4 @@
-use Rattle.std.proofs.Common.{◌≡◌, ◌++◌, map, take}
-use Rattle.text_scan.specs.Decimal.{decimal}
-use Rattle.text_scan.specs.Written.{behind_blanks}
+use Rattle.ext_text.proofs.Common.{◌≡◌, ◌++◌, map, take, decimal, behind_blanks}
 use Rattle.ext_text.proofs.words.append_coordinates.Given as goal
 
 -- the values passed have been appended

@@ -1,5 +1,4 @@
-use Rattle.std.proofs.Common.{◌≡◌, ◌++◌, take}
-use Rattle.text_scan.specs.Written.{behind_blanks}
+use Rattle.ext_text.proofs.Common.{◌≡◌, ◌++◌, take, behind_blanks}
 use Rattle.ext_text.specs.NodeLines.{measure_words}
 use Rattle.ext_text.proofs.words.append_measures.Given as goal
 

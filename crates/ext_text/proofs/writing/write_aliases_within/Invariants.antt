@@ -1,4 +1,4 @@
-use Rattle.std.proofs.Common.{◌≡◌, ◌++◌, map, drop}
+use Rattle.ext_text.proofs.Common.{◌≡◌, ◌++◌, map, drop}
 use Rattle.ext_text.specs.WrittenTexts.{equiv_words, lines_text}
 use Rattle.ext_text.proofs.writing.write_aliases_within.Given as goal
 

@@ -1,9 +1,6 @@
-use Rattle.std.proofs.Common.{ℕ, List, ◌++◌, map, subst, ap, ◌∙◌}
-use Rattle.std.specs.Prelude.{codes}
+use Rattle.ext_text.proofs.Common.{ℕ, List, ◌++◌, map, subst, ap, ◌∙◌, codes, FetRec, nodes_text, fet_words}
 use Rattle.std.proofs.lemmas.Result.{err_from_is_err_and}
-use Rattle.ext_model.specs.declared.records.FetRec.{FetRec}
-use Rattle.ext_text.specs.steps.Appended.{nodes_text}
-use Rattle.ext_text.specs.WrittenTexts.{header_words, fet_words, lines_text, IsTooLong}
+use Rattle.ext_text.specs.WrittenTexts.{header_words, lines_text, IsTooLong}
 use Rattle.ext_text.proofs.AppendedLines.{passed_on, flat_written, nodes_too_long}
 use Rattle.ext_text.proofs.writing.write_circuit.Goals as goal
 

@@ -1,10 +1,6 @@
-use Rattle.std.proofs.Common.{ℕ, List, ◌++◌, map, ap, ◌∙◌}
-use Rattle.std.specs.Prelude.{codes}
+use Rattle.ext_text.proofs.Common.{ℕ, List, ◌++◌, map, ap, ◌∙◌, codes, FetRec, MergeRow, nodes_text, use_words, fet_words, merge_words}
 use Rattle.ext_model.specs.declared.arrays.ArrayUse.{ArrayUse}
-use Rattle.ext_model.specs.declared.records.FetRec.{FetRec}
-use Rattle.ext_model.specs.declared.arrays.MergeRow.{MergeRow}
-use Rattle.ext_text.specs.steps.Appended.{nodes_text}
-use Rattle.ext_text.specs.WrittenTexts.{header_words, use_words, fet_words, merge_words, lines_text}
+use Rattle.ext_text.specs.WrittenTexts.{header_words, lines_text}
 use Rattle.ext_text.proofs.AppendedLines.{ext_written}
 use Rattle.ext_text.proofs.writing.write_ext.Goals as goal
 

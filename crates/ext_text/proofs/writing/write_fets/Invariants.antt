@@ -1,5 +1,5 @@
-use Rattle.std.proofs.Common.{◌≡◌, ◌++◌, map, drop}
-use Rattle.ext_text.specs.WrittenTexts.{fet_words, lines_text}
+use Rattle.ext_text.proofs.Common.{◌≡◌, ◌++◌, map, drop, fet_words}
+use Rattle.ext_text.specs.WrittenTexts.{lines_text}
 use Rattle.ext_text.proofs.writing.write_fets.Given as goal
 
 abbrev pub invariant-loop-fet : goal.invariant-loop-fet

@@ -1,5 +1,5 @@
-use Rattle.std.proofs.Common.{◌≡◌, ◌++◌, map, drop}
-use Rattle.ext_text.specs.WrittenTexts.{merge_words, lines_text}
+use Rattle.ext_text.proofs.Common.{◌≡◌, ◌++◌, map, drop, merge_words}
+use Rattle.ext_text.specs.WrittenTexts.{lines_text}
 use Rattle.ext_text.proofs.writing.write_merges.Given as goal
 
 abbrev pub invariant-loop-merge : goal.invariant-loop-merge

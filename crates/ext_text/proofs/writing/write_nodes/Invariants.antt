@@ -1,5 +1,4 @@
-use Rattle.std.proofs.Common.{◌≡◌, ◌++◌, drop}
-use Rattle.ext_text.specs.steps.Appended.{nodes_text}
+use Rattle.ext_text.proofs.Common.{◌≡◌, ◌++◌, drop, nodes_text}
 use Rattle.ext_text.proofs.writing.write_nodes.Given as goal
 
 abbrev pub invariant-loop-node : goal.invariant-loop-node

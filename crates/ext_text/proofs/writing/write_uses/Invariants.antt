@@ -1,5 +1,5 @@
-use Rattle.std.proofs.Common.{◌≡◌, ◌++◌, map, drop}
-use Rattle.ext_text.specs.WrittenTexts.{use_words, lines_text}
+use Rattle.ext_text.proofs.Common.{◌≡◌, ◌++◌, map, drop, use_words}
+use Rattle.ext_text.specs.WrittenTexts.{lines_text}
 use Rattle.ext_text.proofs.writing.write_uses.Given as goal
 
 abbrev pub invariant-loop-used : goal.invariant-loop-used

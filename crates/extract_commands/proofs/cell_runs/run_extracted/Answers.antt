@@ -1,17 +1,7 @@
-use Rattle.std.proofs.Common.{◌≡◌, ◌++◌, List, inl, sym, subst, rules}
-use Rattle.session_model.specs.declared.report.ReportLine.{ReportLine}
-use Rattle.layout_gen.specs.CellLibrary.Libraries.{LibraryParts, seen}
+use Rattle.extract_commands.proofs.Common.{◌≡◌, ◌++◌, List, inl, sym, subst, rules, ReportLine, LibraryParts, seen, Extracting, Done, IsOfInside}
+use Rattle.extract_commands.proofs.Common.{edited_state, TellsAt, IsExtracted, fresh_below, both_inside, extraction_inside, unclean_inside}
 use Rattle.workspace.specs.declared.cells.Edited.{Edited}
-use Rattle.workspace.specs.declared.extractions.Extracting.{Extracting}
-use Rattle.workspace.specs.declared.extractions.Extracting.TheVariants.{Done}
-use Rattle.line_answers.specs.LineEffects.{IsOfInside}
-use Rattle.workspace.specs.KeptSessions.{edited_state}
-use Rattle.extract_commands.specs.CellRuns.{TellsAt}
-use Rattle.workspace.specs.Extracting.{IsExtracted}
 use Rattle.extract_commands.proofs.CellRunLaws.{runs_cell}
-use Rattle.workspace.proofs.ExtractionLaws.{fresh_below}
-use Rattle.line_answers.proofs.InsideLaws.{both_inside}
-use Rattle.workspace.proofs.ExtractionInside.{extraction_inside, unclean_inside}
 use Rattle.extract_commands.proofs.cell_runs.run_extracted.Goals as goal
 
 pub run_kept-requires-clause-fresh : goal.run_kept-requires-clause-fresh

@@ -1,23 +1,9 @@
-use Rattle.std.proofs.Common.{◌≡◌, List, sym, subst, rules}
-use Rattle.std.proofs.lemmas.Result.{IfOk-weaker}
-use Rattle.session_model.specs.declared.report.ReportLine.{ReportLine}
-use Rattle.session_model.specs.Effects.{Effect}
-use Rattle.layout_gen.specs.CellLibrary.Libraries.{LibraryParts, seen}
+use Rattle.extract_commands.proofs.Common.{◌≡◌, List, sym, subst, rules, IfOk-weaker, ReportLine, Effect, LibraryParts, seen, Extracting, Done}
+use Rattle.extract_commands.proofs.Common.{IsOfInside, edited_state, lines_of, IsWrittenAt, WritesCircuit, IsExtracted, State, both_ok, fresh_below}
+use Rattle.extract_commands.proofs.Common.{both_inside, extraction_inside, unclean_inside}
 use Rattle.workspace.specs.declared.cells.Edited.{Edited}
-use Rattle.workspace.specs.declared.extractions.Extracting.{Extracting}
-use Rattle.workspace.specs.declared.extractions.Extracting.TheVariants.{Done}
-use Rattle.line_answers.specs.LineEffects.{IsOfInside}
-use Rattle.workspace.specs.KeptSessions.{edited_state}
-use Rattle.uniqueness.specs.CircuitCommands.Circuits.{lines_of}
-use Rattle.extract_commands.specs.CommandCircuits.{IsWrittenAt, WritesCircuit}
-use Rattle.workspace.specs.Extracting.{IsExtracted}
-use Rattle.workspace.specs.States.{State}
-use Rattle.line_answers.proofs.AnswerLaws.{both_ok}
 use Rattle.extract_commands.proofs.ExtractionCommands.{refuses_cell, writes_cell}
-use Rattle.workspace.proofs.ExtractionLaws.{fresh_below}
 use Rattle.extract_commands.proofs.CircuitLaws.{written_at_inside}
-use Rattle.line_answers.proofs.InsideLaws.{both_inside}
-use Rattle.workspace.proofs.ExtractionInside.{extraction_inside, unclean_inside}
 use Rattle.extract_commands.proofs.command_circuits.circuit_found.Goals as goal
 
 pub write_kept-requires-clause-fresh : goal.write_kept-requires-clause-fresh

@@ -1,15 +1,5 @@
-use Rattle.std.proofs.Common.{◌≡◌, ◌⊎◌, ℕ, Some, None, [], rules}
-use Rattle.std.proofs.lemmas.Result.{IfOk-weaker}
-use Rattle.session_model.specs.Effects.{Effect}
-use Rattle.layout_gen.specs.CellLibrary.Libraries.{seen}
-use Rattle.layout_gen.specs.CellLibrary.Views.{cell_named}
-use Rattle.workspace.proofs.LibraryAnswers.EditScript.CellLaws.{found_there}
-use Rattle.workspace.specs.KeptSessions.{edited_state}
-use Rattle.extract_commands.specs.CommandCircuits.{WritesCircuit}
-use Rattle.workspace.specs.Extractions.{RefusesUnclean}
-use Rattle.workspace.specs.States.{State, Workspace}
-use Rattle.line_answers.proofs.AnswerLaws.{both_ok}
-use Rattle.workspace.proofs.CellCommands.{answers_on_cell, refused_on_cell}
+use Rattle.extract_commands.proofs.Common.{◌≡◌, ◌⊎◌, ℕ, Some, None, [], rules, IfOk-weaker, Effect, seen, cell_named, found_there, edited_state}
+use Rattle.extract_commands.proofs.Common.{WritesCircuit, RefusesUnclean, State, Workspace, both_ok, answers_on_cell, refused_on_cell}
 use Rattle.extract_commands.proofs.command_circuits.circuit_named.Goals as goal
 
 pub circuit_found-requires-clause-cell : goal.circuit_found-requires-clause-cell

@@ -1,8 +1,5 @@
-use Rattle.std.proofs.Common.{rules}
-use Rattle.std.proofs.lemmas.Result.{IfOk-weaker}
-use Rattle.layout_gen.specs.CellLibrary.Libraries.{seen}
+use Rattle.extract_commands.proofs.Common.{rules, IfOk-weaker, seen, IsSimulableCircuitAt}
 use Rattle.uniqueness.specs.CircuitCommands.declared.circuits.CircuitFile.TheVariants.{Flat}
-use Rattle.workspace.specs.CellCircuits.{IsSimulableCircuitAt}
 use Rattle.extract_commands.proofs.CircuitLaws.{written_at}
 use Rattle.extract_commands.proofs.command_circuits.write_flat_kept.Goals as goal
 

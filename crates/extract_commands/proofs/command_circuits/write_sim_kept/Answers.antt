@@ -1,10 +1,7 @@
-use Rattle.std.proofs.Common.{rules}
-use Rattle.std.proofs.lemmas.Result.{IfOk-weaker}
-use Rattle.layout_gen.specs.CellLibrary.Libraries.{seen}
+use Rattle.extract_commands.proofs.Common.{rules, IfOk-weaker, seen, IsSimulableCircuitAt}
 use Rattle.workspace.specs.Sinks.{IsGiven, with_fets}
 use Rattle.uniqueness.specs.CircuitCommands.GivenFets.{HasSimFets}
 use Rattle.uniqueness.specs.CircuitCommands.declared.circuits.CircuitFile.TheVariants.{Sim}
-use Rattle.workspace.specs.CellCircuits.{IsSimulableCircuitAt}
 use Rattle.extract_commands.proofs.CircuitLaws.{written_at}
 use Rattle.extract_commands.proofs.command_circuits.write_sim_kept.Goals as goal
 

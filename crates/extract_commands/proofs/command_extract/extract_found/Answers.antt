@@ -1,17 +1,8 @@
-use Rattle.std.proofs.Common.{◌≡◌, ◌∷◌, [], List, sym, subst, rules}
-use Rattle.std.proofs.lemmas.Result.{IfOk-weaker}
-use Rattle.session_model.specs.declared.report.ReportLine.{ReportLine}
-use Rattle.session_model.specs.Effects.{Effect}
-use Rattle.workspace.specs.declared.extractions.Extracting.{Extracting}
-use Rattle.line_answers.specs.LineEffects.{IsOfInside, reply}
-use Rattle.workspace.specs.KeptSessions.{edited_state}
-use Rattle.extract_commands.specs.CommandExtract.{ExtractsCell, extracted_text}
-use Rattle.workspace.specs.Extracting.{IsExtracted}
-use Rattle.workspace.specs.States.{State}
-use Rattle.line_answers.proofs.AnswerLaws.{both_ok}
+use Rattle.extract_commands.proofs.Common.{◌≡◌, ◌∷◌, [], List, sym, subst, rules, IfOk-weaker, ReportLine, Effect, Extracting, IsOfInside, reply}
+use Rattle.extract_commands.proofs.Common.{edited_state, ExtractsCell, extracted_text, IsExtracted, State, both_ok, both_inside, extraction_inside}
+use Rattle.extract_commands.proofs.Common.{unclean_inside}
 use Rattle.extract_commands.proofs.ExtractionCommands.{extracts_cell, refuses_cell}
-use Rattle.line_answers.proofs.InsideLaws.{both_inside, no_lines_inside, reply_inside}
-use Rattle.workspace.proofs.ExtractionInside.{extraction_inside, unclean_inside}
+use Rattle.line_answers.proofs.InsideLaws.{no_lines_inside, reply_inside}
 use Rattle.extract_commands.proofs.command_extract.extract_found.Goals as goal
 
 pub returns-in-Done-clause-effect : goal.returns-in-Done-clause-effect

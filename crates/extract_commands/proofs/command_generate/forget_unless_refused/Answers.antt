@@ -1,4 +1,4 @@
-use Rattle.layout_gen.specs.CellLibrary.Libraries.{seen}
+use Rattle.extract_commands.proofs.Common.{seen}
 use Rattle.workspace.proofs.VersionLaws.{log_forgotten}
 use Rattle.extract_commands.proofs.command_generate.forget_unless_refused.Goals as goal
 

@@ -1,13 +1,7 @@
-use Rattle.std.proofs.Common.{◌≡◌, ◌∙◌, ℕ, List, [], Some, ap, length, subst}
-use Rattle.std.proofs.lemmas.Int.{to_z-of_z}
-use Rattle.std.specs.Int.RustNames.{unsigned_abs}
-use Rattle.session_model.specs.Effects.{AnswersAlone}
+use Rattle.extract_commands.proofs.Common.{◌≡◌, ◌∙◌, ℕ, List, [], Some, ap, length, subst, to_z-of_z, unsigned_abs, AnswersAlone, edited_state}
+use Rattle.extract_commands.proofs.Common.{ReportLine, GeneratesStack, unless_refused, both_ok}
 use Rattle.extract_commands.specs.declared.command_generate.MadeStack.{MadeStack}
-use Rattle.workspace.specs.KeptSessions.{edited_state}
-use Rattle.session_model.specs.declared.report.ReportLine.{ReportLine}
-use Rattle.extract_commands.specs.CommandGenerate.{GeneratesStack, unless_refused}
 use Rattle.extract_commands.specs.steps.MadeStacks.{IsCellOf, IsStackMade}
-use Rattle.line_answers.proofs.AnswerLaws.{both_ok}
 use Rattle.extract_commands.proofs.GenerateLaws.{stack_made, stack_refused}
 use Rattle.extract_commands.proofs.command_generate.generate_into.Goals as goal
 

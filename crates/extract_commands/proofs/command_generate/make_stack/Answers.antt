@@ -1,4 +1,4 @@
-use Rattle.std.proofs.Common.{refl}
+use Rattle.extract_commands.proofs.Common.{refl}
 use Rattle.workspace.proofs.RecordLaws.{agrees_same}
 use Rattle.extract_commands.proofs.GenerateLaws.{stack_agrees, stack_came, stack_there}
 use Rattle.workspace.proofs.VersionLaws.{log_same}

@@ -1,6 +1,4 @@
-use Rattle.std.proofs.Common.{◌∙◌, ap, arith}
-use Rattle.std.proofs.lemmas.Int.{to_z-of_z}
-use Rattle.std.specs.Int.RustNames.{unsigned_abs}
+use Rattle.extract_commands.proofs.Common.{◌∙◌, ap, arith, to_z-of_z, unsigned_abs}
 use Rattle.extract_commands.proofs.GenerateLaws.{rows_between}
 use Rattle.extract_commands.proofs.command_generate.rows_of.Goals as goal
 

@@ -1,12 +1,8 @@
-use Rattle.std.proofs.Common.{◌≡◌, ℕ, List, [], ◌∷◌, Ok, Err, Some, subst}
-use Rattle.std.proofs.lemmas.Result.{IfOk-weaker}
+use Rattle.extract_commands.proofs.Common.{◌≡◌, ℕ, List, [], ◌∷◌, Some, subst, IfOk-weaker, text_in, NetworkRun, edited_state, RunsExtracted, State}
+use Rattle.extract_commands.proofs.Common.{both_ok}
+use Rattle.std.proofs.Common.{Ok, Err}
 use Rattle.session_model.specs.declared.fetching.Fetched.{Fetched}
-use Rattle.session_model.specs.Fetches.{FetchMeans, text_in}
-use Rattle.workspace.specs.NetworkRuns.declared.network_runs.NetworkRun.{NetworkRun}
-use Rattle.workspace.specs.KeptSessions.{edited_state}
-use Rattle.extract_commands.specs.CellRuns.{RunsExtracted}
-use Rattle.workspace.specs.States.{State}
-use Rattle.line_answers.proofs.AnswerLaws.{both_ok}
+use Rattle.session_model.specs.Fetches.{FetchMeans}
 use Rattle.extract_commands.proofs.CellRunLaws.{refuses_fetched, runs_fetched}
 use Rattle.extract_commands.proofs.command_vectors.fetch_vectors.Goals as goal
 

@@ -1,8 +1,7 @@
-use Rattle.std.proofs.Common.{◌≡◌, Some, IfOk, sym, subst, rules}
+use Rattle.extract_commands.proofs.Common.{◌≡◌, Some, sym, subst, rules, edited_state, State, VectorsMeans}
+use Rattle.std.proofs.Common.{IfOk}
 use Rattle.session_model.specs.Effects.{Answers}
-use Rattle.workspace.specs.KeptSessions.{edited_state, state_of}
-use Rattle.workspace.specs.States.{State}
-use Rattle.extract_commands.specs.CommandVectors.{VectorsMeans}
+use Rattle.workspace.specs.KeptSessions.{state_of}
 use Rattle.extract_commands.proofs.command_vectors.vectors.Goals as goal
 
 pub returns-in-Some-clause-effect : goal.returns-in-Some-clause-effect

@@ -1,15 +1,5 @@
-use Rattle.std.proofs.Common.{List, ℕ, subst, ◌≡◌, Some, rules}
-use Rattle.layout_gen.specs.CellLibrary.Libraries.{seen}
-use Rattle.layout_gen.specs.CellLibrary.Views.{cell_named}
-use Rattle.workspace.proofs.LibraryAnswers.EditScript.CellLaws.{found_there}
-use Rattle.std.proofs.lemmas.Result.{IfOk-weaker}
-use Rattle.session_model.specs.Effects.{AnswersFetching, Effect}
-use Rattle.session_model.specs.Fetches.{text_in}
-use Rattle.workspace.specs.NetworkRuns.Simulations.{vec_file}
-use Rattle.workspace.specs.KeptSessions.{edited_state}
-use Rattle.workspace.specs.States.{State, Workspace}
-use Rattle.workspace.proofs.CellCommands.{answers_on_cell}
-use Rattle.extract_commands.specs.CommandVectors.{RunsFetched}
+use Rattle.extract_commands.proofs.Common.{List, ℕ, subst, ◌≡◌, Some, rules, seen, cell_named, found_there, IfOk-weaker, AnswersFetching, Effect}
+use Rattle.extract_commands.proofs.Common.{text_in, vec_file, edited_state, State, Workspace, answers_on_cell, RunsFetched}
 use Rattle.extract_commands.proofs.command_vectors.vectors_named.Goals as goal
 
 pub fetch_vectors-requires-clause-cell : goal.fetch_vectors-requires-clause-cell

@@ -1,11 +1,8 @@
-use Rattle.std.proofs.Common.{◌≡◌, ℕ, ◌<◌, Bool, true, false, List, length, get_or, take, arith, ap, refl, sym, ◌∙◌}
-use Rattle.std.specs.List.{list_any, zip}
+use Rattle.fault_grade.proofs.Common.{◌≡◌, ℕ, ◌<◌, Bool, true, false, List, length, get_or, take, arith, ap, refl, sym, ◌∙◌, list_any, zip, Seen}
+use Rattle.fault_grade.proofs.Common.{states_of, is_shown_apart}
 use Rattle.std.proofs.lemmas.List.{length_push, take_all}
 use Rattle.std.proofs.lemmas.List.Folds.{list_any_at, list_any_more}
 use Rattle.std.proofs.lemmas.Slice.Zip.{get_or-zip, length-zip, zip_end, zip_turn}
-use Rattle.fault_replay.specs.VectorRuns.declared.watching.Seen.{Seen}
-use Rattle.fault_replay.specs.VectorRuns.Running.{states_of}
-use Rattle.fault_grade.specs.steps.Comparing.{is_shown_apart}
 use Rattle.fault_grade.proofs.comparing.are_apart.Goals as goal
 
 -- the test at a place of the pairs

@@ -1,7 +1,4 @@
-use Rattle.std.proofs.Common.{◌≡◌, false, length, take}
-use Rattle.std.specs.List.{list_any, zip}
-use Rattle.fault_replay.specs.VectorRuns.Running.{states_of}
-use Rattle.fault_grade.specs.steps.Comparing.{is_shown_apart}
+use Rattle.fault_grade.proofs.Common.{◌≡◌, false, length, take, list_any, zip, states_of, is_shown_apart}
 use Rattle.fault_grade.proofs.comparing.are_apart.Given as goal
 
 abbrev pub invariant-loop-named : goal.invariant-loop-named

@@ -1,5 +1,4 @@
-use Rattle.std.proofs.Common.{ℕ, ◌<◌, ◌≤◌, get_or}
-use Rattle.vector_files.specs.declared.files.VecLine.{VecLine}
+use Rattle.fault_grade.proofs.Common.{ℕ, ◌<◌, ◌≤◌, get_or, VecLine}
 use Rattle.fault_grade.proofs.detecting.are_rising.Given as goal
 
 abbrev pub invariant-loop-number : goal.invariant-loop-number

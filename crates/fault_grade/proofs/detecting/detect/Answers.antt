@@ -1,6 +1,4 @@
-use Rattle.std.proofs.Common.{ℕ, refl, subst, sym, ◌∙◌}
-use Rattle.switch_net.specs.Names.{NameNodesBelow}
-use Rattle.fault_replay.proofs.VectorRuns.RailStates.{put_back}
+use Rattle.fault_grade.proofs.Common.{ℕ, refl, subst, sym, ◌∙◌, NameNodesBelow, put_back}
 use Rattle.fault_grade.proofs.detecting.detect.Goals as goal
 
 pub invariant_of-named : goal.invariant_of-named

@@ -1,12 +1,5 @@
-use Rattle.std.proofs.Common.{ℕ, List, ap, subst, sym, ◌∙◌}
+use Rattle.fault_grade.proofs.Common.{ℕ, List, ap, subst, sym, ◌∙◌, sound_of, Level, NameNodesBelow, network_of, watched, begun_with, HasShown}
 use Rattle.std.specs.Prelude.{Some}
-use Rattle.switch_net.proofs.Sound.{sound_of}
-use Rattle.switch_net.specs.declared.switches.Level.{Level}
-use Rattle.switch_net.specs.Names.{NameNodesBelow}
-use Rattle.switch_net.specs.Net.{network_of}
-use Rattle.fault_replay.specs.VectorRuns.Running.{watched}
-use Rattle.fault_replay.specs.VectorRuns.Watching.{begun_with}
-use Rattle.fault_grade.specs.steps.Comparing.{HasShown}
 use Rattle.fault_grade.proofs.GradeLaws.{found_grade}
 use Rattle.fault_grade.proofs.detecting.detect_from_start.Goals as goal
 

@@ -1,7 +1,4 @@
-use Rattle.std.proofs.Common.{ℕ, List, refl, subst, sym, ◌∙◌}
-use Rattle.switch_net.specs.Names.{NameNodesBelow}
-use Rattle.switch_net.specs.Net.{network_of}
-use Rattle.fault_replay.proofs.VectorRuns.RailStates.{put_back}
+use Rattle.fault_grade.proofs.Common.{ℕ, List, refl, subst, sym, ◌∙◌, NameNodesBelow, network_of, put_back}
 use Rattle.fault_replay.specs.declared.records.PhaseRecord.{PhaseRecord}
 use Rattle.fault_replay.specs.Replays.{Records}
 use Rattle.fault_replay.proofs.Recorded.{none_recorded}

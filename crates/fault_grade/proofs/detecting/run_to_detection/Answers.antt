@@ -1,10 +1,7 @@
-use Rattle.std.proofs.Common.{◌≡◌, ℕ, ◌+◌, ◌≤◌, ◌∷◌, true, Option, ap, arith, length, refl, subst, sym, take, drop, ◌∙◌}
+use Rattle.fault_grade.proofs.Common.{◌≡◌, ℕ, ◌+◌, ◌≤◌, ◌∷◌, true, ap, arith, length, refl, subst, sym, take, drop, ◌∙◌, sound_of, VecLine}
+use Rattle.fault_grade.proofs.Common.{StuckFault, watched, is_left_out}
+use Rattle.std.proofs.Common.{Option}
 use Rattle.std.proofs.lemmas.List.{drop_more}
-use Rattle.switch_net.proofs.Sound.{sound_of}
-use Rattle.vector_files.specs.declared.files.VecLine.{VecLine}
-use Rattle.fault_replay.specs.VectorRuns.declared.stuck_faults.StuckFault.{StuckFault}
-use Rattle.fault_replay.specs.VectorRuns.Running.{watched}
-use Rattle.fault_replay.specs.VectorRuns.Watching.{is_left_out}
 use Rattle.fault_replay.specs.Runs.{IsBeside}
 use Rattle.fault_grade.proofs.Comparisons.{AreCompared, FindsBefore, found_first, found_last, found_now, one_compared, shown_enough, sound_shown}
 use Rattle.fault_grade.proofs.detecting.run_to_detection.Goals as goal

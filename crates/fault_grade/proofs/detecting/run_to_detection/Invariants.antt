@@ -1,8 +1,5 @@
-use Rattle.std.proofs.Common.{◌≡◌, ◌≤◌, drop, true}
-use Rattle.fault_replay.specs.VectorRuns.Running.{watched}
-use Rattle.fault_replay.specs.VectorRuns.Watching.{Watched}
+use Rattle.fault_grade.proofs.Common.{◌≡◌, ◌≤◌, drop, true, watched, Watched, HasShown}
 use Rattle.fault_replay.specs.Runs.{IsBeside, IsReady}
-use Rattle.fault_grade.specs.steps.Comparing.{HasShown}
 use Rattle.fault_grade.proofs.Comparisons.{AreCompared}
 use Rattle.fault_grade.proofs.detecting.run_to_detection.Given as goal
 

@@ -1,7 +1,5 @@
-use Rattle.std.proofs.Common.{ap, arith, length, sym, ◌∙◌}
+use Rattle.fault_grade.proofs.Common.{ap, arith, length, sym, ◌∙◌, is_either_node, faults_at, faults_but}
 use Rattle.std.proofs.lemmas.List.{length-append}
-use Rattle.vector_files.specs.NodeLookup.{is_either_node}
-use Rattle.fault_grade.specs.Grades.{faults_at, faults_but}
 use Rattle.fault_grade.proofs.GradeLaws.{faults_kept, faults_left}
 use Rattle.fault_grade.proofs.grading.count_faults.Goals as goal
 

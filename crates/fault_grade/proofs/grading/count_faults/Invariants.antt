@@ -1,6 +1,5 @@
-use Rattle.std.proofs.Common.{◌≡◌, ◌*◌, ◌≤◌, length}
-use Rattle.vector_files.specs.NodeLookup.{is_either_node}
-use Rattle.fault_grade.specs.Grades.{faults_but}
+use Rattle.fault_grade.proofs.Common.{◌≡◌, ◌≤◌, length, is_either_node, faults_but}
+use Rattle.std.proofs.Common.{◌*◌}
 use Rattle.fault_grade.proofs.grading.count_faults.Given as goal
 
 abbrev pub invariant-loop-node : goal.invariant-loop-node

@@ -1,11 +1,6 @@
-use Rattle.std.proofs.Common.{◌≡◌, List, ap, arith, subst, sym, ◌∙◌}
-use Rattle.std.specs.List.{AllZip}
-use Rattle.switch_net.specs.Net.{network_of}
+use Rattle.fault_grade.proofs.Common.{◌≡◌, List, ap, arith, subst, sym, ◌∙◌, AllZip, network_of, is_either_node, StuckFault, IsGrade, faults_but}
 use Rattle.switch_net.specs.Network.{Network}
 use Rattle.vector_files.specs.LineForms.{is_rail}
-use Rattle.vector_files.specs.NodeLookup.{is_either_node}
-use Rattle.fault_replay.specs.VectorRuns.declared.stuck_faults.StuckFault.{StuckFault}
-use Rattle.fault_grade.specs.Grades.{IsGrade, faults_but}
 use Rattle.fault_grade.proofs.GradeLaws.{faults_left, graded_more, same_faults}
 use Rattle.fault_grade.proofs.grading.grade_all.Goals as goal
 

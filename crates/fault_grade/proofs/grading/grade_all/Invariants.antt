@@ -1,8 +1,4 @@
-use Rattle.std.proofs.Common.{◌≡◌}
-use Rattle.std.specs.List.{AllZip}
-use Rattle.switch_net.specs.Net.{network_of}
-use Rattle.vector_files.specs.NodeLookup.{is_either_node}
-use Rattle.fault_grade.specs.Grades.{IsGrade, faults_but}
+use Rattle.fault_grade.proofs.Common.{◌≡◌, AllZip, network_of, is_either_node, IsGrade, faults_but}
 use Rattle.fault_grade.proofs.grading.grade_all.Given as goal
 
 abbrev pub invariant-loop-node : goal.invariant-loop-node

@@ -1,11 +1,6 @@
-use Rattle.std.proofs.Common.{ℕ, ◌∷◌, ◌++◌, [], List, ap, subst, sym, ◌∙◌}
-use Rattle.std.specs.List.{AllZip}
-use Rattle.switch_net.specs.declared.switches.Level.TheVariants.{Zero, One}
-use Rattle.switch_net.specs.Net.{network_of}
+use Rattle.fault_grade.proofs.Common.{ℕ, ◌∷◌, ◌++◌, [], List, ap, subst, sym, ◌∙◌, AllZip, Zero, One, network_of, StuckFault, Graded, IsGrade}
+use Rattle.fault_grade.proofs.Common.{faults_at}
 use Rattle.switch_net.specs.Network.{Network}
-use Rattle.fault_replay.specs.VectorRuns.declared.stuck_faults.StuckFault.{StuckFault}
-use Rattle.fault_grade.specs.declared.grading.Graded.{Graded}
-use Rattle.fault_grade.specs.Grades.{IsGrade, faults_at}
 use Rattle.fault_grade.proofs.GradeLaws.{two_more}
 use Rattle.fault_grade.proofs.grading.grade_node.Goals as goal
 

@@ -1,11 +1,7 @@
-use Rattle.std.proofs.Common.{◌≡◌, ℕ, ◌+◌, ◌<◌, List, [], ◌∷◌, ◌++◌, ap, arith, length, slice_index, slice_index_or, slice_set, subst, sym, take, ◌∙◌}
-use Rattle.std.specs.Prelude.{All, Vec}
+use Rattle.fault_replay.proofs.Common.{◌≡◌, ℕ, ◌+◌, ◌<◌, List, [], ◌∷◌, ◌++◌, ap, arith, length, slice_index, slice_index_or, slice_set, subst, sym}
+use Rattle.fault_replay.proofs.Common.{take, ◌∙◌, All, get_or_default, All-push, Level, X, Zero, changed, taken_from}
+use Rattle.std.specs.Prelude.{Vec}
 use Rattle.std.specs.Global.{Global}
-use Rattle.std.proofs.lemmas.List.{get_or_default}
-use Rattle.std.proofs.lemmas.List.Elements.{All-push}
-use Rattle.switch_net.specs.declared.switches.Level.{Level}
-use Rattle.switch_net.specs.declared.switches.Level.TheVariants.{X, Zero}
-use Rattle.fault_replay.specs.Changes.{changed, taken_from}
 use Rattle.fault_replay.proofs.ChangedStates.{changed-append, taken_again, taken_more}
 use Rattle.fault_replay.proofs.changing.changes_between.Goals as goal
 use Rattle.fault_replay.proofs.changing.changes_between.Goals.{then-differs_at+in_ok-push, else-differs_at}

@@ -1,7 +1,4 @@
-use Rattle.std.proofs.Common.{ℕ, List, Bool, ap, get_or, slice_set, sym, ◌∙◌}
-use Rattle.switch_net.specs.declared.switches.Level.{Level}
-use Rattle.switch_net.specs.declared.switches.Level.TheVariants.{Zero}
-use Rattle.fault_replay.specs.Changes.{is_copied}
+use Rattle.fault_replay.proofs.Common.{ℕ, List, Bool, ap, get_or, slice_set, sym, ◌∙◌, Level, Zero, is_copied}
 use Rattle.fault_replay.proofs.ChangedStates.{passed_off, passed_on}
 use Rattle.fault_replay.proofs.changing.copy_changes.Goals as goal
 use Rattle.fault_replay.proofs.changing.copy_changes.Goals.{then-is_copied, else-is_copied}

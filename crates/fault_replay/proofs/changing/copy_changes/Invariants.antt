@@ -1,7 +1,5 @@
-use Rattle.std.proofs.Common.{◌≡◌, ℕ, take}
+use Rattle.fault_replay.proofs.Common.{◌≡◌, ℕ, take, Level, changed, is_copied}
 use Rattle.std.specs.Prelude.{filter}
-use Rattle.switch_net.specs.declared.switches.Level.{Level}
-use Rattle.fault_replay.specs.Changes.{changed, is_copied}
 use Rattle.fault_replay.proofs.changing.copy_changes.Given as goal
 
 abbrev pub invariant-loop-node : goal.invariant-loop-node

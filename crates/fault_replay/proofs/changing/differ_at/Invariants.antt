@@ -1,5 +1,4 @@
-use Rattle.std.proofs.Common.{◌≡◌, ℕ, ◌<◌, slice_index}
-use Rattle.switch_net.specs.Path.{state_of}
+use Rattle.fault_replay.proofs.Common.{◌≡◌, ℕ, ◌<◌, slice_index, state_of}
 use Rattle.fault_replay.proofs.changing.differ_at.Given as goal
 
 abbrev pub invariant-loop-node : goal.invariant-loop-node

@@ -1,6 +1,4 @@
-use Rattle.std.proofs.Common.{ℕ, List, ap, get_or, slice_set, sym, ◌∙◌}
-use Rattle.switch_net.specs.declared.switches.Level.{Level}
-use Rattle.switch_net.specs.declared.switches.Level.TheVariants.{Zero}
+use Rattle.fault_replay.proofs.Common.{ℕ, List, ap, get_or, slice_set, sym, ◌∙◌, Level, Zero}
 use Rattle.fault_replay.proofs.ChangedStates.{changed_more}
 use Rattle.fault_replay.proofs.changing.make_changes.Goals as goal
 

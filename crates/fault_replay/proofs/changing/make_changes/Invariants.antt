@@ -1,5 +1,4 @@
-use Rattle.std.proofs.Common.{◌≡◌, take}
-use Rattle.fault_replay.specs.Changes.{changed}
+use Rattle.fault_replay.proofs.Common.{◌≡◌, take, changed}
 use Rattle.fault_replay.proofs.changing.make_changes.Given as goal
 
 abbrev pub invariant-loop-node : goal.invariant-loop-node

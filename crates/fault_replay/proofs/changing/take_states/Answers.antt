@@ -1,8 +1,5 @@
-use Rattle.std.proofs.Common.{◌<◌, List, ap, arith, length, slice_index, slice_index_or, slice_set, sym, take, ◌∙◌}
-use Rattle.std.proofs.lemmas.List.{get_or_default}
-use Rattle.switch_net.specs.declared.switches.Level.{Level}
-use Rattle.switch_net.specs.declared.switches.Level.TheVariants.{X, Zero}
-use Rattle.fault_replay.specs.Changes.{changed, taken_from}
+use Rattle.fault_replay.proofs.Common.{◌<◌, List, ap, arith, length, slice_index, slice_index_or, slice_set, sym, take, ◌∙◌, get_or_default, Level}
+use Rattle.fault_replay.proofs.Common.{X, Zero, changed, taken_from}
 use Rattle.fault_replay.proofs.ChangedStates.{taken_more}
 use Rattle.fault_replay.proofs.changing.take_states.Goals as goal
 

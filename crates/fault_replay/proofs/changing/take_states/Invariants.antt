@@ -1,5 +1,4 @@
-use Rattle.std.proofs.Common.{◌≡◌, take}
-use Rattle.fault_replay.specs.Changes.{changed, taken_from}
+use Rattle.fault_replay.proofs.Common.{◌≡◌, take, changed, taken_from}
 use Rattle.fault_replay.proofs.changing.take_states.Given as goal
 
 abbrev pub invariant-loop-node : goal.invariant-loop-node

@@ -1,5 +1,4 @@
-use Rattle.std.proofs.Common.{◌≡◌, ℕ, ◌<◌, length}
-use Rattle.fault_replay.specs.Changes.{IsTold}
+use Rattle.fault_replay.proofs.Common.{◌≡◌, ℕ, ◌<◌, length, IsTold}
 use Rattle.fault_replay.proofs.changing.tell_all.Given as goal
 
 abbrev pub invariant-loop-node : goal.invariant-loop-node

@@ -1,6 +1,4 @@
-use Rattle.std.proofs.Common.{◌≡◌, ℕ, ◌<◌, length, slice_index}
-use Rattle.switch_net.specs.Sets.{IsInside}
-use Rattle.fault_replay.specs.Changes.{IsTold}
+use Rattle.fault_replay.proofs.Common.{◌≡◌, ℕ, ◌<◌, length, slice_index, IsInside, IsTold}
 use Rattle.fault_replay.proofs.changing.tell_all_at.Given as goal
 
 abbrev pub invariant-loop-node : goal.invariant-loop-node

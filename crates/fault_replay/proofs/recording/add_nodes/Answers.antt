@@ -1,8 +1,5 @@
-use Rattle.std.proofs.Common.{ℕ, take, ◌∙◌}
+use Rattle.fault_replay.proofs.Common.{ℕ, take, ◌∙◌, Level, Zero, IsInside}
 use Rattle.std.proofs.lemmas.List.Elements.{All-more, All-weaker}
-use Rattle.switch_net.specs.declared.switches.Level.{Level}
-use Rattle.switch_net.specs.declared.switches.Level.TheVariants.{Zero}
-use Rattle.switch_net.specs.Sets.{IsInside}
 use Rattle.fault_replay.proofs.recording.add_nodes.Goals as goal
 
 pub loop-node-preserved : goal.loop-node-preserved

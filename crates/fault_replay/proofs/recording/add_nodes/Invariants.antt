@@ -1,7 +1,4 @@
-use Rattle.std.proofs.Common.{◌≡◌, ℕ, length, take}
-use Rattle.std.specs.Prelude.{All}
-use Rattle.switch_net.specs.declared.switches.Level.{Level}
-use Rattle.switch_net.specs.Sets.{IsInside}
+use Rattle.fault_replay.proofs.Common.{◌≡◌, ℕ, length, take, All, Level, IsInside}
 use Rattle.fault_replay.proofs.recording.add_nodes.Given as goal
 
 abbrev pub invariant-loop-node : goal.invariant-loop-node

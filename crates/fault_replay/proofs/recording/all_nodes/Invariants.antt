@@ -1,5 +1,4 @@
-use Rattle.std.proofs.Common.{◌≡◌, ℕ, ◌<◌, length}
-use Rattle.switch_net.specs.Sets.{IsInside}
+use Rattle.fault_replay.proofs.Common.{◌≡◌, ℕ, ◌<◌, length, IsInside}
 use Rattle.fault_replay.proofs.recording.all_nodes.Given as goal
 
 abbrev pub invariant-loop-node : goal.invariant-loop-node

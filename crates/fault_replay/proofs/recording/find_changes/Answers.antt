@@ -1,11 +1,5 @@
-use Rattle.std.proofs.Common.{ℕ, List, ap, arith, subst, sym, ◌∙◌}
-use Rattle.std.specs.Prelude.{None}
-use Rattle.switch_net.specs.Net.{network_of}
-use Rattle.switch_net.specs.Network.{Network}
-use Rattle.switch_net.specs.Steady.{IsStep}
-use Rattle.switch_net.proofs.Sound.{sound_of}
+use Rattle.fault_replay.proofs.Common.{ℕ, List, ap, arith, subst, sym, ◌∙◌, None, network_of, Network, IsStep, sound_of, changed, taken_from}
 use Rattle.steady_state.specs.Marked.{IsNear}
-use Rattle.fault_replay.specs.Changes.{changed, taken_from}
 use Rattle.fault_replay.proofs.Beside.{listed_below}
 use Rattle.fault_replay.proofs.Recorded.{near_step}
 use Rattle.fault_replay.proofs.recording.find_changes.Goals as goal

@@ -1,9 +1,5 @@
-use Rattle.std.proofs.Common.{ℕ, ◌+◌, List, [], ◌∷◌, ap, arith, drop, subst, sym, ◌∙◌}
-use Rattle.std.specs.Prelude.{All}
+use Rattle.fault_replay.proofs.Common.{ℕ, ◌+◌, List, [], ◌∷◌, ap, arith, drop, subst, sym, ◌∙◌, All, network_of, VecLine, FitsRecord, Records}
 use Rattle.std.proofs.lemmas.List.{append-nil, drop_more}
-use Rattle.switch_net.specs.Net.{network_of}
-use Rattle.vector_files.specs.declared.files.VecLine.{VecLine}
-use Rattle.fault_replay.specs.Replays.{FitsRecord, Records}
 use Rattle.fault_replay.proofs.Recorded.{none_recorded}
 use Rattle.fault_replay.proofs.recording.record.Goals as goal
 

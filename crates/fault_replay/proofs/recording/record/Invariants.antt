@@ -1,8 +1,4 @@
-use Rattle.std.proofs.Common.{◌≡◌, ◌++◌, List, length, drop}
-use Rattle.std.specs.Prelude.{All}
-use Rattle.switch_net.specs.Net.{network_of}
-use Rattle.fault_replay.specs.declared.records.PhaseRecord.{PhaseRecord}
-use Rattle.fault_replay.specs.Replays.{FitsRecord, Records}
+use Rattle.fault_replay.proofs.Common.{◌≡◌, ◌++◌, List, length, drop, All, network_of, PhaseRecord, FitsRecord, Records}
 use Rattle.fault_replay.proofs.recording.record.Given as goal
 
 abbrev pub invariant-loop-line : goal.invariant-loop-line

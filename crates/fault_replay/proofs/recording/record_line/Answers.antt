@@ -1,9 +1,5 @@
-use Rattle.std.proofs.Common.{List, [], ◌∷◌, ◌++◌, append_assoc, ap, refl, slice_set, subst, sym, ◌∙◌}
-use Rattle.switch_net.specs.Net.{network_of}
-use Rattle.switch_net.specs.Network.{Network}
-use Rattle.vector_files.specs.declared.files.VecLine.{VecLine}
-use Rattle.fault_replay.specs.declared.records.PhaseRecord.{PhaseRecord}
-use Rattle.fault_replay.specs.Replays.{Records}
+use Rattle.fault_replay.proofs.Common.{List, [], ◌∷◌, ◌++◌, ap, refl, slice_set, subst, sym, ◌∙◌, network_of, Network, VecLine, PhaseRecord, Records}
+use Rattle.std.proofs.Common.{append_assoc}
 use Rattle.fault_replay.proofs.recording.record_line.Goals as goal
 
 pub returns-in-Set-clause-recorded : goal.returns-in-Set-clause-recorded

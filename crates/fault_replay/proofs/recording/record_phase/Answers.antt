@@ -1,10 +1,5 @@
-use Rattle.std.proofs.Common.{◌-◌, arith, subst, sym, ◌∙◌}
-use Rattle.switch_net.specs.Net.{network_of}
-use Rattle.switch_net.specs.Network.{Network}
+use Rattle.fault_replay.proofs.Common.{◌-◌, arith, subst, sym, ◌∙◌, network_of, Network, input_in_range, sound_of, phase_keeps}
 use Rattle.switch_net.specs.Phase.{IsPhase}
-use Rattle.switch_net.proofs.Ranges.{input_in_range}
-use Rattle.switch_net.proofs.Sound.{sound_of}
-use Rattle.vector_runs.proofs.SplitRuns.{phase_keeps}
 use Rattle.fault_replay.proofs.Recorded.{steps_by_keep}
 use Rattle.fault_replay.proofs.recording.record_phase.Goals as goal
 

@@ -1,16 +1,8 @@
-use Rattle.std.proofs.Common.{◌≡◌, ◌++◌, ◌∷◌, [], ℕ, ◌<◌, List, ap, arith, length, length-append, refl, subst, sym, ◌∙◌}
-use Rattle.std.specs.Prelude.{All}
+use Rattle.fault_replay.proofs.Common.{◌≡◌, ◌++◌, ◌∷◌, [], ℕ, ◌<◌, List, ap, arith, length, refl, subst, sym, ◌∙◌, All, eqb-true, All-push, Level}
+use Rattle.fault_replay.proofs.Common.{network_of, Network, IsInside, IsStep, sound_of, changed, IsQuietBut, StepsBy, listed}
+use Rattle.std.proofs.Common.{length-append}
 use Rattle.std.specs.List.{length_refill}
-use Rattle.std.proofs.lemmas.Bool.{eqb-true}
-use Rattle.std.proofs.lemmas.List.Elements.{All-nil, All-push}
-use Rattle.switch_net.specs.declared.switches.Level.{Level}
-use Rattle.switch_net.specs.Net.{network_of}
-use Rattle.switch_net.specs.Network.{Network}
-use Rattle.switch_net.specs.Sets.{IsInside}
-use Rattle.switch_net.specs.Steady.{IsStep}
-use Rattle.switch_net.proofs.Sound.{sound_of}
-use Rattle.fault_replay.specs.Changes.{changed}
-use Rattle.fault_replay.specs.Replays.{IsQuietBut, StepsBy, listed}
+use Rattle.std.proofs.lemmas.List.Elements.{All-nil}
 use Rattle.fault_replay.proofs.Recorded.{quiet_behind, quiet_first, steps_by_more}
 use Rattle.fault_replay.proofs.recording.record_steps.Goals as goal
 

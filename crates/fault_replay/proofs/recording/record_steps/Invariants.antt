@@ -1,8 +1,4 @@
-use Rattle.std.proofs.Common.{◌≡◌, ◌≤◌, ◌<◌, ◌-◌, List, ℕ, length}
-use Rattle.std.specs.Prelude.{All}
-use Rattle.switch_net.specs.declared.switches.Level.{Level}
-use Rattle.switch_net.specs.Net.{network_of}
-use Rattle.fault_replay.specs.Replays.{IsQuietBut, StepsBy, listed}
+use Rattle.fault_replay.proofs.Common.{◌≡◌, ◌≤◌, ◌<◌, ◌-◌, List, ℕ, length, All, Level, network_of, IsQuietBut, StepsBy, listed}
 use Rattle.fault_replay.proofs.recording.record_steps.Given as goal
 
 abbrev pub invariant-steps : goal.invariant-steps

@@ -1,5 +1,4 @@
-use Rattle.std.proofs.Common.{◌≡◌, take}
-use Rattle.fet_regions.specs.steps.Channels.{alike_pairs}
+use Rattle.fet_regions.proofs.Common.{◌≡◌, take, alike_pairs}
 use Rattle.fet_regions.proofs.channels.alike_pairs.Given as goal
 
 abbrev pub invariant-loop-contact : goal.invariant-loop-contact

@@ -1,5 +1,4 @@
-use Rattle.std.proofs.Common.{ℕ, ◌<◌, List, length, sym, ◌∙◌, subst}
-use Rattle.std.specs.Prelude.{All}
+use Rattle.fet_regions.proofs.Common.{ℕ, ◌<◌, List, length, sym, ◌∙◌, subst, All}
 use Rattle.fet_regions.proofs.ContactLaws.{pairs_within}
 use Rattle.fet_regions.proofs.channels.label_alike.Goals as goal
 

@@ -1,13 +1,8 @@
-use Rattle.std.proofs.Common.{◌≡◌, ℕ, ◌+◌, ◌<◌, ℤ, pos, ◌+ℤ◌, length, get_or, take, sym, ◌∙◌, ap, rules, arith, to_z, of_z}
-use Rattle.std.specs.BTreeMap.{get}
-use Rattle.std.specs.Int.{w64, w128}
+use Rattle.fet_regions.proofs.Common.{◌≡◌, ℕ, ◌+◌, ◌<◌, ℤ, pos, ◌+ℤ◌, length, get_or, take, sym, ◌∙◌, ap, rules, arith, to_z, of_z, get, w64, Option}
+use Rattle.fet_regions.proofs.Common.{unwrap_or, to_z-of_z, sum_on, key_cmp, part_in, Part}
+use Rattle.std.specs.Int.{w128}
 use Rattle.std.specs.Int.RustNames.{FitsSigned}
-use Rattle.std.specs.Prelude.{Option, unwrap_or}
-use Rattle.std.proofs.lemmas.Int.{to_z-of_z}
-use Rattle.finite_sets.specs.Total.{sum_on}
 use Rattle.key_sums.proofs.SumLaws.{fits_is, bounded_fits, bounded_more}
-use Rattle.fet_regions.specs.Lengths.{key_cmp, part_in}
-use Rattle.fet_regions.specs.declared.lengths.Part.{Part}
 use Rattle.fet_regions.proofs.MapLaws.{summed_or, summed_more, sum_bounded}
 use Rattle.fet_regions.proofs.lengths.lengths_of.Goals as goal
 

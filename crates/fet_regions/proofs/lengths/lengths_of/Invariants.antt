@@ -1,8 +1,4 @@
-use Rattle.std.proofs.Common.{◌≡◌, ℕ, take}
-use Rattle.std.specs.BTreeMap.{get}
-use Rattle.finite_sets.specs.Total.{sum_on}
-use Rattle.key_sums.proofs.SumLaws.{Bounded}
-use Rattle.fet_regions.specs.Lengths.{key_cmp, part_in, summed}
+use Rattle.fet_regions.proofs.Common.{◌≡◌, ℕ, take, get, sum_on, Bounded, key_cmp, part_in, summed}
 use Rattle.fet_regions.proofs.lengths.lengths_of.Given as goal
 
 abbrev pub invariant-loop-part : goal.invariant-loop-part

@@ -1,8 +1,4 @@
-use Rattle.std.proofs.Common.{◌≡◌, pos, get_or, rules, to_z, of_z}
-use Rattle.std.specs.Int.{w64}
-use Rattle.std.proofs.lemmas.Int.{to_z-of_z}
-use Rattle.rect_contacts.specs.declared.contacts.Contact.{Contact}
-use Rattle.fet_regions.specs.steps.Roles.{terminal_in}
+use Rattle.fet_regions.proofs.Common.{◌≡◌, pos, get_or, rules, to_z, of_z, w64, to_z-of_z, Contact, terminal_in}
 use Rattle.fet_regions.proofs.ContactLaws.{parts_more}
 use Rattle.fet_regions.proofs.lengths.parts_of.Goals as goal
 

@@ -1,6 +1,4 @@
-use Rattle.std.proofs.Common.{◌≡◌, take}
-use Rattle.fet_regions.specs.Lengths.{parts_of}
-use Rattle.fet_regions.specs.steps.Roles.{terminal_in}
+use Rattle.fet_regions.proofs.Common.{◌≡◌, take, parts_of, terminal_in}
 use Rattle.fet_regions.proofs.lengths.parts_of.Given as goal
 
 abbrev pub invariant-loop-contact : goal.invariant-loop-contact

@@ -1,9 +1,6 @@
-use Rattle.std.proofs.Common.{◌≡◌, ℕ, ◌+◌, ℤ, map, Vec, Global}
-use Rattle.std.specs.BTreeMap.{get}
+use Rattle.fet_regions.proofs.Common.{◌≡◌, ℕ, ◌+◌, ℤ, map, Vec, Global, get, Included, Excluded, key_cmp, AreTerminals}
 use Rattle.std.specs.BTreeMap.Range.{entries_between}
-use Rattle.std.specs.declared.ops.Bound.TheVariants.{Included, Excluded}
 use Rattle.std.proofs.lemmas.Result.{IfOk-weaker}
-use Rattle.fet_regions.specs.Lengths.{key_cmp, AreTerminals}
 use Rattle.fet_regions.proofs.MapLaws.{terminals_in}
 use Rattle.fet_regions.proofs.lengths.terminals_of.Goals as goal
 

@@ -1,11 +1,7 @@
-use Rattle.std.proofs.Common.{◌≡◌, ℕ, ◌+◌, ◌<◌, ◌≤◌, Bool, false, true, List, length, get_or, sym, ◌∙◌, ap, subst, arith, Vec, Global}
-use Rattle.std.specs.Prelude.{slice_index}
+use Rattle.fet_regions.proofs.Common.{◌≡◌, ℕ, ◌+◌, ◌<◌, ◌≤◌, Bool, false, true, List, length, get_or, sym, ◌∙◌, ap, subst, arith, Vec, Global}
+use Rattle.fet_regions.proofs.Common.{slice_index, In-get_or, AreCorners, channel_in, Corner}
 use Rattle.std.proofs.Math.ListN.{set}
 use Rattle.std.proofs.lemmas.List.{get_or_default}
-use Rattle.finite_sets.proofs.Members.{In-get_or}
-use Rattle.fet_regions.specs.steps.Lowest.{AreCorners}
-use Rattle.fet_regions.specs.steps.Roles.{channel_in}
-use Rattle.fet_regions.specs.declared.lowest.Corner.{Corner}
 use Rattle.fet_regions.proofs.LowestLaws.{IsWalked, no_corner, walked_none, walked_seen, walked_new, walked_all}
 use Rattle.fet_regions.proofs.lowest.lowest_tiles.Goals as goal
 use Rattle.fet_regions.proofs.lowest.lowest_tiles.Goals.{then-not-index+in_ok-push, else-not-index}

@@ -1,10 +1,5 @@
-use Rattle.std.proofs.Common.{◌≡◌, ℕ, ◌∷◌, ◌++◌, [], true, false, map, filter, length, sym, ◌∙◌, ap, arith, Vec, Global}
-use Rattle.std.specs.List.{range_with_len}
-use Rattle.std.proofs.lemmas.List.{append-nil}
-use Rattle.flood_nodes.specs.TileShares.{tile_at}
-use Rattle.fet_regions.specs.steps.Lowest.{corner_at, channel_corners}
-use Rattle.fet_regions.specs.steps.Roles.{channel_in}
-use Rattle.fet_regions.specs.declared.lowest.Corner.{Corner}
+use Rattle.fet_regions.proofs.Common.{◌≡◌, ℕ, ◌∷◌, ◌++◌, [], true, false, map, filter, length, sym, ◌∙◌, ap, arith, Vec, Global, range_with_len}
+use Rattle.fet_regions.proofs.Common.{append-nil, tile_at, corner_at, channel_corners, channel_in, Corner}
 use Rattle.fet_regions.proofs.LowestLaws.{corners_taken, corners_sorted, corners_within}
 use Rattle.fet_regions.proofs.lowest.sorted_corners.Goals as goal
 use Rattle.fet_regions.proofs.lowest.sorted_corners.Goals.{then-is_channel+in_ok-push, else-is_channel}

@@ -1,8 +1,4 @@
-use Rattle.std.proofs.Common.{◌≡◌, map, filter}
-use Rattle.std.specs.List.{range_with_len}
-use Rattle.flood_nodes.specs.TileShares.{tile_at}
-use Rattle.fet_regions.specs.steps.Lowest.{corner_at}
-use Rattle.fet_regions.specs.steps.Roles.{channel_in}
+use Rattle.fet_regions.proofs.Common.{◌≡◌, map, filter, range_with_len, tile_at, corner_at, channel_in}
 use Rattle.fet_regions.proofs.lowest.sorted_corners.Given as goal
 
 abbrev pub invariant-loop-place : goal.invariant-loop-place

@@ -1,6 +1,4 @@
-use Rattle.std.proofs.Common.{◌≡◌, map}
-use Rattle.std.specs.List.{range_with_len}
-use Rattle.tech_model.specs.ChannelRoles.{is_channel}
+use Rattle.fet_regions.proofs.Common.{◌≡◌, map, range_with_len, is_channel}
 use Rattle.fet_regions.proofs.roles.channels.Given as goal
 
 abbrev pub invariant-loop-kind : goal.invariant-loop-kind

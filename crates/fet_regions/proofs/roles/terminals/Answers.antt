@@ -1,8 +1,4 @@
-use Rattle.std.proofs.Common.{◌++◌, ◌∷◌, [], map, sym, ◌∙◌, arith}
-use Rattle.std.specs.List.{range_with_len}
-use Rattle.std.proofs.lemmas.List.FromFn.{map-range_with_len_more}
-use Rattle.tech_model.specs.ChannelRoles.{is_terminal}
-use Rattle.fet_regions.specs.declared.roles.TheConstants.{ROWS}
+use Rattle.fet_regions.proofs.Common.{◌++◌, ◌∷◌, [], map, sym, ◌∙◌, arith, range_with_len, map-range_with_len_more, is_terminal, ROWS}
 use Rattle.fet_regions.proofs.roles.terminals.Goals as goal
 
 pub loop-channel-preserved : goal.loop-channel-preserved

@@ -1,7 +1,4 @@
-use Rattle.std.proofs.Common.{◌≡◌, map}
-use Rattle.std.specs.List.{range_with_len}
-use Rattle.tech_model.specs.ChannelRoles.{is_terminal}
-use Rattle.fet_regions.specs.declared.roles.TheConstants.{ROWS}
+use Rattle.fet_regions.proofs.Common.{◌≡◌, map, range_with_len, is_terminal, ROWS}
 use Rattle.fet_regions.proofs.roles.terminals.Given as goal
 
 abbrev pub invariant-loop-channel : goal.invariant-loop-channel

@@ -1,6 +1,4 @@
-use Rattle.std.proofs.Common.{◌++◌, ◌∷◌, [], sym, ◌∙◌, arith}
-use Rattle.std.proofs.lemmas.List.FromFn.{map-range_with_len_more}
-use Rattle.tech_model.specs.ChannelRoles.{is_terminal}
+use Rattle.fet_regions.proofs.Common.{◌++◌, ◌∷◌, [], sym, ◌∙◌, arith, map-range_with_len_more, is_terminal}
 use Rattle.fet_regions.proofs.roles.terminals_beside.Goals as goal
 
 pub loop-kind-preserved : goal.loop-kind-preserved

@@ -1,11 +1,5 @@
-use Rattle.std.proofs.Common.{◌≡◌, ◌++◌, ◌∷◌, [], List, sym, ◌∙◌, ap, arith, rules, to_z, of_z}
-use Rattle.std.specs.Int.{w64}
-use Rattle.std.proofs.lemmas.Int.{to_z-of_z}
-use Rattle.std.proofs.lemmas.List.FromFn.{map-range_with_len_more}
-use Rattle.key_sums.specs.declared.Amount.{Amount}
-use Rattle.rect_contacts.specs.Squares.{perimeter_of}
-use Rattle.flood_nodes.specs.TileShares.{tile_at}
-use Rattle.fet_regions.specs.steps.Sizes.{perimeter_amount}
+use Rattle.fet_regions.proofs.Common.{◌≡◌, ◌++◌, ◌∷◌, [], List, sym, ◌∙◌, ap, arith, rules, to_z, of_z, w64, to_z-of_z, map-range_with_len_more}
+use Rattle.fet_regions.proofs.Common.{Amount, perimeter_of, tile_at, perimeter_amount}
 use Rattle.fet_regions.proofs.sizes.perimeter_amounts.Goals as goal
 
 pub loop-place-preserved : goal.loop-place-preserved

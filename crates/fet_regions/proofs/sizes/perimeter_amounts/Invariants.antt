@@ -1,6 +1,4 @@
-use Rattle.std.proofs.Common.{◌≡◌, map}
-use Rattle.std.specs.List.{range_with_len}
-use Rattle.fet_regions.specs.steps.Sizes.{perimeter_amount}
+use Rattle.fet_regions.proofs.Common.{◌≡◌, map, range_with_len, perimeter_amount}
 use Rattle.fet_regions.proofs.sizes.perimeter_amounts.Given as goal
 
 abbrev pub invariant-loop-place : goal.invariant-loop-place

@@ -1,10 +1,5 @@
-use Rattle.std.proofs.Common.{◌≡◌, ◌++◌, [], pos, Bool, cond, get_or, sym, ◌∙◌, ap, rules, to_z, of_z, Vec, Global}
-use Rattle.std.specs.Int.{w64}
-use Rattle.std.specs.Prelude.{slice_index}
-use Rattle.std.proofs.lemmas.Int.{to_z-of_z}
-use Rattle.std.proofs.lemmas.List.{append-nil}
-use Rattle.key_sums.specs.declared.Amount.{Amount}
-use Rattle.rect_contacts.specs.declared.contacts.Contact.{Contact}
+use Rattle.fet_regions.proofs.Common.{◌≡◌, ◌++◌, [], pos, Bool, cond, get_or, sym, ◌∙◌, ap, rules, to_z, of_z, Vec, Global, w64, slice_index}
+use Rattle.fet_regions.proofs.Common.{to_z-of_z, append-nil, Amount, Contact}
 use Rattle.fet_regions.specs.steps.Sizes.{taken_off}
 use Rattle.fet_regions.proofs.ContactLaws.{shared_more}
 use Rattle.fet_regions.proofs.sizes.push_shared.Goals as goal

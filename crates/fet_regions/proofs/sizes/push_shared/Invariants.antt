@@ -1,5 +1,4 @@
-use Rattle.std.proofs.Common.{◌≡◌, ◌++◌, take}
-use Rattle.fet_regions.specs.steps.Sizes.{shared_amounts}
+use Rattle.fet_regions.proofs.Common.{◌≡◌, ◌++◌, take, shared_amounts}
 use Rattle.fet_regions.proofs.sizes.push_shared.Given as goal
 
 abbrev pub invariant-loop-contact : goal.invariant-loop-contact

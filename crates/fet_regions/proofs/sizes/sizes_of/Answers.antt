@@ -1,7 +1,4 @@
-use Rattle.std.proofs.Common.{◌<◌, ◌++◌, List, sym, ◌∙◌, ap, subst, arith}
-use Rattle.std.specs.Prelude.{All}
-use Rattle.key_sums.specs.declared.Amount.{Amount}
-use Rattle.fet_regions.specs.steps.Sizes.{shared_amounts}
+use Rattle.fet_regions.proofs.Common.{◌<◌, ◌++◌, List, sym, ◌∙◌, ap, subst, arith, All, Amount, shared_amounts}
 use Rattle.fet_regions.proofs.ContactLaws.{area_keys, all_keys}
 use Rattle.fet_regions.proofs.sizes.sizes_of.Goals as goal
 

@@ -1,12 +1,7 @@
-use Rattle.std.proofs.Common.{map, Vec, Global}
+use Rattle.fet_regions.proofs.Common.{map, Vec, Global, HasTypesOf, Layout, AreLayoutTiles, IsInRegion, AreTransistors, transistor_of, Fet}
 use Rattle.std.proofs.lemmas.Result.{IfOk-weaker}
 use Rattle.tech_model.specs.Types.{connects}
-use Rattle.layout_model.specs.LayerTypes.{HasTypesOf}
-use Rattle.layout_model.specs.Layouts.{Layout}
-use Rattle.layout_model.specs.RegionTiles.{AreRegions, AreLayoutTiles, IsInRegion}
-use Rattle.layout_model.specs.Transistors.{AreTransistors}
-use Rattle.fet_regions.specs.Transistors.{transistor_of}
-use Rattle.fet_regions.specs.declared.transistors.Fet.{Fet}
+use Rattle.layout_model.specs.RegionTiles.{AreRegions}
 use Rattle.fet_regions.proofs.transistors.fets.Goals as goal
 
 pub returns-clause-transistors : goal.returns-clause-transistors

@@ -1,5 +1,4 @@
-use Rattle.std.specs.BTreeMap.{get}
-use Rattle.fet_regions.specs.Lengths.{key_cmp}
+use Rattle.fet_regions.proofs.Common.{get, key_cmp}
 use Rattle.fet_regions.proofs.FetLaws.{found_more}
 use Rattle.fet_regions.proofs.transistors.fets_at.Goals as goal
 

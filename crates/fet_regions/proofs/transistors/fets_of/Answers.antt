@@ -1,7 +1,5 @@
-use Rattle.std.proofs.Common.{◌≡◌, ℕ, List, length, subst, arith}
+use Rattle.fet_regions.proofs.Common.{◌≡◌, ℕ, List, length, subst, arith, channel_in, terminal_in, AreFets}
 use Rattle.measures.proofs.AmountLaws.{contacts_within, contacts_some}
-use Rattle.fet_regions.specs.steps.Roles.{channel_in, terminal_in}
-use Rattle.fet_regions.specs.Transistors.{AreFets}
 use Rattle.fet_regions.proofs.FetLaws.{fets_found, fets_by_region}
 use Rattle.fet_regions.proofs.transistors.fets_of.Goals as goal
 

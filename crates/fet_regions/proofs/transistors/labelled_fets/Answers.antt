@@ -1,9 +1,4 @@
-use Rattle.std.proofs.Common.{ℕ, ◌<◌, List, length, get_or, sym, subst}
-use Rattle.std.specs.BTreeMap.{get}
-use Rattle.std.specs.Prelude.{All}
-use Rattle.finite_sets.proofs.Members.{In-get_or}
-use Rattle.fet_regions.specs.Lengths.{key_cmp}
-use Rattle.fet_regions.specs.Transistors.{AreFoundAt}
+use Rattle.fet_regions.proofs.Common.{ℕ, ◌<◌, List, length, get_or, sym, subst, get, All, In-get_or, key_cmp, AreFoundAt}
 use Rattle.fet_regions.proofs.transistors.labelled_fets.Goals as goal
 
 pub fets_at-requires-clause-within : goal.fets_at-requires-clause-within

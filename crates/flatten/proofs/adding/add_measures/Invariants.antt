@@ -1,5 +1,4 @@
-use Rattle.std.proofs.Common.{◌≡◌, ℕ, ◌<◌, ◌≤◌, length}
-use Rattle.circuit_model.specs.FlatNodes.{measure_of}
+use Rattle.flatten.proofs.Common.{◌≡◌, ℕ, ◌<◌, ◌≤◌, length, measure_of}
 use Rattle.flatten.specs.steps.Amounts.{AddsMeasure}
 use Rattle.flatten.proofs.adding.add_measures.Given as goal
 

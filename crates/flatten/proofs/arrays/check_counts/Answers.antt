@@ -1,4 +1,4 @@
-use Rattle.std.proofs.lemmas.Result.{err_from_is_err_and, IfErr-weaker}
+use Rattle.flatten.proofs.Common.{err_from_is_err_and, IfErr-weaker}
 use Rattle.flatten.proofs.ArrayLaws.{told_by, no_use_fault, node_is_fault, name_is_fault, merge_is_fault}
 use Rattle.flatten.proofs.arrays.check_counts.Goals as goal
 

@@ -1,14 +1,8 @@
-use Rattle.std.proofs.Common.{◌≡◌, ℕ, true, List, length, sym, ap, subst, ◌∙◌, arith}
-use Rattle.std.specs.Prelude.{slice_get, IsSome}
-use Rattle.std.proofs.lemmas.List.{length-map}
-use Rattle.std.proofs.lemmas.Result.{err_from_is_err_and, IfOk-weaker, IfErr-weaker}
-use Rattle.ext_model.specs.declared.records.CellExt.{CellExt}
-use Rattle.circuit_model.specs.Elements.{AreRecords, ext_of}
-use Rattle.circuit_model.specs.Refusals.{IsFlatOf}
+use Rattle.flatten.proofs.Common.{◌≡◌, ℕ, true, List, length, sym, ap, subst, ◌∙◌, arith, slice_get, IsSome, length-map, err_from_is_err_and}
+use Rattle.flatten.proofs.Common.{IfOk-weaker, IfErr-weaker, CellExt, AreRecords, ext_of, IsFlatOf, IsGiven, with_fets}
 use Rattle.plain_records.specs.Plains.{plains}
 use Rattle.plain_records.specs.Thin.{thin}
 use Rattle.plain_records.specs.Reached.{IsExpandedAt}
-use Rattle.flatten.specs.Sinks.{IsGiven, with_fets}
 use Rattle.flatten.proofs.ArrayLaws.{told_by, some_thin, fault_of, some_new, flat_is, fault_is}
 use Rattle.flatten.proofs.arrays.flatten_into.Goals as goal
 

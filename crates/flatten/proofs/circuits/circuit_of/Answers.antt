@@ -1,5 +1,4 @@
-use Rattle.std.proofs.Common.{[], rules}
-use Rattle.name_classes.specs.FullNames.Names.{elements_in}
+use Rattle.flatten.proofs.Common.{[], rules, elements_in}
 use Rattle.flatten.proofs.GivenLaws.{given_is}
 use Rattle.flatten.proofs.circuits.circuit_of.Goals as goal
 

@@ -1,5 +1,4 @@
-use Rattle.std.proofs.Common.{◌≡◌, ℕ, List, length, ◌∙◌, subst, arith}
-use Rattle.flatten.specs.steps.Spots.{AreNamedOf}
+use Rattle.flatten.proofs.Common.{◌≡◌, ℕ, List, length, ◌∙◌, subst, arith, AreNamedOf}
 use Rattle.flatten.proofs.NodeLaws.{so_many}
 use Rattle.flatten.proofs.FlatNodeLaws.{named_filled, flat_nodes_are}
 use Rattle.flatten.proofs.circuits.flat_nodes.Goals as goal

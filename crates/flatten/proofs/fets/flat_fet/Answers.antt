@@ -1,15 +1,9 @@
-use Rattle.std.proofs.Common.{◌≡◌, ℤ, List, length, get_or, sym, ◌∙◌, ap, subst, arith, rules, to_z, of_z}
-use Rattle.std.specs.Int.{w64, w128}
-use Rattle.std.proofs.lemmas.Int.{to_z-of_z}
+use Rattle.flatten.proofs.Common.{◌≡◌, ℤ, List, length, get_or, sym, ◌∙◌, ap, subst, arith, rules, to_z, of_z, w64, w128, to_z-of_z, Square, TermRec}
+use Rattle.flatten.proofs.Common.{ElementTree, element_at, AreFlatTerminals}
 use Rattle.flatten.proofs.NameClasses.TreeLaws.{tree_of_names}
-use Rattle.geo_core.specs.declared.squares.Square.{Square}
 use Rattle.geo_core.specs.Images.{image}
-use Rattle.ext_model.specs.declared.records.TermRec.{TermRec}
-use Rattle.element_tree.specs.declared.tree.ElementTree.{ElementTree}
 use Rattle.flatten.proofs.FlatLimits.TreeLaws.{no_flat}
-use Rattle.flatten.specs.steps.Spots.{element_at}
 use Rattle.flatten.proofs.SpotLaws.{element_here, read_small}
-use Rattle.flatten.specs.steps.Sides.{AreFlatTerminals}
 use Rattle.flatten.proofs.fets.flat_fet.Goals as goal
 
 abbrev square : ℤ → ℤ → Square

@@ -1,10 +1,6 @@
-use Rattle.std.proofs.Common.{length, sym, ◌∙◌, ap, arith}
-use Rattle.name_classes.specs.FullNames.Names.{elements_in}
-use Rattle.circuit_model.specs.FullNames.{name_in}
-use Rattle.flatten.specs.steps.Spots.{element_at}
+use Rattle.flatten.proofs.Common.{length, sym, ◌∙◌, ap, arith, elements_in, name_in, element_at, name_of_node}
 use Rattle.flatten.proofs.GroupLaws.{label_below}
 use Rattle.flatten.proofs.SpotLaws.{spot_named}
-use Rattle.flatten.specs.steps.Sides.{name_of_node}
 use Rattle.flatten.proofs.TerminalLaws.{node_name_is, name_read}
 use Rattle.flatten.proofs.fets.flat_gate.Goals as goal
 

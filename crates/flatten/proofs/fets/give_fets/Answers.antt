@@ -1,10 +1,5 @@
-use Rattle.std.proofs.Common.{◌≤◌, List, length, map, subst, arith, rules}
-use Rattle.std.proofs.lemmas.List.{take_all}
-use Rattle.circuit_model.specs.Elements.{Element}
-use Rattle.flatten.specs.Sinks.{GivesFets}
-use Rattle.ext_model.specs.declared.records.FetRec.{FetRec}
-use Rattle.circuit_model.specs.FlatFets.{IsFlatFet}
-use Rattle.flatten.specs.steps.Spots.{AreFetSpots, element_at, cell_at}
+use Rattle.flatten.proofs.Common.{◌≤◌, List, length, map, subst, arith, rules, take_all, Element, GivesFets, FetRec, IsFlatFet, AreFetSpots}
+use Rattle.flatten.proofs.Common.{element_at, cell_at}
 use Rattle.flatten.proofs.PlaceLaws.{AreAlong-read}
 use Rattle.flatten.proofs.FetLaws.{gives_more, gives_none}
 use Rattle.flatten.proofs.fets.give_fets.Goals as goal

@@ -1,6 +1,4 @@
-use Rattle.std.proofs.Common.{map, take}
-use Rattle.flatten.specs.steps.Spots.{element_at}
-use Rattle.flatten.specs.Sinks.{GivesFets}
+use Rattle.flatten.proofs.Common.{map, take, element_at, GivesFets}
 use Rattle.flatten.proofs.fets.give_fets.Given as goal
 
 abbrev pub invariant-loop-at : goal.invariant-loop-at

@@ -1,18 +1,7 @@
-use Rattle.std.proofs.Common.{◌≤◌, List, ◌++◌, length, map, take, sym, ◌∙◌, ap, subst, arith, rules}
-use Rattle.std.specs.Prelude.{All}
-use Rattle.ext_model.specs.declared.records.FetRec.{FetRec}
-use Rattle.ext_model.specs.declared.records.CellExt.{CellExt}
-use Rattle.ext_model.specs.Lawful.{IsLawfulFet}
-use Rattle.circuit_model.specs.Elements.{Element}
-use Rattle.circuit_model.specs.FlatFets.{fets_of}
-use Rattle.element_tree.specs.declared.tree.ElementTree.{ElementTree}
-use Rattle.name_classes.specs.FullNames.Names.{elements_in}
-use Rattle.flatten.specs.declared.spots.FetSpots.{FetSpots}
-use Rattle.flatten.specs.Sinks.{GivesFets}
-use Rattle.flatten.specs.steps.Spots.{AreFetSpotsOf, element_at, cell_at, no_element}
+use Rattle.flatten.proofs.Common.{◌≤◌, List, ◌++◌, length, map, take, sym, ◌∙◌, ap, subst, arith, rules, All, FetRec, CellExt, IsLawfulFet, Element}
+use Rattle.flatten.proofs.Common.{fets_of, ElementTree, elements_in, FetSpots, GivesFets, AreFetSpotsOf, element_at, cell_at, no_element, take_all}
 use Rattle.flatten.proofs.SpotLaws.{element_read, spots_read, spots_within}
 use Rattle.flatten.proofs.NameClasses.TreeLaws.{tree_of_names}
-use Rattle.std.proofs.lemmas.List.{take_all}
 use Rattle.flatten.proofs.FetLaws.{fets_more, gives_both, gives_none}
 use Rattle.flatten.proofs.fets.give_flat_fets.Goals as goal
 

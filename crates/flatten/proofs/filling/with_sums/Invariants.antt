@@ -1,7 +1,5 @@
-use Rattle.std.proofs.Common.{◌≡◌, ℕ, ◌<◌, ◌≤◌, length, vec_len}
-use Rattle.std.specs.Prelude.{Some, slice_get}
-use Rattle.ext_model.specs.declared.records.NodeRec.{NodeRec}
-use Rattle.flatten.specs.declared.sums.NodeSum.{NodeSum}
+use Rattle.flatten.proofs.Common.{◌≡◌, ℕ, ◌<◌, ◌≤◌, length, Some, slice_get, NodeRec, NodeSum}
+use Rattle.std.proofs.Common.{vec_len}
 use Rattle.flatten.specs.steps.Filled.{with_sum}
 use Rattle.flatten.proofs.filling.with_sums.Given as goal
 

@@ -1,6 +1,4 @@
-use Rattle.std.proofs.Common.{inl, inr, ◌∙◌}
-use Rattle.std.proofs.lemmas.Result.{IfErr-weaker}
-use Rattle.circuit_model.specs.Elements.{ext_of}
+use Rattle.flatten.proofs.Common.{inl, inr, ◌∙◌, IfErr-weaker, ext_of}
 use Rattle.flatten.proofs.FaultLaws.{flat_given, late_fault_at, something}
 use Rattle.flatten.proofs.flat.flatten_plain.Goals as goal
 

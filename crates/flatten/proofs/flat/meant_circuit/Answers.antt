@@ -1,16 +1,8 @@
-use Rattle.std.proofs.Common.{◌≤◌, List, length, get_or, sym, ◌∙◌, ap, subst}
-use Rattle.std.proofs.lemmas.Option.{get_or_from_slice_get}
-use Rattle.finite_sets.specs.Lists.{In}
+use Rattle.flatten.proofs.Common.{◌≤◌, List, length, get_or, sym, ◌∙◌, ap, subst, get_or_from_slice_get, In, CellExt, Element, elements_of}
+use Rattle.flatten.proofs.Common.{node_count, merge_count, class_fault, MOST_NODES, MOST_MERGES, elements_in, with_fets, no_element}
 use Rattle.finite_sets.proofs.Firsts.{first_some-none_In}
-use Rattle.ext_model.specs.declared.records.CellExt.{CellExt}
-use Rattle.circuit_model.specs.Elements.{Element, elements_of}
 use Rattle.circuit_model.specs.Circuits.{IsCircuitOf}
-use Rattle.circuit_model.specs.Refusals.{node_count, merge_count, class_fault}
-use Rattle.circuit_model.specs.declared.limits.TheConstants.{MOST_NODES, MOST_MERGES}
-use Rattle.name_classes.specs.FullNames.Names.{elements_in}
-use Rattle.flatten.specs.Sinks.{with_fets}
 use Rattle.flatten.proofs.FaultLaws.{few_nodes, few_merges, alike_classes, elements_at_root, root_here}
-use Rattle.flatten.specs.steps.Spots.{no_element}
 use Rattle.flatten.proofs.flat.meant_circuit.Goals as goal
 
 pub circuit_of-requires-clause-measured : goal.circuit_of-requires-clause-measured

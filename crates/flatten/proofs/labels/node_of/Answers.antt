@@ -1,7 +1,4 @@
-use Rattle.std.proofs.Common.{◌<◌, length, rules, arith, refl}
-use Rattle.std.proofs.lemmas.Option.{slice_get_within}
-use Rattle.circuit_model.specs.FullNames.{name_in}
-use Rattle.flatten.specs.steps.Spots.{element_at}
+use Rattle.flatten.proofs.Common.{◌<◌, length, rules, arith, refl, slice_get_within, name_in, element_at}
 use Rattle.flatten.proofs.LabelLaws.{label_read}
 use Rattle.flatten.proofs.SpotLaws.{has_spot, has_name_at}
 use Rattle.flatten.proofs.labels.node_of.Goals as goal

@@ -1,6 +1,4 @@
-use Rattle.std.proofs.Common.{◌≡◌, ℕ, List, ◌∙◌, sym, subst}
-use Rattle.std.proofs.lemmas.Result.{IfOk-weaker}
-use Rattle.flatten.specs.steps.Named.{HasText}
+use Rattle.flatten.proofs.Common.{◌≡◌, ℕ, List, ◌∙◌, sym, subst, IfOk-weaker, HasText}
 use Rattle.flatten.proofs.PlacedLaws.{has_text}
 use Rattle.flatten.proofs.nodes.name_at.Goals as goal
 

@@ -1,12 +1,5 @@
-use Rattle.std.proofs.Common.{◌≡◌, ◌<◌, ◌≤◌, ◌+◌, ℕ, List, [], ◌∷◌, ◌++◌, length, sym, ◌∙◌, ap, subst, arith, Vec, Global, refl}
-use Rattle.std.specs.Prelude.{Some, slice_get, slice_index}
-use Rattle.std.proofs.Math.ListN.{set}
-use Rattle.std.proofs.lemmas.Option.{slice_get_read}
-use Rattle.finite_sets.proofs.Places.{In-slice_get}
-use Rattle.ext_model.specs.declared.records.NodeRec.{NodeRec}
-use Rattle.ext_model.specs.RecordNames.{names_of}
-use Rattle.name_classes.specs.FullNames.Names.{elements_in}
-use Rattle.flatten.specs.steps.Named.{HasAlias, ArePlaced}
+use Rattle.flatten.proofs.Common.{◌≡◌, ◌<◌, ◌≤◌, ◌+◌, ℕ, List, [], ◌∷◌, ◌++◌, length, sym, ◌∙◌, ap, subst, arith, Vec, Global, refl, Some, slice_get}
+use Rattle.flatten.proofs.Common.{slice_index, set, slice_get_read, In-slice_get, NodeRec, names_of, elements_in, HasAlias, ArePlaced}
 use Rattle.flatten.proofs.PlacedLaws.{placed_alias, placed_set, placed_push}
 use Rattle.flatten.proofs.ScanLaws.{AreNamedUpTo, scan_alias, scan_new, next_label, scan_all}
 use Rattle.flatten.proofs.nodes.named_nodes.Goals as goal

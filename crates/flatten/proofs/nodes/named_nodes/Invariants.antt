@@ -1,7 +1,4 @@
-use Rattle.std.proofs.Common.{ℕ, List}
-use Rattle.name_classes.specs.FullNames.NameLists.{IsFullNameList}
-use Rattle.name_classes.specs.FullNames.Names.{elements_in}
-use Rattle.flatten.specs.steps.Named.{ArePlaced}
+use Rattle.flatten.proofs.Common.{ℕ, List, IsFullNameList, elements_in, ArePlaced}
 use Rattle.flatten.proofs.ScanLaws.{AreNamedUpTo}
 use Rattle.flatten.proofs.nodes.named_nodes.Given as goal
 

@@ -1,11 +1,6 @@
-use Rattle.std.proofs.Common.{◌≡◌, get_or, ◌∙◌, sym, ap, subst, rules, to_z, of_z, ℤ}
-use Rattle.std.specs.Int.{w32, w64}
-use Rattle.std.specs.Int.RustNames.{FitsSigned}
-use Rattle.std.proofs.lemmas.Int.{to_z-of_z}
-use Rattle.geo_core.specs.declared.squares.Square.{Square}
-use Rattle.ext_model.specs.declared.records.NodeRec.{NodeRec}
+use Rattle.flatten.proofs.Common.{◌≡◌, get_or, ◌∙◌, sym, ap, subst, rules, to_z, of_z, ℤ, w32, w64, FitsSigned, to_z-of_z, Square, NodeRec, Element}
 use Rattle.geo_core.specs.Images.{image}
-use Rattle.circuit_model.specs.Elements.{Element, placed}
+use Rattle.circuit_model.specs.Elements.{placed}
 use Rattle.flatten.proofs.FlatLimits.TreeLaws.{no_flat}
 use Rattle.flatten.proofs.PlacedLaws.{IsOriginHere, origin_here, lies_in_reach, node_within, node_read}
 use Rattle.flatten.proofs.SpotLaws.{read_small}

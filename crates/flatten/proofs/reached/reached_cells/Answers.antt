@@ -1,12 +1,5 @@
-use Rattle.std.proofs.Common.{◌≡◌, ℕ, true, length, get_or, arith, sym, ◌∙◌, ap, subst, inl, inr}
-use Rattle.std.specs.Prelude.{slice_get}
-use Rattle.std.proofs.Math.ListN.{set, length-set}
-use Rattle.std.proofs.lemmas.Bool.{cases_lt}
-use Rattle.std.proofs.lemmas.Option.{slice_get_within}
-use Rattle.name_classes.proofs.TreeLaws.{tree_of_names}
-use Rattle.name_classes.specs.FullNames.Names.{IsReached}
-use Rattle.plain_records.proofs.FlatLimits.TreeLaws.{no_flat}
-use Rattle.flatten.specs.steps.Spots.{cell_at}
+use Rattle.flatten.proofs.Common.{◌≡◌, ℕ, true, length, get_or, arith, sym, ◌∙◌, ap, subst, inl, inr, slice_get, set, length-set, cases_lt}
+use Rattle.flatten.proofs.Common.{slice_get_within, tree_of_names, IsReached, no_flat, cell_at}
 use Rattle.flatten.proofs.PlaceLaws.{place_set, place_set_cases, place_set_again}
 use Rattle.flatten.proofs.SpotLaws.{element_here}
 use Rattle.flatten.proofs.reached.reached_cells.Goals as goal

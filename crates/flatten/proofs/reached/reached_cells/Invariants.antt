@@ -1,7 +1,4 @@
-use Rattle.std.proofs.Common.{◌≡◌, ℕ, ◌<◌, length, true}
-use Rattle.std.specs.Prelude.{Some, slice_get}
-use Rattle.name_classes.specs.FullNames.Names.{IsReached}
-use Rattle.flatten.specs.steps.Spots.{cell_at}
+use Rattle.flatten.proofs.Common.{◌≡◌, ℕ, ◌<◌, length, true, Some, slice_get, IsReached, cell_at}
 use Rattle.flatten.proofs.reached.reached_cells.Given as goal
 
 abbrev pub invariant-loop-element : goal.invariant-loop-element

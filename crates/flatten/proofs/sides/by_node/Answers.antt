@@ -1,6 +1,5 @@
-use Rattle.std.proofs.Common.{ℕ, rules}
+use Rattle.flatten.proofs.Common.{ℕ, rules, Side}
 use Rattle.std.proofs.lemmas.List.Sorted.{answers_always}
-use Rattle.flatten.specs.declared.sides.Side.{Side}
 use Rattle.flatten.proofs.OrderLaws.{sorted_by_node}
 use Rattle.flatten.proofs.sides.by_node.Goals as goal
 

@@ -1,9 +1,5 @@
-use Rattle.std.proofs.Common.{◌≡◌, ◌<◌, length, map, sym, ◌∙◌, ap, subst, Vec, Global}
-use Rattle.std.specs.Prelude.{All}
-use Rattle.std.proofs.lemmas.Result.{IfOk-weaker}
-use Rattle.ext_model.specs.declared.records.TermRec.{TermRec}
-use Rattle.flatten.specs.steps.Spots.{element_at}
-use Rattle.flatten.specs.steps.Sides.{named_side, AreFlatTerminals}
+use Rattle.flatten.proofs.Common.{◌≡◌, ◌<◌, length, map, sym, ◌∙◌, ap, subst, Vec, Global, All, IfOk-weaker, TermRec, element_at, named_side}
+use Rattle.flatten.proofs.Common.{AreFlatTerminals}
 use Rattle.flatten.proofs.TerminalLaws.{terminals_flat}
 use Rattle.flatten.proofs.sides.flat_terminals.Goals as goal
 

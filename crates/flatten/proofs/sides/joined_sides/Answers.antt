@@ -1,11 +1,6 @@
-use Rattle.std.proofs.Common.{pos, List, [], ◌∷◌, ◌++◌, length, take, get_or, sym, ◌∙◌, ap, subst, arith}
-use Rattle.std.specs.Prelude.{sum_by}
-use Rattle.std.specs.Int.RustNames.{unsigned_abs}
-use Rattle.std.proofs.lemmas.List.{take_more, take_all}
+use Rattle.flatten.proofs.Common.{pos, List, [], ◌∷◌, ◌++◌, length, take, get_or, sym, ◌∙◌, ap, subst, arith, sum_by, unsigned_abs, take_more}
+use Rattle.flatten.proofs.Common.{take_all, sum_by_more_le, Side, AreByNode, AreJoined}
 use Rattle.std.proofs.lemmas.List.Sorted.{sum_by-IsPermutation}
-use Rattle.std.proofs.lemmas.List.Sums.{sum_by_more_le}
-use Rattle.flatten.specs.declared.sides.Side.{Side}
-use Rattle.flatten.specs.steps.Sides.{AreByNode, AreJoined}
 use Rattle.flatten.proofs.JoinLaws.{fits_last, join_more, joined_any_order, late_by_node}
 use Rattle.flatten.proofs.sides.joined_sides.Goals as goal
 

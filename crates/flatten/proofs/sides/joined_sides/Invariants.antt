@@ -1,5 +1,4 @@
-use Rattle.std.proofs.Common.{take}
-use Rattle.flatten.specs.steps.Sides.{AreJoined}
+use Rattle.flatten.proofs.Common.{take, AreJoined}
 use Rattle.flatten.proofs.sides.joined_sides.Given as goal
 
 abbrev pub invariant-loop-side : goal.invariant-loop-side

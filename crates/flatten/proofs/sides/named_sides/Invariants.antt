@@ -1,5 +1,4 @@
-use Rattle.std.proofs.Common.{◌≡◌, map, take}
-use Rattle.flatten.specs.steps.Sides.{named_side}
+use Rattle.flatten.proofs.Common.{◌≡◌, map, take, named_side}
 use Rattle.flatten.proofs.sides.named_sides.Given as goal
 
 abbrev pub invariant-loop-side : goal.invariant-loop-side

@@ -1,10 +1,5 @@
-use Rattle.std.proofs.Common.{◌≡◌, ◌+◌, ◌-◌, ℤ, ◌+ℤ◌, length, refl, sym, ◌∙◌, ap, arith, rules, to_z, of_z}
-use Rattle.std.specs.Prelude.{Some, slice_get}
-use Rattle.std.specs.Int.{w128}
-use Rattle.std.proofs.Math.ListN.{set}
-use Rattle.std.proofs.lemmas.Int.{to_z-of_z}
-use Rattle.std.proofs.lemmas.Option.{slice_get_read, same_Some}
-use Rattle.flatten.specs.declared.sides.Side.{Side}
+use Rattle.flatten.proofs.Common.{◌≡◌, ◌+◌, ◌-◌, ℤ, ◌+ℤ◌, length, refl, sym, ◌∙◌, ap, arith, rules, to_z, of_z, Some, slice_get, w128, set}
+use Rattle.flatten.proofs.Common.{to_z-of_z, slice_get_read, same_Some, Side}
 use Rattle.flatten.proofs.JoinLaws.{with_side_same, with_side_new, with_side_first}
 use Rattle.flatten.proofs.sides.push_side.Goals as goal
 use Rattle.flatten.proofs.sides.push_side.Goals.{else-count-gt0-via-then-count-gt0+else-index-side, else-count-gt0-via-else-count-gt0}

@@ -1,14 +1,6 @@
-use Rattle.std.proofs.Common.{◌≡◌, ℕ, ℤ, List, [], ◌∷◌, ◌++◌, length, get_or, sym, ◌∙◌, ap, rules, to_z, of_z}
-use Rattle.std.specs.Int.{w128}
-use Rattle.std.proofs.lemmas.Int.{to_z-of_z}
-use Rattle.std.proofs.lemmas.List.{map_more}
-use Rattle.ext_model.specs.declared.records.TermRec.{TermRec}
-use Rattle.name_classes.specs.FullNames.declared.names.Spot.TheVariants.{Local}
-use Rattle.name_classes.specs.FullNames.Names.{IsSpotOf}
-use Rattle.flatten.specs.steps.Spots.{element_at, cell_at}
+use Rattle.flatten.proofs.Common.{◌≡◌, ℕ, ℤ, List, [], ◌∷◌, ◌++◌, length, get_or, sym, ◌∙◌, ap, rules, to_z, of_z, w128, to_z-of_z, map_more}
+use Rattle.flatten.proofs.Common.{TermRec, Local, IsSpotOf, element_at, cell_at, Side, side_of}
 use Rattle.flatten.proofs.PlaceLaws.{AreAlong-at}
-use Rattle.flatten.specs.declared.sides.Side.{Side}
-use Rattle.flatten.specs.steps.Sides.{side_of}
 use Rattle.flatten.proofs.sides.sides_of.Goals as goal
 
 abbrev name_of : TermRec → List ℕ

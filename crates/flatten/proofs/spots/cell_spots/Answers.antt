@@ -1,10 +1,6 @@
-use Rattle.std.proofs.Common.{◌≡◌, ◌<◌, ◌+◌, ℕ, true, false, List, [], ◌∷◌, length, arith, sym, ◌∙◌, ap, subst, inl, inr, refl, length-append}
-use Rattle.std.specs.Prelude.{Some, slice_get}
-use Rattle.std.proofs.lemmas.Option.{slice_get_read, same_Some, get_or_from_slice_get}
-use Rattle.finite_sets.proofs.Places.{slice_get-push_cases}
-use Rattle.ext_model.specs.declared.records.CellExt.{CellExt}
-use Rattle.flatten.specs.declared.spots.CellSpots.{CellSpots}
-use Rattle.flatten.specs.steps.Spots.{AreSpotsIn, cell_at, element_at}
+use Rattle.flatten.proofs.Common.{◌≡◌, ◌<◌, ◌+◌, ℕ, true, false, List, [], ◌∷◌, length, arith, sym, ◌∙◌, ap, subst, inl, inr, refl, length-append}
+use Rattle.flatten.proofs.Common.{Some, slice_get, slice_get_read, same_Some, get_or_from_slice_get, slice_get-push_cases, CellExt, CellSpots}
+use Rattle.flatten.proofs.Common.{AreSpotsIn, cell_at, element_at}
 use Rattle.flatten.proofs.SpotLaws.{flat_here}
 use Rattle.flatten.proofs.spots.cell_spots.Goals as goal
 

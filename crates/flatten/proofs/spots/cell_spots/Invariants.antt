@@ -1,8 +1,4 @@
-use Rattle.std.proofs.Common.{◌≡◌, ℕ, length, true}
-use Rattle.std.specs.Prelude.{Some, slice_get}
-use Rattle.ext_model.specs.declared.records.CellExt.{CellExt}
-use Rattle.flatten.specs.declared.spots.CellSpots.{CellSpots}
-use Rattle.flatten.specs.steps.Spots.{AreSpotsIn}
+use Rattle.flatten.proofs.Common.{◌≡◌, ℕ, length, true, Some, slice_get, CellExt, CellSpots, AreSpotsIn}
 use Rattle.flatten.proofs.spots.cell_spots.Given as goal
 
 abbrev pub invariant-loop-cell : goal.invariant-loop-cell

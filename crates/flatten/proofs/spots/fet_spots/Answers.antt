@@ -1,7 +1,4 @@
-use Rattle.std.proofs.Common.{◌+◌, List, take, sym, subst}
-use Rattle.ext_model.specs.declared.records.FetRec.{FetRec}
-use Rattle.flatten.specs.declared.spots.FetSpots.{FetSpots}
-use Rattle.flatten.specs.steps.Spots.{AreFetSpots, AreFetSpotsOf}
+use Rattle.flatten.proofs.Common.{◌+◌, List, take, sym, subst, FetRec, FetSpots, AreFetSpots, AreFetSpotsOf}
 use Rattle.flatten.proofs.PlaceLaws.{AreAlong-next}
 use Rattle.flatten.proofs.spots.fet_spots.Goals as goal
 

@@ -1,5 +1,4 @@
-use Rattle.std.proofs.Common.{take}
-use Rattle.flatten.specs.steps.Spots.{AreFetSpotsOf}
+use Rattle.flatten.proofs.Common.{take, AreFetSpotsOf}
 use Rattle.flatten.proofs.spots.fet_spots.Given as goal
 
 abbrev pub invariant-loop-fet : goal.invariant-loop-fet

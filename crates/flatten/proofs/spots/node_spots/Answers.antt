@@ -1,9 +1,4 @@
-use Rattle.std.proofs.Common.{◌+◌, ℕ, List, map, take, sym, subst}
-use Rattle.finite_sets.proofs.Members.{In-map}
-use Rattle.ext_model.specs.declared.records.NodeRec.{NodeRec}
-use Rattle.name_classes.specs.FullNames.declared.names.Spot.{Spot}
-use Rattle.name_classes.specs.FullNames.Names.{IsSpotOf}
-use Rattle.flatten.specs.steps.Spots.{AreSpotsOf}
+use Rattle.flatten.proofs.Common.{◌+◌, ℕ, List, map, take, sym, subst, In-map, NodeRec, Spot, IsSpotOf, AreSpotsOf}
 use Rattle.flatten.proofs.PlaceLaws.{AreAlong-more, In-read}
 use Rattle.flatten.proofs.spots.node_spots.Goals as goal
 

@@ -1,8 +1,5 @@
-use Rattle.std.proofs.Common.{List, map, sym, subst}
-use Rattle.std.specs.Prelude.{All}
-use Rattle.ext_model.specs.declared.records.NodeRec.{NodeRec}
-use Rattle.ext_model.specs.declared.records.FetRec.{FetRec}
-use Rattle.flatten.specs.steps.Spots.{HasNames, HasFetNames}
+use Rattle.flatten.proofs.Common.{List, map, sym, subst, All, NodeRec, FetRec, HasNames}
+use Rattle.flatten.specs.steps.Spots.{HasFetNames}
 use Rattle.flatten.proofs.SpotLaws.{has_node_names, has_fet_names}
 use Rattle.flatten.proofs.spots.spots_in.Goals as goal
 

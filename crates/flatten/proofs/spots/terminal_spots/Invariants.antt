@@ -1,5 +1,4 @@
-use Rattle.std.proofs.Common.{map, take}
-use Rattle.flatten.specs.steps.Spots.{AreSpotsOf}
+use Rattle.flatten.proofs.Common.{map, take, AreSpotsOf}
 use Rattle.flatten.proofs.spots.terminal_spots.Given as goal
 
 abbrev pub invariant-loop-side : goal.invariant-loop-side

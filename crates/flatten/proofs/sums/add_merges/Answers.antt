@@ -1,12 +1,5 @@
-use Rattle.std.proofs.Common.{List, map, ◌∙◌, ap, subst, arith}
-use Rattle.std.proofs.Math.ListN.{length-set}
-use Rattle.std.proofs.lemmas.List.{take_all}
-use Rattle.ext_model.specs.declared.records.MergeRec.{MergeRec}
-use Rattle.name_classes.specs.FullNames.declared.names.Spot.TheVariants.{Local}
-use Rattle.name_classes.specs.declared.classes.MergeEnd.{MergeEnd}
-use Rattle.flatten.specs.steps.Labels.{label_of}
-use Rattle.flatten.specs.steps.Spots.{element_at}
-use Rattle.flatten.specs.steps.Sums.{AddAll, merge_addend}
+use Rattle.flatten.proofs.Common.{List, map, ◌∙◌, ap, subst, arith, length-set, take_all, MergeRec, Local, MergeEnd, label_of, element_at, AddAll}
+use Rattle.flatten.proofs.Common.{merge_addend}
 use Rattle.flatten.proofs.AddingLaws.{step_fits, step_adds}
 use Rattle.flatten.proofs.EndLaws.{end_here}
 use Rattle.flatten.proofs.sums.add_merges.Goals as goal

@@ -1,12 +1,5 @@
-use Rattle.std.proofs.Common.{ℕ, List, map, ◌∙◌, subst}
-use Rattle.std.proofs.Math.ListN.{length-set}
-use Rattle.std.proofs.lemmas.List.{take_all}
-use Rattle.ext_model.specs.declared.records.NodeRec.{NodeRec}
-use Rattle.name_classes.specs.FullNames.declared.names.Spot.TheVariants.{Local}
-use Rattle.name_classes.specs.FullNames.Names.{IsSpotOf}
-use Rattle.flatten.specs.steps.Spots.{element_at, cell_at}
+use Rattle.flatten.proofs.Common.{ℕ, List, map, ◌∙◌, subst, length-set, take_all, NodeRec, Local, IsSpotOf, element_at, cell_at, AddAll, node_addend}
 use Rattle.flatten.proofs.PlaceLaws.{AreAlong-at}
-use Rattle.flatten.specs.steps.Sums.{AddAll, node_addend}
 use Rattle.flatten.proofs.AddingLaws.{step_fits, step_adds}
 use Rattle.flatten.proofs.sums.add_nodes.Goals as goal
 

@@ -1,8 +1,4 @@
-use Rattle.std.proofs.Common.{◌≡◌, ℕ, List, length, map, take}
-use Rattle.name_classes.specs.FullNames.NameLists.{IsFullNameList}
-use Rattle.name_classes.specs.FullNames.Names.{elements_in}
-use Rattle.flatten.specs.steps.Spots.{element_at}
-use Rattle.flatten.specs.steps.Sums.{AddAll, node_addend}
+use Rattle.flatten.proofs.Common.{◌≡◌, ℕ, List, length, map, take, IsFullNameList, elements_in, element_at, AddAll, node_addend}
 use Rattle.flatten.proofs.sums.add_nodes.Given as goal
 
 abbrev pub invariant-loop-at : goal.invariant-loop-at

@@ -1,26 +1,14 @@
-use Rattle.std.proofs.Common.{◌≡◌, ◌<◌, ℕ, List, [], ◌++◌, length, map, take, get_or, sym, ◌∙◌, ap, subst, arith, rules, append_assoc}
-use Rattle.std.specs.List.{flat_map}
-use Rattle.ext_model.specs.declared.records.NodeRec.{NodeRec}
-use Rattle.ext_model.specs.declared.records.CellExt.{CellExt}
-use Rattle.circuit_model.specs.Elements.{Element}
-use Rattle.element_tree.specs.declared.tree.ElementTree.{ElementTree}
-use Rattle.element_tree.specs.declared.tree.TreeElement.{TreeElement}
-use Rattle.name_classes.specs.FullNames.declared.names.FullNames.{FullNames}
-use Rattle.name_classes.specs.FullNames.NameLists.{IsFullNameList}
-use Rattle.name_classes.specs.FullNames.Names.{elements_in}
-use Rattle.name_classes.specs.declared.classes.MergeEnd.{MergeEnd}
-use Rattle.name_classes.specs.declared.classes.NameClasses.{NameClasses}
-use Rattle.name_classes.specs.Classes.{AreClasses, HasEnds}
-use Rattle.name_classes.proofs.TreeLaws.{tree_of_names}
+use Rattle.flatten.proofs.Common.{◌≡◌, ◌<◌, ℕ, List, [], ◌++◌, length, map, take, get_or, sym, ◌∙◌, ap, subst, arith, rules, append_assoc, flat_map}
+use Rattle.flatten.proofs.Common.{NodeRec, CellExt, Element, ElementTree, TreeElement, FullNames, IsFullNameList, elements_in, MergeEnd, NameClasses}
+use Rattle.flatten.proofs.Common.{AreClasses, HasEnds, tree_of_names, AreSpotsOf, element_at, cell_at, no_element, HaveSums, Addend, addends_in}
+use Rattle.flatten.proofs.Common.{node_addends, merge_addends, Capacitance, Area, Perimeter, take_all}
 use Rattle.flatten.proofs.FlatLimits.TreeLaws.{no_flat}
-use Rattle.flatten.specs.steps.Spots.{AreSpotsOf, element_at, cell_at, no_element}
 use Rattle.flatten.proofs.SpotLaws.{IsRead, element_read, spots_read, spots_within}
-use Rattle.flatten.specs.steps.Sums.{HaveSums, AddNodes, AddMerges, Addend, addends_in, node_addends, merge_addends}
-use Rattle.flatten.specs.steps.Sums.Quantity.{Capacitance, Area, Perimeter}
+use Rattle.flatten.specs.steps.Sums.{AddNodes, AddMerges}
 use Rattle.flatten.proofs.EndLaws.{node_named, merge_named}
 use Rattle.flatten.proofs.NodeLaws.{has_name_is}
 use Rattle.flatten.proofs.PlaceLaws.{refilled}
-use Rattle.std.proofs.lemmas.List.{get_or_default, take_all}
+use Rattle.std.proofs.lemmas.List.{get_or_default}
 use Rattle.flatten.proofs.TotalLaws.{lawful_elements, room_for_nodes, room_for_merges, addends_more, sum_is}
 use Rattle.flatten.proofs.sums.node_sums.Goals as goal
 use Rattle.flatten.proofs.sums.node_sums.Goals.{In-loop-number, After-deref_mut-in-loop-number}

@@ -1,8 +1,4 @@
-use Rattle.std.proofs.Common.{ℕ, List, take}
-use Rattle.std.specs.List.{flat_map}
-use Rattle.name_classes.specs.FullNames.NameLists.{IsFullNameList}
-use Rattle.name_classes.specs.FullNames.Names.{elements_in}
-use Rattle.flatten.specs.steps.Sums.{HaveSums, addends_in}
+use Rattle.flatten.proofs.Common.{ℕ, List, take, flat_map, IsFullNameList, elements_in, HaveSums, addends_in}
 use Rattle.flatten.proofs.sums.node_sums.Given as goal
 
 abbrev pub invariant-loop-number : goal.invariant-loop-number

@@ -1,7 +1,5 @@
-use Rattle.std.proofs.Common.{◌≡◌, ℕ, pos, length}
-use Rattle.std.specs.Prelude.{Some, slice_get}
+use Rattle.flatten.proofs.Common.{◌≡◌, ℕ, pos, length, Some, slice_get, NodeSum}
 use Rattle.std.proofs.Math.ListN.{replicate}
-use Rattle.flatten.specs.declared.sums.NodeSum.{NodeSum}
 use Rattle.flatten.proofs.sums.zero_sums.Given as goal
 
 abbrev pub invariant-loop-node : goal.invariant-loop-node

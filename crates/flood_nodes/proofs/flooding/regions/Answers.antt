@@ -1,12 +1,7 @@
 -- The tiles that are gathered are those of what is seen.
-use Rattle.std.proofs.Common.{◌≤◌, List, sym, subst}
-use Rattle.std.specs.Prelude.{AllPairs}
+use Rattle.flood_nodes.proofs.Common.{◌≤◌, List, sym, subst, AllPairs, Layout, seen_in, AreLayoutTiles, AreRegions, RegionTile}
 use Rattle.std.proofs.lemmas.Result.{IfOk-weaker}
 use Rattle.tech_model.specs.Types.{connects}
-use Rattle.layout_model.specs.Layouts.{Layout}
-use Rattle.layout_model.specs.LayerTypes.{seen_in}
-use Rattle.layout_model.specs.RegionTiles.{AreLayoutTiles, AreRegions}
-use Rattle.layout_model.specs.declared.region_tiles.RegionTile.{RegionTile}
 use Rattle.flood_nodes.proofs.flooding.regions.Goals as goal
 
 pub regions_of_tiles-requires-clause-by_plane : goal.regions_of_tiles-requires-clause-by_plane

@@ -1,10 +1,6 @@
 -- The labels of the classes that the links make are the numbers of regions, and the contacts stay those of the tiles.
-use Rattle.std.proofs.Common.{◌≡◌, ◌<◌, List, ℕ, length, sym, subst, arith}
-use Rattle.std.specs.Prelude.{All}
+use Rattle.flood_nodes.proofs.Common.{◌≡◌, ◌<◌, List, ℕ, length, sym, subst, arith, All, Divides, IsPair, AreRenumbered, AreSpread}
 use Rattle.tech_model.specs.Types.{connects}
-use Rattle.partition.specs.Divides.{Divides, IsPair}
-use Rattle.flood_nodes.specs.Renumbered.{AreRenumbered}
-use Rattle.flood_nodes.specs.Stacking.{AreSpread}
 use Rattle.flood_nodes.proofs.Renumbering.{join_within, numbered_contacts, regions_from_classes, renumbered_sound, contacts_told}
 use Rattle.flood_nodes.proofs.flooding.regions_of_tiles.Goals as goal
 

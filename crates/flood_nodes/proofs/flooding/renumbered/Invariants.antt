@@ -1,7 +1,4 @@
-use Rattle.std.proofs.Common.{◌≡◌, ℕ, ◌<◌, length}
-use Rattle.std.specs.Prelude.{slice_index}
-use Rattle.flood_nodes.specs.Renumbered.{with_region}
-use Rattle.flood_nodes.specs.TileShares.{tile_at}
+use Rattle.flood_nodes.proofs.Common.{◌≡◌, ℕ, ◌<◌, length, slice_index, with_region, tile_at}
 use Rattle.flood_nodes.proofs.flooding.renumbered.Given as goal
 
 abbrev pub invariant-loop-place : goal.invariant-loop-place

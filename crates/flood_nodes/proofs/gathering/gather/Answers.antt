@@ -1,10 +1,6 @@
 -- Each plane is gathered in turn, and past the last there is no material.
-use Rattle.std.proofs.Common.{◌+◌, List, length, sym, ◌∙◌, ap, subst, arith}
-use Rattle.geo_core.specs.declared.squares.Rect.{Rect}
-use Rattle.tech_model.specs.declared.raw.RawTech.{RawTech}
-use Rattle.tech_model.specs.declared.raw.TypeId.{TypeId}
+use Rattle.flood_nodes.proofs.Common.{◌+◌, List, length, sym, ◌∙◌, ap, subst, arith, Rect, RawTech, TypeId, seen_in}
 use Rattle.tech_model.specs.LayerTiles.{AreTilesOf}
-use Rattle.layout_model.specs.LayerTypes.{seen_in}
 use Rattle.flood_nodes.proofs.GatherLaws.{HasGathered, gathered_none, gathered_more, gathered_all, gathered_typed}
 use Rattle.flood_nodes.proofs.gathering.gather.Goals as goal
 

@@ -1,4 +1,4 @@
-use Rattle.layout_model.specs.LayerTypes.{seen_in}
+use Rattle.flood_nodes.proofs.Common.{seen_in}
 use Rattle.flood_nodes.proofs.GatherLaws.{HasGathered}
 use Rattle.flood_nodes.proofs.gathering.gather.Given as goal
 

@@ -1,4 +1,4 @@
-use Rattle.std.proofs.Common.{◌≡◌, ◌++◌, map, take}
+use Rattle.flood_nodes.proofs.Common.{◌≡◌, ◌++◌, map, take}
 use Rattle.flood_nodes.specs.steps.Gathered.{tile_on}
 use Rattle.flood_nodes.proofs.gathering.push_tiles.Given as goal
 

@@ -1,8 +1,4 @@
-use Rattle.std.proofs.Common.{◌≡◌, ◌+◌, ◌<◌, length, inl, inr, sym, ◌∙◌, ap, subst, arith}
-use Rattle.std.proofs.lemmas.Bool.{cases_lt}
-use Rattle.geo_core.specs.FiniteSets.Lists.{Lists}
-use Rattle.tech_model.specs.declared.raw.RawTech.{RawTech}
-use Rattle.flood_nodes.specs.Stacking.{IsCrossing}
+use Rattle.flood_nodes.proofs.Common.{◌≡◌, ◌+◌, ◌<◌, length, inl, inr, sym, ◌∙◌, ap, subst, arith, cases_lt, Lists, RawTech, IsCrossing}
 use Rattle.flood_nodes.proofs.LinkLaws.{adds_more}
 use Rattle.flood_nodes.proofs.linking.add_all_stacked.Goals as goal
 

@@ -1,5 +1,4 @@
-use Rattle.std.proofs.Common.{◌<◌, length}
-use Rattle.flood_nodes.specs.Stacking.{AddsMeeting}
+use Rattle.flood_nodes.proofs.Common.{◌<◌, length, AddsMeeting}
 use Rattle.flood_nodes.proofs.linking.add_all_stacked.Given as goal
 
 abbrev pub invariant-loop-low : goal.invariant-loop-low

@@ -1,10 +1,5 @@
 -- The tiles of the two planes are those that a contact may link, and their rectangles lie apart on each.
-use Rattle.std.proofs.Common.{◌<◌, List, ℕ, length, sym, ◌∙◌, ap, subst}
-use Rattle.std.specs.Prelude.{All, AllPairs}
-use Rattle.geo_core.specs.declared.squares.Rect.{Rect}
-use Rattle.geo_core.specs.Areas.{AreDisjoint, IsNear}
-use Rattle.geo_core.specs.Covering.{IsProper}
-use Rattle.flood_nodes.specs.Stacking.{areas_at}
+use Rattle.flood_nodes.proofs.Common.{◌<◌, List, ℕ, length, sym, ◌∙◌, ap, subst, All, AllPairs, Rect, AreDisjoint, IsNear, IsProper, areas_at}
 use Rattle.flood_nodes.proofs.LinkLaws.{crossings_within, places_within, areas_proper, areas_near, areas_apart, overlaps_within, adds_stacked}
 use Rattle.flood_nodes.proofs.linking.add_stacked.Goals as goal
 

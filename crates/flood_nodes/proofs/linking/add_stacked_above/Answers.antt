@@ -1,5 +1,4 @@
-use Rattle.std.proofs.Common.{◌≡◌, ◌+◌, ◌<◌, inl, inr, arith}
-use Rattle.std.proofs.lemmas.Bool.{cases_lt}
+use Rattle.flood_nodes.proofs.Common.{◌≡◌, ◌+◌, ◌<◌, inl, inr, arith, cases_lt}
 use Rattle.flood_nodes.proofs.LinkLaws.{adds_more}
 use Rattle.flood_nodes.proofs.linking.add_stacked_above.Goals as goal
 

@@ -1,5 +1,4 @@
-use Rattle.std.proofs.Common.{◌≡◌, ◌<◌}
-use Rattle.flood_nodes.specs.Stacking.{AddsMeeting}
+use Rattle.flood_nodes.proofs.Common.{◌≡◌, ◌<◌, AddsMeeting}
 use Rattle.flood_nodes.proofs.linking.add_stacked_above.Given as goal
 
 abbrev pub invariant-loop-high : goal.invariant-loop-high

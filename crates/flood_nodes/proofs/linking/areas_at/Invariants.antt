@@ -1,5 +1,4 @@
-use Rattle.std.proofs.Common.{◌≡◌, take}
-use Rattle.flood_nodes.specs.Stacking.{areas_at}
+use Rattle.flood_nodes.proofs.Common.{◌≡◌, take, areas_at}
 use Rattle.flood_nodes.proofs.linking.areas_at.Given as goal
 
 abbrev pub invariant-loop-place : goal.invariant-loop-place

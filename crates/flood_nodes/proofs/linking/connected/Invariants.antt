@@ -1,5 +1,4 @@
-use Rattle.std.proofs.Common.{◌≡◌, take}
-use Rattle.flood_nodes.specs.Stacking.{connected}
+use Rattle.flood_nodes.proofs.Common.{◌≡◌, take, connected}
 use Rattle.flood_nodes.proofs.linking.connected.Given as goal
 
 abbrev pub invariant-loop-first : goal.invariant-loop-first

@@ -1,9 +1,6 @@
 -- One tile more is tried.
-use Rattle.std.proofs.Common.{◌+◌, ℕ, sym, ◌∙◌, ap, subst, arith, Vec, Global}
-use Rattle.geo_core.specs.FiniteSets.Lists.{Lists}
-use Rattle.geo_core.proofs.FiniteSets.Listings.{Lists-iff}
-use Rattle.flood_nodes.specs.Stacking.{has_other_images, IsCrossing}
-use Rattle.flood_nodes.specs.TileShares.{tile_at}
+use Rattle.flood_nodes.proofs.Common.{◌+◌, ℕ, sym, ◌∙◌, ap, subst, arith, Lists, Lists-iff, has_other_images, IsCrossing, tile_at}
+use Rattle.std.proofs.Common.{Vec, Global}
 use Rattle.flood_nodes.proofs.LinkLaws.{PassesBelow, passes_one_more, passes_no_more}
 use Rattle.flood_nodes.proofs.linking.crossings.Goals as goal
 use Rattle.flood_nodes.proofs.linking.crossings.Goals.{then-has_other_images+in_ok-push, else-has_other_images}

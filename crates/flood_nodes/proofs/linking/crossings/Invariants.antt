@@ -1,6 +1,4 @@
-use Rattle.geo_core.specs.FiniteSets.Lists.{Lists}
-use Rattle.flood_nodes.specs.Stacking.{has_other_images}
-use Rattle.flood_nodes.specs.TileShares.{tile_at}
+use Rattle.flood_nodes.proofs.Common.{Lists, has_other_images, tile_at}
 use Rattle.flood_nodes.proofs.LinkLaws.{PassesBelow}
 use Rattle.flood_nodes.proofs.linking.crossings.Given as goal
 

@@ -1,4 +1,4 @@
-use Rattle.std.proofs.Common.{◌≡◌, ◌++◌, take}
+use Rattle.flood_nodes.proofs.Common.{◌≡◌, ◌++◌, take}
 use Rattle.flood_nodes.specs.Stacking.{placed_in}
 use Rattle.flood_nodes.proofs.linking.push_placed.Given as goal
 

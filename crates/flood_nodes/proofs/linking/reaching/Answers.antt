@@ -1,6 +1,5 @@
-use Rattle.std.proofs.Common.{filter, take_all, sym, ◌∙◌, ap, subst}
-use Rattle.geo_core.specs.FiniteSets.Lists.{Lists}
-use Rattle.flood_nodes.specs.Stacking.{IsReaching}
+use Rattle.flood_nodes.proofs.Common.{filter, sym, ◌∙◌, ap, subst, Lists, IsReaching}
+use Rattle.std.proofs.Common.{take_all}
 use Rattle.flood_nodes.proofs.LinkLaws.{passes_reach, reaching_are}
 use Rattle.flood_nodes.proofs.linking.reaching.Goals as goal
 

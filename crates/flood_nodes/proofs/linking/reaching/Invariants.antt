@@ -1,4 +1,4 @@
-use Rattle.std.proofs.Common.{◌≡◌, filter, take}
+use Rattle.flood_nodes.proofs.Common.{◌≡◌, filter, take}
 use Rattle.flood_nodes.proofs.LinkLaws.{passes_reach}
 use Rattle.flood_nodes.proofs.linking.reaching.Given as goal
 

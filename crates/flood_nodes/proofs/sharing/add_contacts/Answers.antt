@@ -1,17 +1,7 @@
 -- The rectangles are those of the tiles, and places of the run fit.
-use Rattle.std.proofs.Common.{List, map, ◌++◌, ap, sym, ◌∙◌, subst, arith}
-use Rattle.std.specs.Prelude.{All, AllPairs}
-use Rattle.std.proofs.lemmas.List.{length-map}
+use Rattle.flood_nodes.proofs.Common.{List, map, ◌++◌, ap, sym, ◌∙◌, subst, arith, All, AllPairs, length-map, Rect, AreDisjoint, IsNear, IsProper}
+use Rattle.flood_nodes.proofs.Common.{Lists, In-get_or, RegionTile, Contact, IsSharedEdge, areas_of, shifted}
 use Rattle.std.proofs.lemmas.List.Elements.{All-map}
-use Rattle.geo_core.specs.declared.squares.Rect.{Rect}
-use Rattle.geo_core.specs.Areas.{AreDisjoint, IsNear}
-use Rattle.geo_core.specs.Covering.{IsProper}
-use Rattle.geo_core.specs.FiniteSets.Lists.{Lists}
-use Rattle.geo_core.proofs.FiniteSets.Members.{In-get_or}
-use Rattle.layout_model.specs.declared.region_tiles.RegionTile.{RegionTile}
-use Rattle.rect_contacts.specs.declared.contacts.Contact.{Contact}
-use Rattle.rect_contacts.specs.Contacts.{IsSharedEdge}
-use Rattle.flood_nodes.specs.steps.Runs.{areas_of, shifted}
 use Rattle.flood_nodes.proofs.RunLaws.{areas_apart}
 use Rattle.flood_nodes.proofs.sharing.add_contacts.Goals as goal
 

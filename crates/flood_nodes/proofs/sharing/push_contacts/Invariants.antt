@@ -1,5 +1,4 @@
-use Rattle.std.proofs.Common.{◌≡◌, ◌++◌, map, take}
-use Rattle.flood_nodes.specs.steps.Runs.{shifted}
+use Rattle.flood_nodes.proofs.Common.{◌≡◌, ◌++◌, map, take, shifted}
 use Rattle.flood_nodes.proofs.sharing.push_contacts.Given as goal
 
 abbrev pub invariant-loop-contact : goal.invariant-loop-contact

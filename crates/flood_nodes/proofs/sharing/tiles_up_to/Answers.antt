@@ -1,9 +1,8 @@
-use Rattle.std.proofs.Common.{◌≡◌, ◌+◌, ◌<◌, ◌≤◌, true, false, sym, subst, length, get_or, arith, rules}
+use Rattle.flood_nodes.proofs.Common.{◌≡◌, ◌+◌, ◌<◌, ◌≤◌, true, false, sym, subst, length, get_or, arith, nat_tests, get_or-take, get_or-drop}
+use Rattle.flood_nodes.proofs.Common.{length-take, length-drop, RegionTile}
+use Rattle.std.proofs.Common.{rules}
 use Rattle.std.specs.Prelude.{nat_le}
-use Rattle.std.proofs.lemmas.Bool.Decides.{nat_tests}
-use Rattle.std.proofs.lemmas.List.{get_or-take, get_or-drop, length-take, length-drop}
 use Rattle.std.proofs.lemmas.List.Sorted.{IsPartitionPoint-from_clause, IsPartitionedBy-leb}
-use Rattle.layout_model.specs.declared.region_tiles.RegionTile.{RegionTile}
 use Rattle.flood_nodes.proofs.RunLaws.{rising_planes}
 use Rattle.flood_nodes.proofs.sharing.tiles_up_to.Goals as goal
 

@@ -1,5 +1,4 @@
-use Rattle.std.proofs.Common.{arith}
-use Rattle.std.proofs.lemmas.Result.{err_from_is_err_and}
+use Rattle.full_names.proofs.Common.{arith, err_from_is_err_and}
 use Rattle.full_names.proofs.ByteLaws.{path_counts}
 use Rattle.full_names.proofs.byte_counts.add_local_bytes.Goals as goal
 

@@ -1,6 +1,4 @@
-use Rattle.std.proofs.Common.{◌≡◌, ◌≤◌, ◌+◌, take}
-use Rattle.circuit_model.specs.declared.limits.TheConstants.{MOST_NAME_BYTES}
-use Rattle.full_names.specs.steps.ByteCounts.{local_bytes}
+use Rattle.full_names.proofs.Common.{◌≡◌, ◌≤◌, ◌+◌, take, MOST_NAME_BYTES, local_bytes}
 use Rattle.full_names.proofs.byte_counts.add_local_bytes.Given as goal
 
 abbrev pub invariant-loop-name : goal.invariant-loop-name

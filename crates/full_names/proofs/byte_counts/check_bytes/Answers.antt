@@ -1,6 +1,4 @@
-use Rattle.std.proofs.Common.{ap, sym, ◌∙◌, arith}
-use Rattle.std.proofs.lemmas.Result.{err_from_is_err_and}
-use Rattle.full_names.specs.declared.own_names.RecordNames.{RecordNames}
+use Rattle.full_names.proofs.Common.{ap, sym, ◌∙◌, arith, err_from_is_err_and, RecordNames}
 use Rattle.full_names.proofs.ByteLaws.{element_counted, element_counts}
 use Rattle.full_names.proofs.RecordReads.{record_read}
 use Rattle.full_names.proofs.byte_counts.check_bytes.Goals as goal

@@ -1,6 +1,4 @@
-use Rattle.std.proofs.Common.{List, get_or, refl, subst}
-use Rattle.std.proofs.lemmas.List.{get_or_default, take_all}
-use Rattle.full_names.specs.declared.own_names.OwnName.{OwnName}
+use Rattle.full_names.proofs.Common.{List, get_or, refl, subst, get_or_default, take_all, OwnName}
 use Rattle.full_names.proofs.GlobalLaws.{AreGlobalsAdded, globals_none, globals_more}
 use Rattle.full_names.proofs.Lookups.{no_own}
 use Rattle.full_names.proofs.globals.add_globals.Goals as goal

@@ -1,4 +1,4 @@
-use Rattle.std.proofs.Common.{take}
+use Rattle.full_names.proofs.Common.{take}
 use Rattle.full_names.proofs.GlobalLaws.{AreGlobalsAdded}
 use Rattle.full_names.proofs.globals.add_globals.Given as goal
 

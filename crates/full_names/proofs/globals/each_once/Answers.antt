@@ -1,8 +1,4 @@
-use Rattle.std.proofs.Common.{◌+◌, List, Vec, Global, get_or, sym, subst, ap, ◌∙◌}
-use Rattle.std.proofs.lemmas.Bool.{false≢true}
-use Rattle.std.proofs.lemmas.Option.{slice_get-get_or}
-use Rattle.full_names.specs.declared.globals.GlobalName.{GlobalName}
-use Rattle.full_names.specs.Globals.{EndsWith}
+use Rattle.full_names.proofs.Common.{◌+◌, List, Vec, Global, get_or, sym, subst, ap, ◌∙◌, false≢true, slice_get-get_or, GlobalName, EndsWith}
 use Rattle.full_names.proofs.GlobalLaws.{AreOnceBelow, once_none, once_again, once_new, once_all}
 use Rattle.full_names.proofs.Lookups.{no_global}
 use Rattle.full_names.proofs.globals.each_once.Goals as goal

@@ -1,11 +1,6 @@
-use Rattle.std.proofs.Common.{◌<◌, ℕ, List, length, get_or, ap, sym, subst, ◌∙◌}
-use Rattle.std.proofs.lemmas.List.{take_all}
-use Rattle.element_tree.specs.declared.tree.TreeElement.{TreeElement}
-use Rattle.full_names.specs.declared.own_names.RecordNames.{RecordNames}
-use Rattle.full_names.specs.Globals.{AreFound}
+use Rattle.full_names.proofs.Common.{◌<◌, ℕ, List, length, get_or, ap, sym, subst, ◌∙◌, take_all, TreeElement, RecordNames, AreFound, flat_at}
 use Rattle.full_names.proofs.GlobalLaws.{found_none, found_more, found_moved}
 use Rattle.full_names.proofs.RecordReads.{record_read, globals_known}
-use Rattle.full_names.specs.Reached.{flat_at}
 use Rattle.full_names.proofs.globals.found_globals.Goals as goal
 
 pub loop-first-init : goal.loop-first-init

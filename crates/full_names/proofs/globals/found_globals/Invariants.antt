@@ -1,5 +1,4 @@
-use Rattle.std.proofs.Common.{take}
-use Rattle.full_names.specs.Globals.{AreFound}
+use Rattle.full_names.proofs.Common.{take, AreFound}
 use Rattle.full_names.proofs.globals.found_globals.Given as goal
 
 abbrev pub invariant-loop-first : goal.invariant-loop-first

@@ -1,8 +1,5 @@
-use Rattle.std.proofs.Common.{List, Vec, Global, subst}
+use Rattle.full_names.proofs.Common.{List, Vec, Global, subst, In, GlobalName, AreOnce, AreGlobalNames}
 use Rattle.std.proofs.lemmas.Result.{IfOk-weaker}
-use Rattle.ext_model.specs.FiniteSets.Lists.{In}
-use Rattle.full_names.specs.declared.globals.GlobalName.{GlobalName}
-use Rattle.full_names.specs.Globals.{AreOnce, AreGlobalNames}
 use Rattle.full_names.proofs.GlobalLaws.{found_once}
 use Rattle.full_names.proofs.globals.global_names.Goals as goal
 

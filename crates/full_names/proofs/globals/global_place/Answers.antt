@@ -1,11 +1,8 @@
-use Rattle.std.proofs.Common.{rules}
-use Rattle.ext_model.specs.NameOrder.{name_cmp}
-use Rattle.ext_model.proofs.NameOrders.{name_cmp_total, name_cmp_exact}
+use Rattle.full_names.proofs.Common.{rules, name_cmp, name_cmp_total, GlobalName, global_texts}
+use Rattle.ext_model.proofs.NameOrders.{name_cmp_exact}
 use Rattle.std.proofs.lemmas.Fn.{always_returns_same}
-use Rattle.full_names.specs.declared.globals.GlobalName.{GlobalName}
 use Rattle.full_names.proofs.SearchLaws.{text_found, text_missing}
 use Rattle.full_names.proofs.ListOrders.{sorted_names}
-use Rattle.full_names.specs.Globals.{global_texts}
 use Rattle.full_names.proofs.globals.global_place.Goals as goal
 
 pub returns-clause-some : goal.returns-clause-some

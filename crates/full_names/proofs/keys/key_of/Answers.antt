@@ -1,6 +1,4 @@
-use Rattle.std.proofs.Common.{◌<◌, List, length, get_or, sym, ◌∙◌, ap, subst}
-use Rattle.element_tree.specs.declared.tree.TreeElement.{TreeElement}
-use Rattle.full_names.specs.declared.own_names.RecordNames.{RecordNames}
+use Rattle.full_names.proofs.Common.{◌<◌, List, length, get_or, sym, ◌∙◌, ap, subst, TreeElement, RecordNames}
 use Rattle.full_names.proofs.KeyLaws.{key_read}
 use Rattle.full_names.proofs.RecordReads.{record_read, text_read}
 use Rattle.full_names.proofs.keys.key_of.Goals as goal

@@ -1,5 +1,4 @@
-use Rattle.std.proofs.Common.{◌∷◌, ◌++◌, [], ◌∙◌, ap, arith}
-use Rattle.full_names.specs.declared.keys.NameKey.{NameKey}
+use Rattle.full_names.proofs.Common.{◌∷◌, ◌++◌, [], ◌∙◌, ap, arith, NameKey}
 use Rattle.full_names.proofs.KeyLaws.{keys_none, keys_more, keys_all}
 use Rattle.full_names.proofs.keys.sorted_keys.Goals as goal
 

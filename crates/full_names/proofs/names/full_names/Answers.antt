@@ -1,18 +1,6 @@
-use Rattle.std.proofs.Common.{◌+◌, ◌<◌, ◌≤◌, Bool, List, ℕ, inr, length, map, refl, sym, ◌∙◌, ap, subst}
-use Rattle.std.specs.Prelude.{All}
-use Rattle.std.proofs.lemmas.Result.{err_from_is_err_and}
-use Rattle.circuit_model.specs.declared.limits.TheConstants.{MOST_NAME_BYTES}
-use Rattle.full_names.specs.NameLists.{IsNameFaultOf}
-use Rattle.full_names.specs.declared.own_names.RecordNames.{RecordNames}
-use Rattle.full_names.specs.declared.globals.GlobalName.{GlobalName}
-use Rattle.full_names.specs.declared.keys.NameKey.{NameKey}
-use Rattle.full_names.specs.declared.places.Place.{Place}
-use Rattle.full_names.specs.OwnNames.{AreAllNames}
-use Rattle.full_names.specs.Globals.{AreGlobalNames}
-use Rattle.full_names.specs.steps.ByteCounts.{global_bytes, element_bytes}
-use Rattle.full_names.specs.Places.{ArePlaces}
-use Rattle.full_names.specs.steps.Keys.{IsFitPlace, AreKeys}
-use Rattle.full_names.specs.Orders.{AreStandings}
+use Rattle.full_names.proofs.Common.{◌+◌, ◌<◌, ◌≤◌, Bool, List, ℕ, inr, length, map, refl, sym, ◌∙◌, ap, subst, All, err_from_is_err_and}
+use Rattle.full_names.proofs.Common.{MOST_NAME_BYTES, IsNameFaultOf, RecordNames, GlobalName, NameKey, Place, AreAllNames, AreGlobalNames}
+use Rattle.full_names.proofs.Common.{global_bytes, element_bytes, ArePlaces, IsFitPlace, AreKeys, AreStandings}
 use Rattle.full_names.proofs.NamesMade.{of_records, firsts_within, many_bytes, few_bytes, fits, slots_below, names_made}
 use Rattle.full_names.proofs.names.full_names.Goals as goal
 use Rattle.full_names.proofs.names.full_names.Goals.{After-check_bytes, After-all_places}

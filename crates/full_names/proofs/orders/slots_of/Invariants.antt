@@ -1,4 +1,4 @@
-use Rattle.std.proofs.Common.{◌≡◌, map, take}
+use Rattle.full_names.proofs.Common.{◌≡◌, map, take}
 use Rattle.full_names.proofs.orders.slots_of.Given as goal
 
 abbrev pub invariant-loop-key : goal.invariant-loop-key

@@ -1,4 +1,4 @@
-use Rattle.std.proofs.Common.{sym, ◌∙◌}
+use Rattle.full_names.proofs.Common.{sym, ◌∙◌}
 use Rattle.full_names.proofs.OrderLaws.{written_none, written_more, written_all}
 use Rattle.full_names.proofs.orders.standings.Goals as goal
 

@@ -1,5 +1,4 @@
-use Rattle.std.proofs.Common.{◌≡◌, ◌∷◌, List, ℕ, subst, take, ◌∙◌}
-use Rattle.std.proofs.lemmas.List.{take_all}
+use Rattle.full_names.proofs.Common.{◌≡◌, ◌∷◌, List, ℕ, subst, take, ◌∙◌, take_all}
 use Rattle.full_names.proofs.OwnNameLaws.{AreAdded, added_first, added_alias}
 use Rattle.full_names.proofs.own_names.add_names.Goals as goal
 

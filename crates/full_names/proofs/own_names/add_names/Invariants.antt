@@ -1,4 +1,4 @@
-use Rattle.std.proofs.Common.{◌∷◌, take}
+use Rattle.full_names.proofs.Common.{◌∷◌, take}
 use Rattle.full_names.proofs.OwnNameLaws.{AreAdded}
 use Rattle.full_names.proofs.own_names.add_names.Given as goal
 

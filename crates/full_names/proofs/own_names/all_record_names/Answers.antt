@@ -1,4 +1,4 @@
-use Rattle.std.proofs.Common.{refl, arith}
+use Rattle.full_names.proofs.Common.{refl, arith}
 use Rattle.full_names.proofs.OwnNameLaws.{known_none, known_more, known_all}
 use Rattle.full_names.proofs.own_names.all_record_names.Goals as goal
 

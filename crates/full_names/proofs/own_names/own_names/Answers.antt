@@ -1,5 +1,4 @@
-use Rattle.std.proofs.Common.{ap, subst, List, ◌<◌, ◌≤◌, length, get_or, ◌∙◌}
-use Rattle.ext_model.specs.declared.records.NodeRec.{NodeRec}
+use Rattle.full_names.proofs.Common.{ap, subst, List, ◌<◌, ◌≤◌, length, get_or, ◌∙◌, NodeRec}
 use Rattle.full_names.proofs.OwnNameLaws.{names_none, names_more, names_all}
 use Rattle.full_names.proofs.own_names.own_names.Goals as goal
 

@@ -1,10 +1,5 @@
-use Rattle.std.proofs.Common.{rules}
-use Rattle.std.specs.FinMap.{nat_cmp-IsAntisymmetric, slice_cmp-IsAntisymmetric}
-use Rattle.std.specs.Ordering.{nat_cmp}
-use Rattle.std.specs.Cmp.Lexicographic.{slice_cmp}
-use Rattle.std.proofs.lemmas.Cmp.{nat_list_cmp_total}
+use Rattle.full_names.proofs.Common.{rules, nat_cmp-IsAntisymmetric, slice_cmp-IsAntisymmetric, nat_cmp, slice_cmp, nat_list_cmp_total, OwnName}
 use Rattle.std.proofs.lemmas.Fn.{always_returns_same}
-use Rattle.full_names.specs.declared.own_names.OwnName.{OwnName}
 use Rattle.full_names.proofs.SearchLaws.{text_found, text_missing}
 use Rattle.full_names.proofs.own_names.place_of.Goals as goal
 

@@ -1,4 +1,4 @@
-use Rattle.std.proofs.Common.{arith}
+use Rattle.full_names.proofs.Common.{arith}
 use Rattle.full_names.proofs.TreeLaws.{at_root, parent_within, parent_cell_within, use_within, leads_from}
 use Rattle.full_names.proofs.paths.last_use.Goals as goal
 

@@ -1,5 +1,4 @@
-use Rattle.std.proofs.Common.{◌≡◌, ◌++◌}
-use Rattle.full_names.specs.Places.{places_of}
+use Rattle.full_names.proofs.Common.{◌≡◌, ◌++◌, places_of}
 use Rattle.full_names.proofs.places.add_places.Given as goal
 
 abbrev pub invariant-loop-own : goal.invariant-loop-own

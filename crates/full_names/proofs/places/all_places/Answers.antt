@@ -1,7 +1,4 @@
-use Rattle.std.proofs.Common.{◌≡◌, ◌∷◌, ◌++◌, [], ℕ, length, sym, ap, ◌∙◌, arith, subst}
-use Rattle.std.specs.Prelude.{vec_len}
-use Rattle.full_names.specs.declared.own_names.RecordNames.{RecordNames}
-use Rattle.full_names.specs.Places.{count_at, ArePlacesBelow}
+use Rattle.full_names.proofs.Common.{◌≡◌, ◌∷◌, ◌++◌, [], ℕ, length, sym, ap, ◌∙◌, arith, subst, vec_len, RecordNames, count_at, ArePlacesBelow}
 use Rattle.full_names.proofs.PlaceLaws.{places_none, places_more}
 use Rattle.full_names.proofs.RecordReads.{record_read, count_read}
 use Rattle.full_names.proofs.places.all_places.Goals as goal

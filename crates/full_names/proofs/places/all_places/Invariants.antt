@@ -1,4 +1,4 @@
-use Rattle.full_names.specs.Places.{count_at, ArePlacesBelow}
+use Rattle.full_names.proofs.Common.{count_at, ArePlacesBelow}
 use Rattle.full_names.proofs.places.all_places.Given as goal
 
 abbrev pub invariant-loop-number : goal.invariant-loop-number

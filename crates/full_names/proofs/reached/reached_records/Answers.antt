@@ -1,8 +1,5 @@
-use Rattle.std.proofs.Common.{◌≡◌, ◌+◌, ◌<◌, ◌++◌, ◌∷◌, [], ℕ, Bool, true, false, List, Vec, Global, length, get_or, sym, ◌∙◌, ap, subst, arith}
-use Rattle.std.proofs.Math.ListN.{set, length-set}
-use Rattle.std.proofs.lemmas.List.{get_or_default}
-use Rattle.element_tree.specs.declared.tree.TreeElement.{TreeElement}
-use Rattle.full_names.specs.Reached.{flat_at, AreReachedBelow}
+use Rattle.full_names.proofs.Common.{◌≡◌, ◌+◌, ◌<◌, ◌++◌, ◌∷◌, [], ℕ, Bool, true, false, List, Vec, Global, length, get_or, sym, ◌∙◌, ap, subst}
+use Rattle.full_names.proofs.Common.{arith, set, length-set, get_or_default, TreeElement, flat_at, AreReachedBelow}
 use Rattle.full_names.proofs.ReachedLaws.{AreSoFar, reached_none, reached_again, reached_new}
 use Rattle.full_names.proofs.RecordReads.{cell_within}
 use Rattle.full_names.proofs.reached.reached_records.Goals as goal

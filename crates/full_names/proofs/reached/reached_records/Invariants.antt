@@ -1,4 +1,4 @@
-use Rattle.std.proofs.Common.{◌≡◌, length}
+use Rattle.full_names.proofs.Common.{◌≡◌, length}
 use Rattle.full_names.proofs.ReachedLaws.{AreSoFar}
 use Rattle.full_names.proofs.reached.reached_records.Given as goal
 

@@ -1,5 +1,4 @@
-use Rattle.std.proofs.Common.{◌≡◌, ◌++◌, drop}
-use Rattle.geo_strips.specs.Bars.{joined, joined_from}
+use Rattle.geo_strips.proofs.Common.{◌≡◌, ◌++◌, drop, joined, joined_from}
 use Rattle.geo_strips.proofs.bars.join.Given as goal
 
 abbrev pub invariant-loop-next : goal.invariant-loop-next

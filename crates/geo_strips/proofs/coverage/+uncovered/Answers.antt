@@ -1,9 +1,7 @@
-use Rattle.std.proofs.Common.{◌≡◌, ℤ, ◌/◌, ◌<◌, length, get_or, ◌∙◌, sym, ap, subst, arith, rules, pos, to_z, of_z}
-use Rattle.std.specs.Int.{w64}
-use Rattle.std.specs.Int.RustNames.{FitsSigned}
-use Rattle.std.proofs.lemmas.Int.{to_z-of_z}
+use Rattle.geo_strips.proofs.Common.{◌≡◌, ℤ, ◌<◌, length, get_or, ◌∙◌, sym, ap, subst, arith, rules, pos, to_z, of_z, w64, FitsSigned, to_z-of_z}
+use Rattle.geo_strips.proofs.Common.{IsCut}
+use Rattle.std.proofs.Common.{◌/◌}
 use Rattle.std.proofs.lemmas.List.{get_or_default}
-use Rattle.geo_strips.specs.Coverage.{IsCut}
 use Rattle.geo_strips.proofs.CoverageLaws.{cuts_from_sides}
 use Rattle.geo_strips.proofs.coverage.+uncovered.Goals as goal
 

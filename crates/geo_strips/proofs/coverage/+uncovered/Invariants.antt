@@ -1,4 +1,4 @@
-use Rattle.std.proofs.Common.{length}
+use Rattle.geo_strips.proofs.Common.{length}
 use Rattle.geo_strips.proofs.coverage.+uncovered.Given as goal
 
 abbrev pub decreases-uncovered : goal.decreases-uncovered

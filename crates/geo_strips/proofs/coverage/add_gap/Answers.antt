@@ -1,6 +1,5 @@
-use Rattle.std.proofs.Common.{◌≡◌, [], ◌∷◌, ◌++◌, append-nil, sym, ap, ◌∙◌, to_z, of_z, rules}
-use Rattle.std.specs.Int.{w64}
-use Rattle.std.proofs.lemmas.Int.{to_z-of_z}
+use Rattle.geo_strips.proofs.Common.{◌≡◌, [], ◌∷◌, ◌++◌, sym, ap, ◌∙◌, to_z, of_z, rules, w64, to_z-of_z}
+use Rattle.std.proofs.Common.{append-nil}
 use Rattle.geo_strips.proofs.CoverageLaws.{adds_pushed, adds_joined, stored_min}
 use Rattle.geo_strips.proofs.coverage.add_gap.Goals as goal
 

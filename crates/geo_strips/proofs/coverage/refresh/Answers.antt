@@ -1,7 +1,4 @@
-use Rattle.std.proofs.Common.{refl, sym, ap, ◌∙◌, rules}
-use Rattle.std.specs.Int.{int_max, int_min, w64}
-use Rattle.std.proofs.lemmas.Int.{to_z-of_z}
-use Rattle.geo_strips.specs.Coverage.{least_of, most_of}
+use Rattle.geo_strips.proofs.Common.{refl, sym, ap, ◌∙◌, rules, int_max, int_min, w64, to_z-of_z, least_of, most_of}
 use Rattle.geo_strips.proofs.CoverageLaws.{stored_max, stored_min}
 use Rattle.geo_strips.proofs.coverage.refresh.Goals as goal
 

@@ -1,5 +1,4 @@
-use Rattle.std.proofs.Common.{◌≡◌, ◌++◌, drop, map}
-use Rattle.geo_strips.specs.steps.RowEvents.{end_of}
+use Rattle.geo_strips.proofs.Common.{◌≡◌, ◌++◌, drop, map, end_of}
 use Rattle.geo_strips.proofs.row_events.add_ends.Given as goal
 
 abbrev pub invariant-loop-bar : goal.invariant-loop-bar

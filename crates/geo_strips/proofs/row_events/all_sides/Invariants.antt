@@ -1,5 +1,4 @@
-use Rattle.std.proofs.Common.{◌≡◌, ◌++◌, drop}
-use Rattle.geo_strips.specs.steps.RowEvents.{sides_of}
+use Rattle.geo_strips.proofs.Common.{◌≡◌, ◌++◌, drop, sides_of}
 use Rattle.geo_strips.proofs.row_events.all_sides.Given as goal
 
 abbrev pub invariant-loop-event : goal.invariant-loop-event

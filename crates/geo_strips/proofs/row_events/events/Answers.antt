@@ -1,7 +1,5 @@
 -- Each step made the list that its contract names.
-use Rattle.std.proofs.Common.{◌++◌, map, ap, ◌∙◌}
-use Rattle.geo_strips.specs.Bars.{joined}
-use Rattle.geo_strips.specs.steps.RowEvents.{end_of}
+use Rattle.geo_strips.proofs.Common.{◌++◌, map, ap, ◌∙◌, joined, end_of}
 use Rattle.geo_strips.proofs.RowEventLaws.{events_are}
 use Rattle.geo_strips.proofs.row_events.events.Goals as goal
 

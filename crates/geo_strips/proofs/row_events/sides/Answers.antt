@@ -1,7 +1,6 @@
 -- The sides were sorted, and what stands twice taken out.
-use Rattle.std.proofs.Common.{sym, subst}
+use Rattle.geo_strips.proofs.Common.{sym, subst, In}
 use Rattle.std.proofs.lemmas.List.Filters.{dedup_is}
-use Rattle.geo_core.specs.FiniteSets.Lists.{In}
 use Rattle.geo_strips.proofs.RowEventLaws.{sides_in_order, sides_kept}
 use Rattle.geo_strips.proofs.row_events.sides.Goals as goal
 

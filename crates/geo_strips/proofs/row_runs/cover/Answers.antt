@@ -1,8 +1,4 @@
-use Rattle.std.proofs.Common.{◌≡◌, arith, rules, to_z, of_z}
-use Rattle.std.specs.Int.{w64}
-use Rattle.std.specs.Ordering.{int_cmp}
-use Rattle.std.specs.BTreeMap.{get}
-use Rattle.std.proofs.lemmas.Int.{ints, to_z-of_z}
+use Rattle.geo_strips.proofs.Common.{◌≡◌, arith, rules, to_z, of_z, w64, int_cmp, get, ints, to_z-of_z}
 use Rattle.std.proofs.lemmas.Result.{on_ok_weaker}
 use Rattle.geo_strips.proofs.RowLaws.{taken_clear, covered, covered_from}
 use Rattle.geo_strips.proofs.row_runs.cover.Goals as goal

@@ -1,7 +1,5 @@
-use Rattle.std.proofs.Common.{rules, ◌≡◌, ◌≤ℤ◌, to_z, of_z, refl, sym, subst}
-use Rattle.std.specs.Int.{w64}
+use Rattle.geo_strips.proofs.Common.{rules, ◌≡◌, ◌≤ℤ◌, to_z, of_z, refl, sym, subst, w64, to_z-of_z}
 use Rattle.std.specs.Option.{IsSome}
-use Rattle.std.proofs.lemmas.Int.{to_z-of_z}
 use Rattle.geo_strips.proofs.RowLaws.{from_not_gt, not_gt, from_not_lt}
 use Rattle.geo_strips.proofs.row_runs.last_run.Goals as goal
 

@@ -1,10 +1,5 @@
 -- The runs that begin after the run are taken out, and then the run itself, which has no rows, is put in as it is now.
-use Rattle.std.proofs.Common.{◌≡◌, ◌+ℤ◌, pos, arith, rules, to_z, of_z}
-use Rattle.std.specs.Int.{w64}
-use Rattle.std.specs.Ordering.{int_cmp}
-use Rattle.std.specs.BTreeMap.{get}
-use Rattle.std.proofs.lemmas.Int.{ints, to_z-of_z}
-use Rattle.geo_strips.specs.RowRuns.{without}
+use Rattle.geo_strips.proofs.Common.{◌≡◌, ◌+ℤ◌, pos, arith, rules, to_z, of_z, w64, int_cmp, get, ints, to_z-of_z, without}
 use Rattle.geo_strips.proofs.RowLaws.{taken_clear, taken_longer, longer}
 use Rattle.geo_strips.proofs.row_runs.lengthen.Goals as goal
 

@@ -1,9 +1,4 @@
-use Rattle.std.proofs.Common.{◌≡◌, arith, to_z, of_z, refl}
-use Rattle.std.specs.Int.{w64}
-use Rattle.std.specs.Ordering.{int_cmp}
-use Rattle.std.specs.BTreeMap.{get}
-use Rattle.std.proofs.lemmas.Int.{ints, to_z-of_z}
-use Rattle.geo_strips.specs.declared.row_runs.Run.{Run}
+use Rattle.geo_strips.proofs.Common.{◌≡◌, arith, to_z, of_z, refl, w64, int_cmp, get, ints, to_z-of_z, Run}
 use Rattle.geo_strips.proofs.RowLaws.{not_eq, placed}
 use Rattle.geo_strips.proofs.row_runs.place.Goals as goal
 

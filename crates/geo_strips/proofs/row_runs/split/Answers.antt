@@ -1,10 +1,5 @@
 -- The run is taken out alone, and what is left of it on each side is put in.
-use Rattle.std.proofs.Common.{◌≡◌, arith, rules, to_z, of_z}
-use Rattle.std.specs.Int.{w64}
-use Rattle.std.specs.Ordering.{int_cmp}
-use Rattle.std.specs.BTreeMap.{get}
-use Rattle.std.proofs.lemmas.Int.{ints, to_z-of_z}
-use Rattle.geo_strips.specs.RowRuns.{without}
+use Rattle.geo_strips.proofs.Common.{◌≡◌, arith, rules, to_z, of_z, w64, int_cmp, get, ints, to_z-of_z, without}
 use Rattle.geo_strips.proofs.RowLaws.{is_without, taken_alone, changes_taken, first_clear, second_clear, uncovered}
 use Rattle.geo_strips.proofs.row_runs.split.Goals as goal
 

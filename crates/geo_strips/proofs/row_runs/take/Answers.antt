@@ -1,9 +1,6 @@
 -- One run more is taken out, and at the end none is left that touches the columns.
-use Rattle.std.proofs.Common.{◌≡◌, ap, ◌∙◌, rules, w64, to_z, of_z}
-use Rattle.std.specs.Int.{int_max, int_min}
-use Rattle.std.specs.Ordering.{int_cmp}
-use Rattle.std.specs.BTreeMap.{get}
-use Rattle.std.proofs.lemmas.Int.{to_z-of_z}
+use Rattle.geo_strips.proofs.Common.{◌≡◌, ap, ◌∙◌, rules, to_z, of_z, int_max, int_min, int_cmp, get, to_z-of_z}
+use Rattle.std.proofs.Common.{w64}
 use Rattle.geo_strips.proofs.RowLaws.{IsWithout, not_eq, fewer_runs, taking_more, taking_ends, changes_both, changes_taken, without_fewer}
 use Rattle.geo_strips.proofs.row_runs.take.Goals as goal
 

@@ -1,6 +1,5 @@
-use Rattle.std.specs.Ordering.{int_cmp}
-use Rattle.std.specs.BTreeMap.{get, btree_map_len}
-use Rattle.geo_strips.specs.RowRuns.{AreRuns, Changes}
+use Rattle.geo_strips.proofs.Common.{int_cmp, get, AreRuns, Changes}
+use Rattle.std.specs.BTreeMap.{btree_map_len}
 use Rattle.geo_strips.proofs.RowLaws.{IsTaking}
 use Rattle.geo_strips.proofs.row_runs.take.Given as goal
 

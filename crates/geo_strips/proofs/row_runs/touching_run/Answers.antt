@@ -1,9 +1,4 @@
-use Rattle.std.proofs.Common.{arith, subst}
-use Rattle.std.specs.Int.{w64}
-use Rattle.std.specs.Ordering.{int_cmp}
-use Rattle.std.specs.BTreeMap.{get}
-use Rattle.std.proofs.lemmas.Int.{ints, to_z-of_z}
-use Rattle.geo_strips.specs.RowRuns.{IsLastRun}
+use Rattle.geo_strips.proofs.Common.{arith, subst, w64, int_cmp, get, ints, to_z-of_z, IsLastRun}
 use Rattle.geo_strips.proofs.RowLaws.{none_touches}
 use Rattle.geo_strips.proofs.row_runs.touching_run.Goals as goal
 

@@ -1,9 +1,4 @@
-use Rattle.std.proofs.Common.{sym, subst, inl, inr, arith, rules}
-use Rattle.std.specs.Int.{w64}
-use Rattle.std.proofs.lemmas.Int.{ints, to_z-of_z}
-use Rattle.geo_core.specs.FiniteSets.Lists.{In}
-use Rattle.geo_core.proofs.FiniteSets.Members.{In-append_left, In-push, In-push_cases}
-use Rattle.geo_strips.specs.RowRuns.{bar_of}
+use Rattle.geo_strips.proofs.Common.{sym, subst, inl, inr, arith, rules, w64, ints, to_z-of_z, In, In-append_left, In-push, In-push_cases, bar_of}
 use Rattle.geo_strips.proofs.row_runs.write.Goals as goal
 
 pub returns-in_ok-push-clause-kept : goal.returns-in_ok-push-clause-kept

@@ -1,7 +1,6 @@
 -- The runs of what the rectangles cover make its strips.
 use Rattle.std.proofs.lemmas.Result.{IfOk-weaker}
-use Rattle.geo_strips.specs.Bars.{AreStripsOf}
-use Rattle.geo_core.specs.Strips.{IsInUnion, IsStrips}
+use Rattle.geo_strips.proofs.Common.{AreStripsOf, IsInUnion, IsStrips}
 use Rattle.geo_strips.proofs.StripListLaws.{strips_of_bars}
 use Rattle.geo_strips.proofs.strip_lists.strips.Goals as goal
 

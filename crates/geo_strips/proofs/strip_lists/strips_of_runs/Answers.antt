@@ -1,7 +1,5 @@
 -- Each step made the list that its contract names.
-use Rattle.std.proofs.Common.{map, ap, subst, ◌∙◌}
-use Rattle.std.specs.Prelude.{IsPermutation}
-use Rattle.geo_strips.specs.Bars.{joined, strip_of, rect_of}
+use Rattle.geo_strips.proofs.Common.{map, ap, subst, ◌∙◌, IsPermutation, joined, strip_of, rect_of}
 use Rattle.geo_strips.proofs.strip_lists.strips_of_runs.Goals as goal
 
 pub returns : goal.returns

@@ -1,7 +1,5 @@
 -- What the two calls changed.
-use Rattle.std.proofs.Common.{◌≡◌, rules, to_z, of_z}
-use Rattle.std.specs.Int.{w64}
-use Rattle.std.proofs.lemmas.Int.{to_z-of_z}
+use Rattle.geo_strips.proofs.Common.{◌≡◌, rules, to_z, of_z, w64, to_z-of_z}
 use Rattle.geo_strips.proofs.sweeping.begin.Goals as goal
 
 pub returns : goal.returns

@@ -1,13 +1,7 @@
 -- Each gap goes out of the runs in turn.
-use Rattle.std.proofs.Common.{◌≡◌, pos, take, get_or, take_all, sym, ◌∙◌, subst, rules, to_z, of_z}
-use Rattle.std.specs.Int.{w64}
-use Rattle.std.specs.Ordering.{int_cmp}
-use Rattle.std.specs.BTreeMap.{get}
-use Rattle.std.proofs.lemmas.Int.{to_z-of_z}
-use Rattle.std.proofs.lemmas.List.{take_more}
-use Rattle.geo_strips.specs.declared.coverage.Gap.{Gap}
-use Rattle.geo_strips.specs.RowRuns.{IsUncovered}
-use Rattle.geo_strips.specs.steps.Sweeping.{row_of}
+use Rattle.geo_strips.proofs.Common.{◌≡◌, pos, take, get_or, sym, ◌∙◌, subst, rules, to_z, of_z, w64, int_cmp, get, to_z-of_z, take_more, Gap}
+use Rattle.geo_strips.proofs.Common.{IsUncovered, row_of}
+use Rattle.std.proofs.Common.{take_all}
 use Rattle.geo_strips.proofs.SweepLaws.{IsEnding, ending_more, sweep_ended}
 use Rattle.geo_strips.proofs.sweeping.end.Goals as goal
 

@@ -1,5 +1,4 @@
-use Rattle.std.proofs.Common.{◌≡◌, take}
-use Rattle.geo_strips.specs.steps.Sweeping.{row_of}
+use Rattle.geo_strips.proofs.Common.{◌≡◌, take, row_of}
 use Rattle.geo_strips.proofs.SweepLaws.{IsEnding}
 use Rattle.geo_strips.proofs.sweeping.end.Given as goal
 

@@ -1,17 +1,10 @@
 -- The sweep before the first event, one event more, and after the last.
-use Rattle.std.proofs.Common.{◌+◌, ℤ, pos, false, get_or, take_all, sym, ap, ◌∙◌, subst, arith, rules, w64}
-use Rattle.std.specs.Int.RustNames.{FitsSigned}
-use Rattle.std.specs.Ordering.{int_cmp}
-use Rattle.std.specs.BTreeMap.{get, is_at}
+use Rattle.geo_strips.proofs.Common.{ℤ, pos, false, get_or, sym, ap, ◌∙◌, subst, arith, rules, FitsSigned, int_cmp, get, ints, In, In-get_or, Event}
+use Rattle.geo_strips.proofs.Common.{until, IsCut, AreEvents, sides_of, row_of}
+use Rattle.std.proofs.Common.{◌+◌, take_all, w64}
+use Rattle.std.specs.BTreeMap.{is_at}
 use Rattle.std.specs.Map.{lookup}
-use Rattle.std.proofs.lemmas.Int.{ints}
 use Rattle.std.proofs.lemmas.List.{drop_all}
-use Rattle.geo_core.specs.FiniteSets.Lists.{In}
-use Rattle.geo_core.proofs.FiniteSets.Members.{In-get_or}
-use Rattle.geo_strips.specs.declared.row_events.Event.{Event}
-use Rattle.geo_strips.specs.Coverage.{until, IsCut}
-use Rattle.geo_strips.specs.steps.RowEvents.{AreEvents, sides_of}
-use Rattle.geo_strips.specs.steps.Sweeping.{row_of}
 use Rattle.geo_strips.proofs.SweepLaws.{IsUnderWay, lowest, begun_under_way, ended_under_way, swept_begins, swept_all, from_in_sides, to_in_sides, begin_long}
 use Rattle.geo_strips.proofs.sweeping.runs.Goals as goal
 use Rattle.geo_strips.proofs.sweeping.runs.Goals.{then-event+in_ok-end, else-event+in_ok-begin}

@@ -1,14 +1,6 @@
-use Rattle.std.proofs.Common.{List, sym, subst, arith}
-use Rattle.std.specs.Prelude.{All, AllPairs}
-use Rattle.geo_core.specs.declared.squares.Rect.{Rect}
-use Rattle.geo_core.specs.Areas.{AreDisjoint, IsNear}
-use Rattle.geo_core.specs.Strips.{IsStrips}
+use Rattle.hier_merge.proofs.Common.{List, sym, subst, arith, All, AllPairs, Rect, AreDisjoint, IsNear, IsStrips, IsShared, IsLawfulBox, tree_at}
+use Rattle.hier_merge.proofs.Common.{seen, AreVisits}
 use Rattle.geo_core.proofs.StripSets.{strips_apart}
-use Rattle.interact.specs.NearBoxes.{IsShared}
-use Rattle.cell_library.specs.CellTree.Hulls.{IsLawfulBox}
-use Rattle.cell_library.specs.LayoutTrees.{tree_at}
-use Rattle.cell_library.specs.Libraries.{seen}
-use Rattle.hier_merge.specs.steps.Visits.{AreVisits}
 use Rattle.hier_merge.proofs.NearAreas.{areas_are_near, strips_are_proper}
 use Rattle.hier_merge.proofs.WorkLaws.{visited_work, within_work}
 use Rattle.hier_merge.proofs.interactions.meeting_tiles.Goals as goal

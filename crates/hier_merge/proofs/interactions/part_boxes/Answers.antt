@@ -1,15 +1,6 @@
-use Rattle.std.proofs.Common.{List, ◌++◌, ap, subst, sym, ◌∙◌}
-use Rattle.std.specs.Option.{option_to_list}
-use Rattle.std.specs.Prelude.{All}
-use Rattle.geo_core.specs.declared.squares.Rect.{Rect}
-use Rattle.cell_library.specs.LayoutModel.Layouts.{Layout}
-use Rattle.cell_library.specs.LayoutModel.FlatSets.{parts_in}
+use Rattle.hier_merge.proofs.Common.{List, ◌++◌, ap, subst, sym, ◌∙◌, option_to_list, All, Rect, Layout, parts_in, IsLawfulBox, seen, tree_at}
+use Rattle.hier_merge.proofs.Common.{HoldParts, PaintBoxIs}
 use Rattle.cell_library.specs.CellPaint.Paints.{layout_of}
-use Rattle.cell_library.specs.CellTree.Hulls.{IsLawfulBox}
-use Rattle.cell_library.specs.Libraries.{seen}
-use Rattle.cell_library.specs.LayoutTrees.{tree_at}
-use Rattle.cell_library.specs.ElementBoxes.{HoldParts}
-use Rattle.hier_merge.specs.Interactions.{PaintBoxIs}
 use Rattle.hier_merge.proofs.PartBoxLaws.{boxes_hold_parts, boxes_lawful, paint_box}
 use Rattle.hier_merge.proofs.interactions.part_boxes.Goals as goal
 

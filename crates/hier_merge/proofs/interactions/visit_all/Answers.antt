@@ -1,11 +1,5 @@
-use Rattle.std.proofs.Common.{◌≡◌, ◌+◌, ◌++◌, List, length, pos, ap, subst, ◌∙◌, arith}
-use Rattle.std.specs.Prelude.{slice_index_or}
-use Rattle.geo_core.specs.declared.squares.Rect.{Rect}
-use Rattle.cell_library.specs.LayoutModel.CellTrees.{CellTree}
-use Rattle.cell_library.specs.declared.part_tiles.PartTile.{PartTile}
-use Rattle.cell_library.specs.Libraries.{LibraryParts, seen}
-use Rattle.cell_library.specs.LayoutTrees.{tree_at}
-use Rattle.hier_merge.specs.steps.Visits.{IsVisit}
+use Rattle.hier_merge.proofs.Common.{◌≡◌, ◌+◌, ◌++◌, List, length, pos, ap, subst, ◌∙◌, arith, slice_index_or, Rect, CellTree, PartTile}
+use Rattle.hier_merge.proofs.Common.{LibraryParts, seen, tree_at, IsVisit}
 use Rattle.hier_merge.proofs.SeamLaws.{next_seams}
 use Rattle.hier_merge.proofs.VisitLaws.{before_counted, next_added, next_counted, work_taken}
 use Rattle.hier_merge.proofs.interactions.visit_all.Goals as goal

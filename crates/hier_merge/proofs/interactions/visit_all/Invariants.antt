@@ -1,10 +1,4 @@
-use Rattle.std.proofs.Common.{◌≡◌, ◌+◌, length, take}
-use Rattle.std.specs.Prelude.{AllPairs}
-use Rattle.geo_core.specs.Areas.{AreDisjoint}
-use Rattle.cell_library.specs.Libraries.{seen}
-use Rattle.cell_library.specs.LayoutTrees.{tree_at}
-use Rattle.hier_merge.specs.steps.Seams.{AreSeams}
-use Rattle.hier_merge.specs.steps.Visits.{AreVisits}
+use Rattle.hier_merge.proofs.Common.{◌≡◌, ◌+◌, length, take, AllPairs, AreDisjoint, seen, tree_at, AreSeams, AreVisits}
 use Rattle.hier_merge.proofs.interactions.visit_all.Given as goal
 
 -- the visitor stays with the library, the tiles are those of visits of the areas so far, with a step for each, and have seams if these lie apart

@@ -1,5 +1,4 @@
-use Rattle.std.proofs.Common.{◌++◌, ℕ, List, map, ap, ◌∙◌}
-use Rattle.geo_core.specs.declared.squares.Rect.{Rect}
+use Rattle.hier_merge.proofs.Common.{◌++◌, ℕ, List, map, ap, ◌∙◌, Rect}
 use Rattle.hier_merge.proofs.meetings.add_plane.Goals as goal
 
 pub returns : goal.returns

@@ -1,9 +1,5 @@
-use Rattle.std.proofs.Common.{◌≡◌, List, [], ◌∷◌, ◌++◌, length, map, sym, ap, ◌∙◌, arith}
-use Rattle.std.proofs.lemmas.List.{append-nil, append_assoc, map-append, nil_from_length}
-use Rattle.std.specs.Vec.Iter.{into_iter_items}
-use Rattle.meeting_laws.specs.Offences.declared.plane_stacks.PlaneStack.{PlaneStack}
-use Rattle.meeting_laws.specs.Offences.declared.stacks.TypedStack.{TypedStack}
-use Rattle.hier_merge.specs.steps.PlanePieces.{plane_stack}
+use Rattle.hier_merge.proofs.Common.{◌≡◌, List, [], ◌∷◌, ◌++◌, length, map, sym, ap, ◌∙◌, arith, append-nil, append_assoc, map-append}
+use Rattle.hier_merge.proofs.Common.{nil_from_length, into_iter_items, PlaneStack, TypedStack, plane_stack}
 use Rattle.hier_merge.proofs.meetings.add_stacks.Goals as goal
 
 pub loop-stack-init : goal.loop-stack-init

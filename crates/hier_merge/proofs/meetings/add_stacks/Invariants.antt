@@ -1,6 +1,4 @@
-use Rattle.std.proofs.Common.{◌≡◌, ◌++◌, length, map}
-use Rattle.std.specs.Vec.Iter.{into_iter_items, into_iter_len}
-use Rattle.hier_merge.specs.steps.PlanePieces.{plane_stack}
+use Rattle.hier_merge.proofs.Common.{◌≡◌, ◌++◌, length, map, into_iter_items, into_iter_len, plane_stack}
 use Rattle.hier_merge.proofs.meetings.add_stacks.Given as goal
 
 -- the pieces so far are added, and the others are still to come

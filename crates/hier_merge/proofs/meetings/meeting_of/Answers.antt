@@ -1,10 +1,4 @@
-use Rattle.std.proofs.Common.{List, length, sym, subst}
-use Rattle.tech_model.specs.declared.raw.RawTech.{RawTech}
-use Rattle.cell_library.specs.declared.part_tiles.PartTile.{PartTile}
-use Rattle.cell_library.specs.LayoutTrees.{tree_at}
-use Rattle.cell_library.specs.Libraries.{seen}
-use Rattle.hier_merge.specs.steps.PlanePieces.{ArePlanePieces, HaveTypedParts}
-use Rattle.hier_merge.specs.steps.Seams.{AreSeams}
+use Rattle.hier_merge.proofs.Common.{List, length, sym, subst, RawTech, PartTile, tree_at, seen, ArePlanePieces, HaveTypedParts, AreSeams}
 use Rattle.hier_merge.proofs.MeetingOffences.{clean_without_strips}
 use Rattle.hier_merge.proofs.FoundPieces.{are_meeting_pieces, offending_strips, typed_parts}
 use Rattle.hier_merge.proofs.meetings.meeting_of.Goals as goal

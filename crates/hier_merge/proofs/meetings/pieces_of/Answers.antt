@@ -1,5 +1,4 @@
-use Rattle.std.proofs.Common.{◌≡◌, ◌+◌, ℕ, suc, subst, arith}
-use Rattle.hier_merge.specs.steps.PlanePieces.{ArePiecesFrom}
+use Rattle.hier_merge.proofs.Common.{◌≡◌, ◌+◌, ℕ, suc, subst, arith, ArePiecesFrom}
 use Rattle.hier_merge.proofs.PlanePieceLaws.{pieces_more}
 use Rattle.hier_merge.proofs.meetings.pieces_of.Goals as goal
 

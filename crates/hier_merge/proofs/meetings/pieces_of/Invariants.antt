@@ -1,4 +1,4 @@
-use Rattle.hier_merge.specs.steps.PlanePieces.{ArePlanePieces}
+use Rattle.hier_merge.proofs.Common.{ArePlanePieces}
 use Rattle.hier_merge.proofs.meetings.pieces_of.Given as goal
 
 -- the pieces so far are those of the planes so far

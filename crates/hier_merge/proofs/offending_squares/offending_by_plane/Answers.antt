@@ -1,10 +1,5 @@
-use Rattle.std.proofs.Common.{◌≡◌, ◌+◌, ◌++◌, ℕ, suc, List, length, map, ap, sym, subst, ◌∙◌, arith}
-use Rattle.geo_core.specs.declared.squares.Rect.{Rect}
-use Rattle.geo_core.specs.declared.squares.Square.{Square}
-use Rattle.tech_model.specs.declared.raw.RawTech.{RawTech}
-use Rattle.meeting_laws.specs.Offences.Offences.{OffendsOn}
-use Rattle.hier_merge.specs.steps.PlanePieces.{parts_of_plane}
-use Rattle.hier_merge.specs.StripLists.{AreStripsByPlane}
+use Rattle.hier_merge.proofs.Common.{◌≡◌, ◌+◌, ◌++◌, ℕ, suc, List, length, map, ap, sym, subst, ◌∙◌, arith, Rect, Square, RawTech, OffendsOn}
+use Rattle.hier_merge.proofs.Common.{parts_of_plane, AreStripsByPlane}
 use Rattle.hier_merge.proofs.PlaneStrips.{plane_more}
 use Rattle.hier_merge.proofs.SeamLaws.{typed_pieces}
 use Rattle.hier_merge.proofs.offending_squares.offending_by_plane.Goals as goal

@@ -1,6 +1,4 @@
-use Rattle.meeting_laws.specs.Offences.Offences.{OffendsOn}
-use Rattle.hier_merge.specs.steps.PlanePieces.{HaveTypedParts, parts_of_plane}
-use Rattle.hier_merge.specs.StripLists.{AreStripsByPlane}
+use Rattle.hier_merge.proofs.Common.{OffendsOn, HaveTypedParts, parts_of_plane, AreStripsByPlane}
 use Rattle.hier_merge.proofs.offending_squares.offending_by_plane.Given as goal
 
 -- the strips so far are those of the planes so far

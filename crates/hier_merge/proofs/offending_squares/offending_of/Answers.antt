@@ -1,14 +1,6 @@
-use Rattle.std.proofs.Common.{List, length, sym, subst, arith}
-use Rattle.tech_model.specs.declared.raw.RawTech.{RawTech}
-use Rattle.cell_library.specs.LayoutModel.FlatSets.{parts_in}
-use Rattle.meeting_laws.specs.Offences.Offences.{OffendsOn}
+use Rattle.hier_merge.proofs.Common.{List, length, sym, subst, arith, RawTech, parts_in, OffendsOn, PartTile, tree_at, seen, HaveTypedParts}
+use Rattle.hier_merge.proofs.Common.{parts_of_plane, AreSeams, AreStripsByPlane}
 use Rattle.meeting_laws.specs.HierarchyModel.Laws.{CleanCellsKeepWhatTheyHave}
-use Rattle.cell_library.specs.declared.part_tiles.PartTile.{PartTile}
-use Rattle.cell_library.specs.LayoutTrees.{tree_at}
-use Rattle.cell_library.specs.Libraries.{seen}
-use Rattle.hier_merge.specs.steps.PlanePieces.{HaveTypedParts, parts_of_plane}
-use Rattle.hier_merge.specs.steps.Seams.{AreSeams}
-use Rattle.hier_merge.specs.StripLists.{AreStripsByPlane}
 use Rattle.hier_merge.proofs.FoundPieces.{typed_parts}
 use Rattle.hier_merge.proofs.MeetingOffences.{clean_without_strips, meeting_tiles_are_of_parts, meeting_tiles_have_types, offences_of_tiles}
 use Rattle.hier_merge.proofs.offending_squares.offending_of.Goals as goal

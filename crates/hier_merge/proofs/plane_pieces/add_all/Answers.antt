@@ -1,12 +1,5 @@
-use Rattle.std.proofs.Common.{◌≡◌, ◌<◌, ℕ, List, [], ◌∷◌, ◌++◌, length, map, inl, refl, sym, ap, subst, ◌∙◌, arith}
-use Rattle.std.specs.Prelude.{All}
-use Rattle.std.proofs.lemmas.List.{append-nil, append_assoc, map-append, nil_from_length}
-use Rattle.std.specs.Vec.Iter.{into_iter_items}
-use Rattle.finite_sets.specs.Lists.{In}
-use Rattle.finite_sets.proofs.Members.{In-append_right}
-use Rattle.finite_sets.proofs.Searches.{All-In}
-use Rattle.meeting_laws.specs.Offences.declared.stacks.TypedStack.{TypedStack}
-use Rattle.hier_merge.specs.steps.Seams.{renumbered}
+use Rattle.hier_merge.proofs.Common.{◌≡◌, ◌<◌, ℕ, List, [], ◌∷◌, ◌++◌, length, map, inl, refl, sym, ap, subst, ◌∙◌, arith, All, append-nil}
+use Rattle.hier_merge.proofs.Common.{append_assoc, map-append, nil_from_length, into_iter_items, In, In-append_right, All-In, TypedStack, renumbered}
 use Rattle.hier_merge.proofs.plane_pieces.add_all.Goals as goal
 
 pub loop-stack-init : goal.loop-stack-init

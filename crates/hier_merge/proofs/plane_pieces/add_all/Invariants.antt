@@ -1,6 +1,4 @@
-use Rattle.std.proofs.Common.{◌≡◌, ◌++◌, length, map}
-use Rattle.std.specs.Vec.Iter.{into_iter_items, into_iter_len}
-use Rattle.hier_merge.specs.steps.Seams.{renumbered}
+use Rattle.hier_merge.proofs.Common.{◌≡◌, ◌++◌, length, map, into_iter_items, into_iter_len, renumbered}
 use Rattle.hier_merge.proofs.plane_pieces.add_all.Given as goal
 
 -- the pieces so far are added with numbers, and the others are still to come

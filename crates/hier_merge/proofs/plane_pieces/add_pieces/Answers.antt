@@ -1,21 +1,10 @@
-use Rattle.std.proofs.Common.{◌≡◌, ◌<◌, ◌-◌, ℕ, List, length, map, take, drop, sym, ap, subst, ◌∙◌, arith, rules}
-use Rattle.std.specs.Prelude.{All, IsPermutation}
-use Rattle.std.proofs.lemmas.List.{length-map}
+use Rattle.hier_merge.proofs.Common.{◌≡◌, ◌<◌, ◌-◌, ℕ, List, length, map, take, drop, sym, ap, subst, ◌∙◌, arith, All, IsPermutation, length-map, In}
+use Rattle.hier_merge.proofs.Common.{In-map_source, All-from_In, All-In, IsNear, PartTile, SetTile, TypedStack, HasMembers, StandForTiles}
+use Rattle.hier_merge.proofs.Common.{NumberedTile, HasTiles, numbered_on, renumbered, tiles_on}
+use Rattle.std.proofs.Common.{rules}
 use Rattle.std.proofs.lemmas.List.Sorted.{IsPermutation-map, answers_always}
-use Rattle.finite_sets.specs.Lists.{In}
-use Rattle.finite_sets.proofs.Members.{In-map_source}
 use Rattle.finite_sets.proofs.Places.{In-drop, In-take}
-use Rattle.finite_sets.proofs.Searches.{All-from_In, All-In}
-use Rattle.geo_core.specs.Areas.{IsNear}
-use Rattle.cell_library.specs.declared.part_tiles.PartTile.{PartTile}
-use Rattle.meeting_laws.specs.Offences.declared.set_tiles.SetTile.{SetTile}
-use Rattle.meeting_laws.specs.Offences.declared.stacks.TypedStack.{TypedStack}
 use Rattle.meeting_laws.specs.Offences.PartSets.{AreInPartOrder}
-use Rattle.meeting_laws.specs.Offences.TypedStacks.{HasMembers, StandForTiles}
-use Rattle.hier_merge.specs.declared.plane_tiles.NumberedTile.{NumberedTile}
-use Rattle.hier_merge.specs.steps.PlanePieces.{HasTiles}
-use Rattle.hier_merge.specs.steps.Seams.{numbered_on, renumbered}
-use Rattle.hier_merge.specs.steps.Visits.{tiles_on}
 use Rattle.hier_merge.proofs.JoinedPieces.{pieces_moved, pieces_renumbered}
 use Rattle.hier_merge.proofs.NumberedTiles.{has_tiles, near_numbered, sorted_numbered, without_numbers}
 use Rattle.hier_merge.proofs.plane_pieces.add_pieces.Goals as goal

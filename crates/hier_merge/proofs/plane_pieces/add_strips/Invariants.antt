@@ -1,4 +1,4 @@
-use Rattle.std.proofs.Common.{◌≡◌, ◌++◌, map, drop}
+use Rattle.hier_merge.proofs.Common.{◌≡◌, ◌++◌, map, drop}
 use Rattle.hier_merge.proofs.plane_pieces.add_strips.Given as goal
 
 abbrev pub invariant-loop-area : goal.invariant-loop-area

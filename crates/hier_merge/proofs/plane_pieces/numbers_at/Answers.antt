@@ -1,5 +1,4 @@
-use Rattle.std.proofs.Common.{map, ap, ◌∙◌, arith}
-use Rattle.std.specs.Prelude.{slice_index}
+use Rattle.hier_merge.proofs.Common.{map, ap, ◌∙◌, arith, slice_index}
 use Rattle.std.proofs.lemmas.List.{take_all}
 use Rattle.hier_merge.proofs.plane_pieces.numbers_at.Goals as goal
 

@@ -1,5 +1,4 @@
-use Rattle.std.proofs.Common.{◌≡◌, map, take}
-use Rattle.std.specs.Prelude.{slice_index}
+use Rattle.hier_merge.proofs.Common.{◌≡◌, map, take, slice_index}
 use Rattle.hier_merge.proofs.plane_pieces.numbers_at.Given as goal
 
 abbrev pub invariant-loop-place : goal.invariant-loop-place

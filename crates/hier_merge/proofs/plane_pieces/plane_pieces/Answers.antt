@@ -1,13 +1,6 @@
-use Rattle.std.proofs.Common.{[], List, length, sym, subst, arith}
-use Rattle.std.specs.Prelude.{All, AllPairs, slice_index_or}
-use Rattle.finite_sets.proofs.Members.{In-get_or}
-use Rattle.finite_sets.proofs.Searches.{All-from_In}
-use Rattle.geo_core.specs.Areas.{AreDisjoint, IsNear}
-use Rattle.geo_core.specs.Covering.{IsProper}
-use Rattle.meeting_laws.specs.Offences.declared.stacks.TypedStack.{TypedStack}
-use Rattle.meeting_laws.specs.Offences.TypedStacks.{AreByPart, AreTypedStacks, typed_stack_areas}
-use Rattle.hier_merge.specs.steps.PlanePieces.{HasTiles}
-use Rattle.hier_merge.specs.steps.Seams.{AreTilePieces}
+use Rattle.hier_merge.proofs.Common.{[], List, length, sym, subst, arith, All, AllPairs, slice_index_or, In-get_or, All-from_In, AreDisjoint, IsNear}
+use Rattle.hier_merge.proofs.Common.{IsProper, TypedStack, AreTypedStacks, typed_stack_areas, HasTiles, AreTilePieces}
+use Rattle.meeting_laws.specs.Offences.TypedStacks.{AreByPart}
 use Rattle.hier_merge.proofs.JoinedPieces.{no_pieces}
 use Rattle.hier_merge.proofs.SeamLaws.{pieces_to_end, pieces_to_seam, seam_at_start, tiles_to_seam, typed_pieces}
 use Rattle.hier_merge.proofs.plane_pieces.plane_pieces.Goals as goal

@@ -1,8 +1,4 @@
-use Rattle.std.proofs.Common.{ℕ, ◌≤◌, ◌<◌, length, take}
-use Rattle.std.specs.Prelude.{All, slice_index_or}
-use Rattle.hier_merge.specs.steps.PlanePieces.{HasTiles}
-use Rattle.hier_merge.specs.steps.Seams.{AreTilePieces, IsSeam}
-use Rattle.hier_merge.specs.steps.Visits.{tiles_on}
+use Rattle.hier_merge.proofs.Common.{ℕ, ◌≤◌, ◌<◌, length, take, All, slice_index_or, HasTiles, AreTilePieces, IsSeam, tiles_on}
 use Rattle.hier_merge.proofs.plane_pieces.plane_pieces.Given as goal
 
 -- the pieces so far are those of the tiles before the last seam, which cover them, and the next seams come no sooner

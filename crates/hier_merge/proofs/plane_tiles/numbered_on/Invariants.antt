@@ -1,5 +1,4 @@
-use Rattle.std.proofs.Common.{◌≡◌, ◌+◌, ◌++◌, drop}
-use Rattle.hier_merge.specs.steps.Seams.{numbered_on}
+use Rattle.hier_merge.proofs.Common.{◌≡◌, ◌+◌, ◌++◌, drop, numbered_on}
 use Rattle.hier_merge.proofs.plane_tiles.numbered_on.Given as goal
 
 abbrev pub invariant-loop-index : goal.invariant-loop-index

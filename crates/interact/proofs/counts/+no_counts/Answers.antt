@@ -1,9 +1,8 @@
-use Rattle.std.proofs.Common.{◌≡◌, ℤ, ◌/◌, ◌<◌, length, get_or, ◌∙◌, sym, ap, subst, rules, pos, to_z, of_z}
+use Rattle.interact.proofs.Common.{◌≡◌, ℤ, ◌<◌, length, get_or, ◌∙◌, sym, ap, subst, rules, pos, to_z, of_z, to_z-of_z, IsCut}
+use Rattle.std.proofs.Common.{◌/◌}
 use Rattle.std.specs.Int.{w64}
 use Rattle.std.specs.Int.RustNames.{FitsSigned}
-use Rattle.std.proofs.lemmas.Int.{to_z-of_z}
 use Rattle.std.proofs.lemmas.List.{get_or_default}
-use Rattle.interact.specs.steps.Counts.{IsCut}
 use Rattle.interact.proofs.CountLaws.{cuts_from_sides}
 use Rattle.interact.proofs.counts.+no_counts.Goals as goal
 

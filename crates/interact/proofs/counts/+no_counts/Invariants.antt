@@ -1,4 +1,4 @@
-use Rattle.std.proofs.Common.{length}
+use Rattle.interact.proofs.Common.{length}
 use Rattle.interact.proofs.counts.+no_counts.Given as goal
 
 -- there are fewer sides on either side of the middle one

@@ -1,6 +1,5 @@
-use Rattle.std.proofs.Common.{◌≡◌, ap, sym, ◌∙◌, rules, w64, to_z, of_z}
-use Rattle.std.proofs.lemmas.Int.{to_z-of_z}
-use Rattle.interact.specs.steps.Counts.{bounds_of, joined, of_all, of_told, shifted}
+use Rattle.interact.proofs.Common.{◌≡◌, ap, sym, ◌∙◌, rules, w64, to_z, of_z, to_z-of_z, bounds_of, shifted}
+use Rattle.interact.specs.steps.Counts.{joined, of_all, of_told}
 use Rattle.interact.proofs.counts.refresh.Goals as goal
 use Rattle.interact.proofs.counts.refresh.Goals.{in-Some, in-None}
 

@@ -1,5 +1,4 @@
-use Rattle.std.proofs.Common.{◌≡◌, ◌++◌, drop}
-use Rattle.interact.specs.steps.Edges.{sides_of}
+use Rattle.interact.proofs.Common.{◌≡◌, ◌++◌, drop, sides_of}
 use Rattle.interact.proofs.edges.all_sides.Given as goal
 
 -- the sides so far, with those of the edges to come

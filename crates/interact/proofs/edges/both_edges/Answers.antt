@@ -1,8 +1,7 @@
 -- Each rectangle with squares adds its two edges, of numbers that it has.
-use Rattle.std.proofs.Common.{arith, rules}
+use Rattle.interact.proofs.Common.{arith, rules, IsOf64Bits}
 use Rattle.std.proofs.lemmas.Grind.{common_steps}
 use Rattle.std.proofs.lemmas.List.Elements.{All-push}
-use Rattle.interact.specs.steps.Edges.{IsOf64Bits}
 use Rattle.interact.proofs.edges.both_edges.Goals as goal
 use Rattle.interact.proofs.edges.both_edges.Goals.{then-has_square+in_ok-push+in_ok-push-2, else-has_square}
 

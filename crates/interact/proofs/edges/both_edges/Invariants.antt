@@ -1,8 +1,4 @@
-use Rattle.std.proofs.Common.{◌≡◌, take, filter}
-use Rattle.std.specs.Prelude.{All}
-use Rattle.std.specs.List.{flat_map}
-use Rattle.geo_core.specs.Areas.{has_square}
-use Rattle.interact.specs.steps.Edges.{edges_of, IsOf64Bits}
+use Rattle.interact.proofs.Common.{◌≡◌, take, filter, All, flat_map, has_square, edges_of, IsOf64Bits}
 use Rattle.interact.proofs.edges.both_edges.Given as goal
 
 -- the edges of the rectangles so far

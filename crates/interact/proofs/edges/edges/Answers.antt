@@ -1,7 +1,6 @@
 -- The edges were sorted by their rows.
-use Rattle.std.proofs.Common.{ℤ, rules}
+use Rattle.interact.proofs.Common.{ℤ, rules, Edge}
 use Rattle.std.proofs.lemmas.List.Sorted.{answers_always}
-use Rattle.interact.specs.declared.edges.Edge.{Edge}
 use Rattle.interact.proofs.EdgeLaws.{edges_sorted}
 use Rattle.interact.proofs.edges.edges.Goals as goal
 

@@ -1,7 +1,6 @@
 -- The sides were sorted, and what stands twice taken out.
-use Rattle.std.proofs.Common.{sym, subst}
+use Rattle.interact.proofs.Common.{sym, subst, In}
 use Rattle.std.proofs.lemmas.List.Filters.{dedup_is}
-use Rattle.finite_sets.specs.Lists.{In}
 use Rattle.geo_strips.proofs.RowEventLaws.{sides_in_order, sides_kept}
 use Rattle.interact.proofs.edges.sides.Goals as goal
 

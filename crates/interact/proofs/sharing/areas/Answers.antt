@@ -1,15 +1,9 @@
 -- The runs of what two of the grown boxes cover make its strips.
-use Rattle.std.proofs.Common.{List, ◌∙◌, subst}
-use Rattle.std.specs.Prelude.{All}
+use Rattle.interact.proofs.Common.{List, ◌∙◌, subst, All, Rect, widened, LiesWithin, IsInTwo, AreRunBars, IsShared}
 use Rattle.std.proofs.lemmas.Result.{IfOk-weaker}
-use Rattle.geo_core.specs.declared.squares.Rect.{Rect}
-use Rattle.geo_core.specs.Areas.{widened, LiesWithin}
-use Rattle.geo_core.specs.Covering.{IsInTwo}
 use Rattle.geo_strips.specs.Bars.{AreStripsOf}
 use Rattle.geo_core.specs.Strips.{IsStrips}
-use Rattle.geo_strips.specs.steps.Sweeping.{AreRunBars}
 use Rattle.geo_strips.proofs.StripListLaws.{strips_of_bars}
-use Rattle.interact.specs.NearBoxes.{IsShared}
 use Rattle.interact.proofs.Sharings.{strips_lie_within}
 use Rattle.interact.proofs.sharing.areas.Goals as goal
 

@@ -1,5 +1,4 @@
-use Rattle.std.proofs.Common.{◌≡◌, take, map}
-use Rattle.geo_core.specs.Areas.{widened}
+use Rattle.interact.proofs.Common.{◌≡◌, take, map, widened}
 use Rattle.interact.proofs.sharing.widened_boxes.Given as goal
 
 -- the boxes so far are grown

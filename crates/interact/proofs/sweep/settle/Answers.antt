@@ -1,8 +1,6 @@
 -- What is settled from the first column to the last is settled in the whole row.
-use Rattle.std.proofs.Common.{◌≡◌, rules, w64, to_z, of_z, refl}
-use Rattle.std.proofs.lemmas.Int.{to_z-of_z}
+use Rattle.interact.proofs.Common.{◌≡◌, rules, w64, to_z, of_z, refl, to_z-of_z, Sweep}
 use Rattle.std.proofs.lemmas.Result.{on_ok_weaker}
-use Rattle.interact.specs.declared.sweep.Sweep.{Sweep}
 use Rattle.interact.proofs.SweepLaws.{row_settled}
 use Rattle.interact.proofs.sweep.settle.Goals as goal
 

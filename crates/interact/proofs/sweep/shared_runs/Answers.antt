@@ -1,16 +1,10 @@
 -- The sweep before the first edge, one edge more, and after the last.
-use Rattle.std.proofs.Common.{◌≡◌, ℤ, pos, false, get_or, take_all, Some, refl, sym, ◌∙◌, ap, subst, arith, rules, w64, to_z, of_z}
-use Rattle.std.specs.Ordering.{int_cmp}
+use Rattle.interact.proofs.Common.{◌≡◌, ℤ, pos, false, get_or, Some, refl, sym, ◌∙◌, ap, subst, arith, rules, w64, to_z, of_z, int_cmp, ints}
+use Rattle.interact.proofs.Common.{to_z-of_z, In, In-get_or, Edge, Sweep, IsCut, IsAdded, gain_of, AreEdges, sides_of}
+use Rattle.std.proofs.Common.{take_all}
 use Rattle.std.specs.BTreeMap.{is_at}
 use Rattle.std.specs.Map.{lookup}
-use Rattle.std.proofs.lemmas.Int.{ints, to_z-of_z}
 use Rattle.std.proofs.lemmas.List.{drop_all}
-use Rattle.finite_sets.specs.Lists.{In}
-use Rattle.finite_sets.proofs.Members.{In-get_or}
-use Rattle.interact.specs.declared.edges.Edge.{Edge}
-use Rattle.interact.specs.declared.sweep.Sweep.{Sweep}
-use Rattle.interact.specs.steps.Counts.{IsCut, IsAdded}
-use Rattle.interact.specs.steps.Edges.{gain_of, AreEdges, sides_of}
 use Rattle.interact.proofs.EdgeLaws.{edge_sides}
 use Rattle.interact.proofs.SweepLaws.{all_settled, next_settled, next_here, counted, sweep_begins}
 use Rattle.interact.proofs.sweep.shared_runs.Goals as goal

@@ -1,7 +1,5 @@
-use Rattle.std.proofs.Common.{ℕ, sym, subst}
-use Rattle.std.specs.Prelude.{IfOk, unwrap_or}
-use Rattle.tech_model.specs.declared.raw.RawTech.{RawTech}
-use Rattle.layout_gen.specs.steps.Bodies.{AreLayers, AreMade}
+use Rattle.layout_gen.proofs.Common.{ℕ, sym, subst, unwrap_or, RawTech, AreLayers, AreMade}
+use Rattle.std.specs.Prelude.{IfOk}
 use Rattle.layout_gen.proofs.bodies.cells_for.Goals as goal
 
 pub made_cells-requires-clause-layers : goal.made_cells-requires-clause-layers

@@ -1,6 +1,4 @@
-use Rattle.std.proofs.Common.{◌∙◌, subst, sym, true≢false}
-use Rattle.tech_model.specs.declared.raw.RawTech.{RawTech}
-use Rattle.layout_gen.specs.steps.Bodies.{AreLayers}
+use Rattle.layout_gen.proofs.Common.{◌∙◌, subst, sym, true≢false, RawTech, AreLayers}
 use Rattle.layout_gen.proofs.Refusals.{room_told}
 use Rattle.layout_gen.proofs.checks.check_layers.Goals as goal
 

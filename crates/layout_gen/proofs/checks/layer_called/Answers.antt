@@ -1,5 +1,4 @@
-use Rattle.std.proofs.Common.{◌≡◌, ℕ, Option, Some, None, ap, arith, sym}
-use Rattle.std.specs.Option.{option_map}
+use Rattle.layout_gen.proofs.Common.{◌≡◌, ℕ, Option, Some, None, ap, arith, sym, option_map}
 use Rattle.finite_sets.proofs.Searches.{position_from-below}
 use Rattle.tech_model.specs.declared.raw.LayerId.{LayerId}
 use Rattle.tech_model.specs.Types.{has_name, layer_named, layer_number}

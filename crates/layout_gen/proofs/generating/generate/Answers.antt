@@ -1,7 +1,5 @@
-use Rattle.std.proofs.Common.{ap, ◌∙◌, sym, subst, inl, inr, refl, Some}
-use Rattle.cell_library.specs.Libraries.{edits_of, seen}
-use Rattle.layout_gen.specs.declared.faults.GenerateFault.{GenerateFault}
-use Rattle.layout_gen.specs.Generated.{IsGenerated}
+use Rattle.layout_gen.proofs.Common.{ap, ◌∙◌, sym, subst, inl, inr, refl, Some, seen, GenerateFault, IsGenerated}
+use Rattle.cell_library.specs.Libraries.{edits_of}
 use Rattle.layout_gen.proofs.Additions.{can_be_added, generated, refused_for, three_cells}
 use Rattle.layout_gen.proofs.Refusals.{edits_told, none_told}
 use Rattle.layout_gen.proofs.generating.generate.Goals as goal

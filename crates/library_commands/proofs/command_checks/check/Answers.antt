@@ -1,8 +1,5 @@
-use Rattle.std.proofs.Common.{◌≡◌, Some, IfOk, sym, subst, rules}
-use Rattle.session_model.specs.Effects.{Answers}
-use Rattle.workspace.specs.KeptSessions.{edited_state, state_of}
-use Rattle.workspace.specs.States.{State}
-use Rattle.library_commands.specs.CommandChecks.{CheckMeans}
+use Rattle.library_commands.proofs.Common.{◌≡◌, Some, sym, subst, rules, Answers, edited_state, state_of, State, CheckMeans}
+use Rattle.std.proofs.Common.{IfOk}
 use Rattle.library_commands.proofs.command_checks.check.Goals as goal
 
 pub returns-in-Some-clause-effect : goal.returns-in-Some-clause-effect

@@ -1,11 +1,5 @@
-use Rattle.std.proofs.Common.{◌≡◌, Some, refl, rules}
-use Rattle.std.proofs.lemmas.Result.{IfOk-weaker}
-use Rattle.cell_library.specs.Libraries.{seen}
-use Rattle.cell_library.specs.Views.{cell_named}
-use Rattle.uniqueness.proofs.EditScript.CellLaws.{found_there}
-use Rattle.workspace.proofs.CellCommands.{answers_on_cell}
-use Rattle.workspace.specs.KeptSessions.{edited_state}
-use Rattle.library_commands.specs.CommandChecks.{ChecksIn}
+use Rattle.library_commands.proofs.Common.{◌≡◌, Some, refl, rules, IfOk-weaker, seen, cell_named, found_there, answers_on_cell, edited_state}
+use Rattle.library_commands.proofs.Common.{ChecksIn}
 use Rattle.library_commands.proofs.command_checks.check_named.Goals as goal
 
 pub drc-requires : goal.drc-requires

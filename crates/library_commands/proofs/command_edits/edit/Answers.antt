@@ -1,18 +1,8 @@
-use Rattle.std.proofs.Common.{◌≡◌, [], ◌∷◌, Some, sym, subst, rules}
-use Rattle.std.specs.Prelude.{codes}
-use Rattle.session_model.specs.Effects.{AnswersAlone}
-use Rattle.uniqueness.specs.EditScript.Editing.{editing_of}
-use Rattle.uniqueness.specs.EditScript.Refusals.{ApplyIsRefused}
-use Rattle.workspace.proofs.RecordLaws.{agrees_same}
-use Rattle.workspace.specs.KeptSessions.{IsEdited, edited_state, state_of}
-use Rattle.library_commands.specs.CommandEdits.{EditMeans}
-use Rattle.line_answers.specs.LineEffects.{reply}
-use Rattle.workspace.specs.States.{State}
-use Rattle.line_answers.proofs.AnswerLaws.{both_ok}
+use Rattle.library_commands.proofs.Common.{◌≡◌, [], ◌∷◌, Some, sym, subst, rules, codes, AnswersAlone, editing_of, ApplyIsRefused, agrees_same}
+use Rattle.library_commands.proofs.Common.{edited_state, state_of, EditMeans, reply, State, both_ok, log_same, workspace_of}
+use Rattle.workspace.specs.KeptSessions.{IsEdited}
 use Rattle.library_commands.proofs.EditLaws.{edit_done, edit_refused}
 use Rattle.library_commands.proofs.VersionLaws.{log_applied, versions_applied}
-use Rattle.workspace.proofs.VersionLaws.{log_same}
-use Rattle.workspace.proofs.WorkspaceLaws.{workspace_of}
 use Rattle.library_commands.proofs.MarkLaws.{marks_applied}
 use Rattle.library_commands.proofs.command_edits.edit.Goals as goal
 

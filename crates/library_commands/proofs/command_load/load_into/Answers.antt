@@ -1,18 +1,11 @@
-use Rattle.std.proofs.Common.{◌≡◌, [], ◌∷◌, refl, subst, rules}
-use Rattle.session_model.specs.declared.answer.Answer.{Answer}
+use Rattle.library_commands.proofs.Common.{◌≡◌, [], ◌∷◌, refl, subst, rules, Answer, IsSame, seen, agrees_same, loaded_text, reply, both_ok}
+use Rattle.library_commands.proofs.Common.{same_current, log_forgotten, log_same}
 use Rattle.session_model.specs.Effects.{GivesFetching}
-use Rattle.cell_library.specs.Libraries.{IsSame, seen}
 use Rattle.uniqueness.specs.CellLoading.declared.loading.Loaded.{Loaded}
 use Rattle.uniqueness.specs.CellLoading.Arrivals.{ArriveWithStamps}
 use Rattle.uniqueness.specs.CellLoading.Loads.{HasMoreIfLoaded, KeepsIfRefused, LoadGives}
 use Rattle.workspace.proofs.ArrivalLaws.{agrees_all, dirty_cells}
-use Rattle.workspace.proofs.RecordLaws.{agrees_same}
-use Rattle.workspace.specs.LibraryAnswers.Replies.{loaded_text}
-use Rattle.line_answers.specs.LineEffects.{reply}
-use Rattle.line_answers.proofs.AnswerLaws.{both_ok}
-use Rattle.workspace.proofs.WorkspaceLaws.{same_current}
 use Rattle.library_commands.proofs.LoadLaws.{load_done, load_refused}
-use Rattle.workspace.proofs.VersionLaws.{log_forgotten, log_same}
 use Rattle.library_commands.proofs.command_load.load_into.Goals as goal
 
 pub returns-in_err-count-clause-kept : goal.returns-in_err-count-clause-kept

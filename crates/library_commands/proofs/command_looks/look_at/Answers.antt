@@ -1,13 +1,5 @@
-use Rattle.std.proofs.Common.{◌≡◌, [], Some, refl, rules, sym, subst}
-use Rattle.std.specs.Prelude.{IfOk}
-use Rattle.std.proofs.lemmas.Result.{IfOk-weaker}
-use Rattle.session_model.specs.Effects.{AnswersAlone}
-use Rattle.cell_library.specs.Libraries.{seen}
-use Rattle.cell_library.specs.Views.{cell_named}
-use Rattle.uniqueness.proofs.EditScript.CellLaws.{found_there}
-use Rattle.workspace.proofs.CellCommands.{answers_on_cell}
-use Rattle.workspace.specs.KeptSessions.{edited_state, state_of}
-use Rattle.workspace.specs.States.{State}
+use Rattle.library_commands.proofs.Common.{◌≡◌, [], Some, refl, rules, sym, subst, IfOk, IfOk-weaker, AnswersAlone, seen, cell_named, found_there}
+use Rattle.library_commands.proofs.Common.{answers_on_cell, edited_state, state_of, State}
 use Rattle.library_commands.specs.CommandLooks.{LookMeans, LooksAt}
 use Rattle.library_commands.proofs.command_looks.look_at.Goals as goal
 

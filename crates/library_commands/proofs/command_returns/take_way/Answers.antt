@@ -1,11 +1,6 @@
-use Rattle.std.proofs.Common.{◌≡◌, ◌⊎◌, subst, sym}
+use Rattle.library_commands.proofs.Common.{◌≡◌, ◌⊎◌, subst, sym, edited_state, workspace_of, Way, Redo, Undo, IsBrought, ReturnIsRefused}
 use Rattle.std.specs.Prelude.{IfErr, OnOk}
 use Rattle.look_commands.specs.UndoLog.declared.faults.UndoFault.TheVariants.{Memory}
-use Rattle.workspace.specs.KeptSessions.{edited_state}
-use Rattle.workspace.proofs.WorkspaceLaws.{workspace_of}
-use Rattle.library_commands.specs.declared.command_returns.Way.{Way}
-use Rattle.library_commands.specs.declared.command_returns.Way.TheVariants.{Redo, Undo}
-use Rattle.library_commands.specs.CommandReturns.{IsBrought, ReturnIsRefused}
 use Rattle.library_commands.proofs.ReturnLaws.{way_brought, way_kept, way_refused}
 use Rattle.library_commands.proofs.command_returns.take_way.Goals as goal
 

@@ -1,16 +1,8 @@
-use Rattle.std.proofs.Common.{◌≡◌, List, [], ◌∷◌, Ok, Err, None, refl, sym, subst, rules}
-use Rattle.std.proofs.lemmas.Result.{IfOk-weaker}
-use Rattle.session_model.specs.declared.report.ReportLine.{ReportLine}
-use Rattle.tech_file.specs.Reading.{technology_of}
-use Rattle.cell_library.specs.Libraries.{seen}
-use Rattle.workspace.specs.Caches.{Agrees}
+use Rattle.library_commands.proofs.Common.{◌≡◌, List, [], ◌∷◌, Ok, Err, None, refl, sym, subst, rules, IfOk-weaker, ReportLine, technology_of, seen}
+use Rattle.library_commands.proofs.Common.{Agrees, tech_text, reply, both_ok, state_of, log_forgotten}
 use Rattle.workspace.proofs.RecordLaws.{agrees_none}
-use Rattle.workspace.specs.LibraryAnswers.Replies.{tech_text}
-use Rattle.line_answers.specs.LineEffects.{IsOfInside, reply}
-use Rattle.line_answers.proofs.AnswerLaws.{both_ok}
-use Rattle.workspace.specs.KeptSessions.{state_of}
+use Rattle.line_answers.specs.LineEffects.{IsOfInside}
 use Rattle.library_commands.proofs.TechLaws.{tech_accepted, tech_text_refused}
-use Rattle.workspace.proofs.VersionLaws.{log_forgotten}
 use Rattle.library_commands.proofs.command_tech.accept_tech.Goals as goal
 
 pub returns-in-Ok-clause-effect : goal.returns-in-Ok-clause-effect

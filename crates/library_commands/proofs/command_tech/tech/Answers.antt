@@ -1,9 +1,6 @@
-use Rattle.std.proofs.Common.{[], ◌∷◌, ◌≡◌, Ok, Err, None, subst, rules}
-use Rattle.std.proofs.lemmas.Result.{IfOk-weaker}
+use Rattle.library_commands.proofs.Common.{[], ◌∷◌, ◌≡◌, Ok, Err, None, subst, rules, IfOk-weaker, text_in, tech_file, both_ok}
 use Rattle.session_model.specs.declared.fetching.Fetched.{Fetched}
-use Rattle.session_model.specs.Fetches.{FetchMeans, text_in}
-use Rattle.library_commands.specs.CommandTech.{tech_file}
-use Rattle.line_answers.proofs.AnswerLaws.{both_ok}
+use Rattle.session_model.specs.Fetches.{FetchMeans}
 use Rattle.library_commands.proofs.TechLaws.{tech_read, tech_file_refused}
 use Rattle.library_commands.proofs.command_tech.tech.Goals as goal
 

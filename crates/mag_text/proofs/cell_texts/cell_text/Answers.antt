@@ -1,8 +1,5 @@
-use Rattle.std.proofs.Common.{List, sym, subst}
-use Rattle.std.specs.Prelude.{All}
+use Rattle.mag_text.proofs.Common.{List, sym, subst, All, RawTech, IsLayered}
 use Rattle.tech_model.specs.declared.raw.Label.{Label}
-use Rattle.tech_model.specs.declared.raw.RawTech.{RawTech}
-use Rattle.mag_text.specs.WrittenTexts.{IsLayered}
 use Rattle.mag_text.proofs.CellTextLaws.{labels_layered}
 use Rattle.mag_text.proofs.cell_texts.cell_text.Goals as goal
 

@@ -1,6 +1,4 @@
-use Rattle.std.proofs.Common.{sym}
-use Rattle.cell_library.specs.Libraries.{seen}
-use Rattle.cell_library.specs.Views.{view_at}
+use Rattle.mag_text.proofs.Common.{sym, seen, view_at}
 use Rattle.mag_text.proofs.CellTextLaws.{use_lawful, use_there}
 use Rattle.mag_text.proofs.cell_texts.use_written.Goals as goal
 

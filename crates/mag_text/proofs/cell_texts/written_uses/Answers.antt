@@ -1,6 +1,4 @@
-use Rattle.std.proofs.Common.{◌<◌, ℕ, subst}
-use Rattle.cell_library.specs.Libraries.{seen}
-use Rattle.cell_library.specs.Views.{view_at}
+use Rattle.mag_text.proofs.Common.{◌<◌, ℕ, subst, seen, view_at}
 use Rattle.mag_text.proofs.CellTextLaws.{uses_written}
 use Rattle.mag_text.proofs.cell_texts.written_uses.Goals as goal
 

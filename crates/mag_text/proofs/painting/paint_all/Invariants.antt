@@ -1,6 +1,5 @@
 -- The rectangles below the index are painted once those that are gathered are; at the end none is left.
-use Rattle.std.proofs.Common.{◌≡◌, [], length}
-use Rattle.cell_library.specs.CellPaint.Paints.{layout_of}
+use Rattle.mag_text.proofs.Common.{◌≡◌, [], length, layout_of}
 use Rattle.mag_text.proofs.DrawingSteps.{AreGathered}
 use Rattle.mag_text.proofs.painting.paint_all.Given as goal
 

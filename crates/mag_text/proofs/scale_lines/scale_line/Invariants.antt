@@ -1,4 +1,4 @@
-use Rattle.std.proofs.Common.{◌≡◌, ◌+◌, ◌≤◌, length}
+use Rattle.mag_text.proofs.Common.{◌≡◌, ◌+◌, ◌≤◌, length}
 use Rattle.mag_text.specs.ScaleLines.{scale_line, scale_line_from}
 use Rattle.mag_text.proofs.scale_lines.scale_line.Given as goal
 

@@ -1,4 +1,4 @@
-use Rattle.cell_library.specs.CellPaint.Paints.{layout_of}
+use Rattle.mag_text.proofs.Common.{layout_of}
 use Rattle.mag_text.proofs.WrittenTextLaws.{strips_more, strips_counted}
 use Rattle.mag_text.proofs.writing.all_strips.Goals as goal
 

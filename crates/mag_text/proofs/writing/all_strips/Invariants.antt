@@ -1,8 +1,4 @@
-use Rattle.std.proofs.Common.{◌≡◌, ◌<◌, ℕ, length}
-use Rattle.std.specs.Prelude.{slice_index_or}
-use Rattle.cell_library.specs.CellPaint.Paints.{layout_of}
-use Rattle.mag_text.specs.declared.written.LayerStrips.{LayerStrips}
-use Rattle.mag_text.specs.WrittenTexts.{AreLayerStrips}
+use Rattle.mag_text.proofs.Common.{◌≡◌, ◌<◌, ℕ, length, slice_index_or, layout_of, LayerStrips, AreLayerStrips}
 use Rattle.mag_text.proofs.writing.all_strips.Given as goal
 
 abbrev pub invariant-loop-layer : goal.invariant-loop-layer

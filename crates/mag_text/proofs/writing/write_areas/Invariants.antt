@@ -1,5 +1,4 @@
-use Rattle.std.proofs.Common.{◌≡◌, ◌++◌, [], ◌∷◌, drop}
-use Rattle.mag_text.specs.WrittenTexts.{area_line, text_of_each}
+use Rattle.mag_text.proofs.Common.{◌≡◌, ◌++◌, [], ◌∷◌, drop, area_line, text_of_each}
 use Rattle.mag_text.proofs.writing.write_areas.Given as goal
 
 abbrev pub invariant-loop-area : goal.invariant-loop-area

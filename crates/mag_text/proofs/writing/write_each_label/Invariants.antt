@@ -1,5 +1,4 @@
-use Rattle.std.proofs.Common.{◌≡◌, ◌++◌, [], ◌∷◌, drop}
-use Rattle.mag_text.specs.WrittenTexts.{label_line, text_of_each}
+use Rattle.mag_text.proofs.Common.{◌≡◌, ◌++◌, [], ◌∷◌, drop, label_line, text_of_each}
 use Rattle.mag_text.proofs.writing.write_each_label.Given as goal
 
 abbrev pub invariant-loop-label : goal.invariant-loop-label

@@ -1,5 +1,4 @@
-use Rattle.std.proofs.Common.{ap, ◌∙◌}
-use Rattle.tech_model.specs.declared.raw.RawTech.{RawTech}
+use Rattle.mag_text.proofs.Common.{ap, ◌∙◌, RawTech}
 use Rattle.mag_text.proofs.WrittenTextLaws.{header_appended}
 use Rattle.mag_text.proofs.writing.write_header.Goals as goal
 

@@ -1,4 +1,4 @@
-use Rattle.std.proofs.Common.{sym, ◌∙◌}
+use Rattle.mag_text.proofs.Common.{sym, ◌∙◌}
 use Rattle.mag_text.proofs.WrittenTextLaws.{some_labels_appended}
 use Rattle.mag_text.proofs.writing.write_labels.Goals as goal
 

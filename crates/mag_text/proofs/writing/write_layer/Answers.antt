@@ -1,4 +1,4 @@
-use Rattle.std.proofs.Common.{sym, ◌∙◌}
+use Rattle.mag_text.proofs.Common.{sym, ◌∙◌}
 use Rattle.mag_text.proofs.WrittenTextLaws.{layer_appended}
 use Rattle.mag_text.proofs.writing.write_layer.Goals as goal
 

@@ -1,5 +1,4 @@
-use Rattle.std.proofs.Common.{◌≡◌, ◌++◌, drop}
-use Rattle.mag_text.specs.WrittenTexts.{layer_lines, text_of_each}
+use Rattle.mag_text.proofs.Common.{◌≡◌, ◌++◌, drop, layer_lines, text_of_each}
 use Rattle.mag_text.proofs.writing.write_paint.Given as goal
 
 abbrev pub invariant-loop-layer : goal.invariant-loop-layer

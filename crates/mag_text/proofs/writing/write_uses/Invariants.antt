@@ -1,5 +1,4 @@
-use Rattle.std.proofs.Common.{◌≡◌, ◌++◌, drop}
-use Rattle.mag_text.specs.WrittenTexts.{use_lines, text_of_each}
+use Rattle.mag_text.proofs.Common.{◌≡◌, ◌++◌, drop, use_lines, text_of_each}
 use Rattle.mag_text.proofs.writing.write_uses.Given as goal
 
 abbrev pub invariant-loop-placed : goal.invariant-loop-placed

@@ -1,9 +1,4 @@
-use Rattle.std.proofs.Common.{refl, sym, subst}
-use Rattle.std.proofs.lemmas.Result.{IfOk-weaker}
-use Rattle.session_model.specs.Effects.{Answers}
-use Rattle.script_lines.specs.declared.commands.Command.{Command}
-use Rattle.library_commands.specs.Workspace.KeptSessions.{state_of}
-use Rattle.magex_top.specs.Sessions.{CommandMeans}
+use Rattle.magex_top.proofs.Common.{refl, sym, subst, IfOk-weaker, Answers, Command, state_of, CommandMeans}
 use Rattle.magex_top.proofs.session.answer.Goals as goal
 
 pub returns-in-Tech-clause-effect : goal.returns-in-Tech-clause-effect

@@ -1,11 +1,5 @@
-use Rattle.std.proofs.Common.{◌≡◌, Option, Some, IfOk, sym, subst, rules}
-use Rattle.std.specs.Prelude.{Result, Ok}
-use Rattle.session_model.specs.Effects.{Answers}
-use Rattle.script_lines.specs.declared.commands.Command.{Command}
-use Rattle.script_lines.specs.declared.faults.LineFault.{LineFault}
-use Rattle.script_lines.specs.Commands.{command_of}
-use Rattle.library_commands.specs.Workspace.KeptSessions.{state_of}
-use Rattle.magex_top.specs.Sessions.{ReadLineMeans}
+use Rattle.magex_top.proofs.Common.{◌≡◌, Option, Some, sym, subst, Result, Ok, Answers, Command, LineFault, command_of, state_of, ReadLineMeans}
+use Rattle.std.proofs.Common.{IfOk, rules}
 use Rattle.magex_top.proofs.session.answer_line.Goals as goal
 
 pub returns-in-Ok-Some-clause-effect : goal.returns-in-Ok-Some-clause-effect

@@ -1,22 +1,12 @@
-use Rattle.std.proofs.Common.{◌≡◌, ◌∙◌, ap, subst, refl, List, [], ◌∷◌, map, ◌≤◌, ◌<◌, Global, Err, Option, Some, None, string_bytes, ℕ, length, rules}
-use Rattle.std.proofs.Common.{arith}
-use Rattle.std.specs.Prelude.{is_some}
-use Rattle.text_scan.specs.Lines.{lines_of}
-use Rattle.outside_io.specs.Counts.{Rose}
+use Rattle.magex_top.proofs.Common.{◌≡◌, ◌∙◌, ap, subst, refl, [], ◌∷◌, Option, Some, ℕ, arith, is_some, lines_of, Rose, LONGEST_FILE, RunWords}
+use Rattle.magex_top.proofs.Common.{words_of, text_of, IsCutShort, Progress, WholeSession, lines_in, Status, WriteFault, is_quiet, usage_text}
+use Rattle.magex_top.proofs.Common.{RunLineMeans, first_run, reply}
+use Rattle.std.proofs.Common.{List, map, ◌≤◌, ◌<◌, Global, Err, None, string_bytes, length, rules}
 use Rattle.outside_io.specs.ToldBytes.{ToldBytes, with_back}
 use Rattle.outside_io.specs.declared.faults.ReadAllFault.{ReadAllFault}
-use Rattle.outside_io.specs.declared.limits.TheConstants.{LONGEST_FILE}
-use Rattle.run_words.specs.declared.words.RunWords.{RunWords}
-use Rattle.run_words.specs.RunWords.{words_of}
-use Rattle.session_model.specs.Reports.{text_of}
-use Rattle.session_model.specs.Progress.{IsCutShort, Progress}
-use Rattle.session_model.specs.Scripts.{WholeSession, lines_in}
 use Rattle.session_model.proofs.CountedLaws.{none_counted}
-use Rattle.magex_top.specs.declared.status.Status.{Status}
-use Rattle.magex_top.specs.declared.status.Status.TheVariants.{Memory, ReadFault, ScriptTooLong, WriteFault}
-use Rattle.magex_top.specs.Runs.{IsScriptSession, is_quiet, long_session, usage_session, usage_text}
-use Rattle.magex_top.specs.Sessions.{RunLineMeans, first_run}
-use Rattle.line_answers.specs.LineEffects.{reply}
+use Rattle.magex_top.specs.declared.status.Status.TheVariants.{Memory, ReadFault, ScriptTooLong}
+use Rattle.magex_top.specs.Runs.{IsScriptSession, long_session, usage_session}
 use Rattle.magex_top.proofs.RunLaws.{long_run, nothing, nothing_more, nothing_reached, nothing_written, script_reached, script_run, script_written}
 use Rattle.magex_top.proofs.RunLaws.{nothing_begins, script_begins, usage_begins, usage_counted, usage_reached, usage_run, usage_written}
 use Rattle.magex_top.proofs.top_call.run.Goals as goal

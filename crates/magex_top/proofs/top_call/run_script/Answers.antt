@@ -1,16 +1,8 @@
-use Rattle.std.proofs.Common.{◌≡◌, ◌∙◌, sym, ap, refl, Bool, true, false, if◌then◌else◌}
-use Rattle.std.specs.Prelude.{Ok, Err}
-use Rattle.outside_io.specs.Counts.{Rose}
-use Rattle.session_model.specs.declared.answer.Halt.{Halt}
+use Rattle.magex_top.proofs.Common.{◌≡◌, ◌∙◌, sym, ap, refl, Ok, Err, Rose, Halt, is_told, lines_in, Status, Done, Told, WriteFault, state_of}
+use Rattle.magex_top.proofs.Common.{RunState, status_of}
+use Rattle.std.proofs.Common.{Bool, true, false, if◌then◌else◌}
 use Rattle.session_model.specs.declared.answer.Halt.TheVariants as halt
 use Rattle.session_model.specs.Causes.{StoreFailed}
-use Rattle.session_model.specs.Reports.{is_told}
-use Rattle.session_model.specs.Scripts.{lines_in}
-use Rattle.magex_top.specs.declared.status.Status.{Status}
-use Rattle.magex_top.specs.declared.status.Status.TheVariants.{Done, Told, WriteFault}
-use Rattle.library_commands.specs.Workspace.KeptSessions.{state_of}
-use Rattle.magex_top.specs.Sessions.{RunState}
-use Rattle.magex_top.specs.Statuses.{status_of}
 use Rattle.magex_top.proofs.RunLaws.{begins_from_first, calm_read, calm_write, read_told, reached_from_first, session_from_first, write_told}
 use Rattle.magex_top.proofs.top_call.run_script.Goals as goal
 

@@ -1,8 +1,5 @@
-use Rattle.session_model.specs.Reports.{text_of}
+use Rattle.magex_top.proofs.Common.{text_of, usage_text, reply, [], ◌∷◌}
 use Rattle.session_model.proofs.ProgressLaws.{begun_by_prefix}
-use Rattle.magex_top.specs.Runs.{usage_text}
-use Rattle.line_answers.specs.LineEffects.{reply}
-use Rattle.std.proofs.Common.{[], ◌∷◌}
 use Rattle.magex_top.proofs.top_call.write_usage.Goals as goal
 
 pub returns-in-Err-clause-beginning : goal.returns-in-Err-clause-beginning

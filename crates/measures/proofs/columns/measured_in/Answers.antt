@@ -1,8 +1,4 @@
-use Rattle.std.proofs.Common.{◌<◌, ◌++◌, List, sym, ◌∙◌, ap, subst}
-use Rattle.std.specs.Prelude.{All}
-use Rattle.layout_model.specs.Technologies.{class_of}
-use Rattle.key_sums.specs.declared.Amount.{Amount}
-use Rattle.measures.specs.steps.Sizes.{shared_amounts}
+use Rattle.measures.proofs.Common.{◌<◌, ◌++◌, List, sym, ◌∙◌, ap, subst, All, class_of, Amount, shared_amounts}
 use Rattle.measures.proofs.AmountLaws.{area_keys, contacts_within, contacts_some, all_keys}
 use Rattle.measures.proofs.columns.measured_in.Goals as goal
 

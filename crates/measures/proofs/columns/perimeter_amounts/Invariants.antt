@@ -1,6 +1,4 @@
-use Rattle.std.proofs.Common.{◌≡◌, take}
-use Rattle.layout_model.specs.Technologies.{class_of}
-use Rattle.measures.specs.steps.Sizes.{perimeter_amounts}
+use Rattle.measures.proofs.Common.{◌≡◌, take, class_of, perimeter_amounts}
 use Rattle.measures.proofs.columns.perimeter_amounts.Given as goal
 
 abbrev pub invariant-loop-tile : goal.invariant-loop-tile

@@ -1,11 +1,8 @@
-use Rattle.std.proofs.Common.{◌≡◌, pos, ◌∷◌, [], take, get_or, ◌∙◌, ap, rules, to_z, of_z}
-use Rattle.std.specs.Int.{w64}
-use Rattle.std.proofs.lemmas.Int.{to_z-of_z}
+use Rattle.measures.proofs.Common.{◌≡◌, pos, ◌∷◌, [], take, get_or, ◌∙◌, ap, to_z, of_z, w64, to_z-of_z, class_of, Contact, shared_amounts}
+use Rattle.std.proofs.Common.{rules}
 use Rattle.std.proofs.lemmas.List.{take_more}
-use Rattle.layout_model.specs.Technologies.{class_of}
-use Rattle.flood_nodes.specs.RectContacts.declared.contacts.Contact.{Contact}
 use Rattle.flood_nodes.specs.TileShares.{tile_at}
-use Rattle.measures.specs.steps.Sizes.{shared_in, shared_amounts}
+use Rattle.measures.specs.steps.Sizes.{shared_in}
 use Rattle.measures.proofs.AmountLaws.{shared_amounts-append, adds_two}
 use Rattle.measures.proofs.columns.push_shared.Goals as goal
 

@@ -1,6 +1,4 @@
-use Rattle.std.proofs.Common.{◌≡◌, ◌++◌, take}
-use Rattle.layout_model.specs.Technologies.{class_of}
-use Rattle.measures.specs.steps.Sizes.{shared_amounts}
+use Rattle.measures.proofs.Common.{◌≡◌, ◌++◌, take, class_of, shared_amounts}
 use Rattle.measures.proofs.columns.push_shared.Given as goal
 
 abbrev pub invariant-loop-contact : goal.invariant-loop-contact

@@ -1,6 +1,4 @@
-use Rattle.std.proofs.Common.{◌-ℤ◌, ◌*ℤ◌, to_z, of_z, arith}
-use Rattle.std.specs.Int.{w64}
-use Rattle.std.proofs.lemmas.Int.{ints}
+use Rattle.measures.proofs.Common.{◌-ℤ◌, ◌*ℤ◌, to_z, of_z, arith, w64, ints}
 use Rattle.measures.proofs.RectSizes.{area_by_product, product_fits, area_as_read}
 use Rattle.measures.proofs.sizes.area_of.Goals as goal
 

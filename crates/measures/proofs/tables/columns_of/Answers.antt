@@ -1,7 +1,4 @@
-use Rattle.std.proofs.Common.{subst}
-use Rattle.tech_model.specs.declared.raw.ClassRec.{ClassRec}
-use Rattle.layout_model.specs.Technologies.{class_of}
-use Rattle.measures.specs.steps.Columns.{IsColumn}
+use Rattle.measures.proofs.Common.{subst, ClassRec, class_of, IsColumn}
 use Rattle.measures.proofs.MeasureLaws.{columns_more}
 use Rattle.measures.proofs.tables.columns_of.Goals as goal
 

@@ -1,5 +1,4 @@
-use Rattle.std.proofs.Common.{take}
-use Rattle.measures.specs.steps.Columns.{AreColumns}
+use Rattle.measures.proofs.Common.{take, AreColumns}
 use Rattle.measures.proofs.tables.columns_of.Given as goal
 
 abbrev pub invariant-loop-class : goal.invariant-loop-class

@@ -1,9 +1,5 @@
-use Rattle.std.proofs.Common.{List, map, subst}
+use Rattle.measures.proofs.Common.{List, map, subst, RegionTile, Layout, AreLayoutTiles, AreMeasured, class_of}
 use Rattle.std.specs.Prelude.{IfOk}
-use Rattle.layout_model.specs.declared.region_tiles.RegionTile.{RegionTile}
-use Rattle.layout_model.specs.Layouts.{Layout}
-use Rattle.layout_model.specs.RegionTiles.{AreLayoutTiles, AreMeasured}
-use Rattle.layout_model.specs.Technologies.{class_of}
 use Rattle.measures.proofs.tables.measure.Goals as goal
 
 pub returns : goal.returns

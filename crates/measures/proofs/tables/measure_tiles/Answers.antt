@@ -1,12 +1,7 @@
 -- There is a column for each class, and a row of them for each region.
-use Rattle.std.proofs.Common.{◌<◌, List, [], length, map, sym, ◌∙◌, ap, subst, arith}
-use Rattle.std.specs.Prelude.{All}
-use Rattle.std.proofs.lemmas.List.{get_or-map, length-map}
-use Rattle.tech_model.specs.declared.raw.ClassRec.{ClassRec}
+use Rattle.measures.proofs.Common.{◌<◌, List, [], length, map, sym, ◌∙◌, ap, subst, arith, All, get_or-map, length-map, ClassRec, Column, AreColumns}
 use Rattle.tech_model.specs.declared.raw.RawTech.{RawTech}
-use Rattle.measures.specs.declared.columns.Column.{Column}
 use Rattle.measures.specs.declared.tables.MeasureRow.{MeasureRow}
-use Rattle.measures.specs.steps.Columns.{AreColumns}
 use Rattle.measures.proofs.MeasureLaws.{columns_long, rows_measure}
 use Rattle.measures.proofs.tables.measure_tiles.Goals as goal
 

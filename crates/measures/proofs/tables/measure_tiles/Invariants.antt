@@ -1,5 +1,4 @@
-use Rattle.std.proofs.Common.{◌≡◌, ◌<◌, ℕ, length, get_or, []}
-use Rattle.measures.specs.steps.Columns.{pairs_at}
+use Rattle.measures.proofs.Common.{◌≡◌, ◌<◌, ℕ, length, get_or, [], pairs_at}
 use Rattle.measures.proofs.tables.measure_tiles.Given as goal
 
 abbrev pub invariant-loop-region : goal.invariant-loop-region

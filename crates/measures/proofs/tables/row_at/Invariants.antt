@@ -1,5 +1,4 @@
-use Rattle.std.proofs.Common.{◌≡◌, take}
-use Rattle.measures.specs.steps.Columns.{pairs_at}
+use Rattle.measures.proofs.Common.{◌≡◌, take, pairs_at}
 use Rattle.measures.proofs.tables.row_at.Given as goal
 
 abbrev pub invariant-loop-column : goal.invariant-loop-column

@@ -1,6 +1,4 @@
-use Rattle.std.proofs.Common.{◌≡◌, pos, cond, to_z, of_z, arith}
-use Rattle.std.specs.Int.{w64}
-use Rattle.std.proofs.lemmas.Int.{ints}
+use Rattle.meeting_sums.proofs.Common.{◌≡◌, pos, cond, to_z, of_z, arith, w64, ints}
 use Rattle.meeting_sums.proofs.AmountLaws.{both_added}
 use Rattle.meeting_sums.proofs.amounts.push_both_if.Goals as goal
 

@@ -1,12 +1,6 @@
 -- Each entry adds its amounts to what the entries before it added.
-use Rattle.std.proofs.Common.{◌≡◌, ◌⊎◌, pos, ◌-ℤ◌, Bool, ◌&&◌, List, take, get_or, to_z, of_z, sym, ◌∙◌, subst, arith}
-use Rattle.std.specs.Int.{w64}
-use Rattle.std.proofs.lemmas.Int.{ints}
-use Rattle.std.proofs.lemmas.List.{take_more, take_all}
-use Rattle.offences.specs.LayoutModel.Technologies.{class_of}
-use Rattle.offences.specs.declared.stacks.PartKind.{PartKind}
-use Rattle.offences.specs.TypedStacks.{kind_in}
-use Rattle.meeting_sums.specs.steps.Counts.{flat_kind, for_both, AddAmounts}
+use Rattle.meeting_sums.proofs.Common.{◌≡◌, ◌⊎◌, pos, ◌-ℤ◌, Bool, ◌&&◌, List, take, get_or, to_z, of_z, sym, ◌∙◌, subst, arith, w64, ints, take_more}
+use Rattle.meeting_sums.proofs.Common.{take_all, class_of, PartKind, kind_in, flat_kind, for_both, AddAmounts}
 use Rattle.meeting_sums.proofs.AmountLaws.{gated, no_entry, contact_first, contact_more}
 use Rattle.meeting_sums.proofs.amounts.push_contact.Goals as goal
 

@@ -1,7 +1,4 @@
-use Rattle.std.proofs.Common.{◌≡◌, ◌⊎◌, ◌&&◌, pos, ◌-ℤ◌, take}
-use Rattle.offences.specs.LayoutModel.Technologies.{class_of}
-use Rattle.offences.specs.TypedStacks.{kind_in}
-use Rattle.meeting_sums.specs.steps.Counts.{flat_kind, for_both, AddAmounts}
+use Rattle.meeting_sums.proofs.Common.{◌≡◌, ◌⊎◌, ◌&&◌, pos, ◌-ℤ◌, take, class_of, kind_in, flat_kind, for_both, AddAmounts}
 use Rattle.meeting_sums.proofs.AmountLaws.{gated}
 use Rattle.meeting_sums.proofs.amounts.push_contact.Given as goal
 

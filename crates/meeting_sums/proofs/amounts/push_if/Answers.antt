@@ -1,7 +1,4 @@
-use Rattle.std.proofs.Common.{◌≡◌, pos, Bool, cond, to_z, of_z, sym, subst, arith}
-use Rattle.std.specs.Int.{w64}
-use Rattle.std.proofs.lemmas.Int.{ints}
-use Rattle.meeting_sums.specs.steps.Counts.{for_group, AddAmounts}
+use Rattle.meeting_sums.proofs.Common.{◌≡◌, pos, Bool, cond, to_z, of_z, sym, subst, arith, w64, ints, for_group, AddAmounts}
 use Rattle.meeting_sums.proofs.AmountLaws.{adds_one}
 use Rattle.meeting_sums.proofs.amounts.push_if.Goals as goal
 

@@ -1,11 +1,6 @@
 -- Each entry adds its amount to what the entries before it added.
-use Rattle.std.proofs.Common.{◌≡◌, pos, ◌-ℤ◌, Bool, List, take, get_or, to_z, of_z, sym, ◌∙◌, subst, arith}
-use Rattle.std.specs.Int.{w64}
-use Rattle.std.proofs.lemmas.Int.{ints}
-use Rattle.std.proofs.lemmas.List.{take_more, take_all}
-use Rattle.offences.specs.LayoutModel.Technologies.{class_of}
-use Rattle.offences.specs.declared.stacks.PartKind.{PartKind}
-use Rattle.meeting_sums.specs.steps.Counts.{flat_kind, for_group, AddAmounts}
+use Rattle.meeting_sums.proofs.Common.{◌≡◌, pos, ◌-ℤ◌, Bool, List, take, get_or, to_z, of_z, sym, ◌∙◌, subst, arith, w64, ints, take_more, take_all}
+use Rattle.meeting_sums.proofs.Common.{class_of, PartKind, flat_kind, for_group, AddAmounts}
 use Rattle.meeting_sums.proofs.AmountLaws.{gated, no_entry, stack_more}
 use Rattle.meeting_sums.proofs.amounts.push_stack.Goals as goal
 

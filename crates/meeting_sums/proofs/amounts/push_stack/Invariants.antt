@@ -1,6 +1,4 @@
-use Rattle.std.proofs.Common.{◌≡◌, take}
-use Rattle.offences.specs.LayoutModel.Technologies.{class_of}
-use Rattle.meeting_sums.specs.steps.Counts.{flat_kind, for_group, AddAmounts}
+use Rattle.meeting_sums.proofs.Common.{◌≡◌, take, class_of, flat_kind, for_group, AddAmounts}
 use Rattle.meeting_sums.proofs.AmountLaws.{gated}
 use Rattle.meeting_sums.proofs.amounts.push_stack.Given as goal
 

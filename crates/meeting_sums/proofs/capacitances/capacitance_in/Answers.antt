@@ -1,6 +1,4 @@
-use Rattle.std.proofs.Common.{◌≡◌, ◌+ℤ◌, to_z, of_z, arith}
-use Rattle.std.specs.Int.{w128}
-use Rattle.std.proofs.lemmas.Int.{ints}
+use Rattle.meeting_sums.proofs.Common.{◌≡◌, ◌+ℤ◌, to_z, of_z, arith, w128, ints}
 use Rattle.meeting_sums.proofs.capacitances.capacitance_in.Goals as goal
 
 pub returns-clause-value : goal.returns-clause-value

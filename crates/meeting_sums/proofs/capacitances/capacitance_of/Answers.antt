@@ -1,9 +1,5 @@
-use Rattle.std.proofs.Common.{◌≡◌, ◌+◌, ◌<◌, ℤ, pos, ◌+ℤ◌, List, length, map, take, get_or, to_z, of_z, ap, sym, ◌∙◌, arith}
-use Rattle.std.specs.Int.{w128}
-use Rattle.std.proofs.lemmas.Int.{ints}
-use Rattle.tech_model.specs.declared.raw.ClassRec.{ClassRec}
-use Rattle.tech_model.specs.declared.raw.RawTech.{RawTech}
-use Rattle.offences.specs.LayoutModel.Technologies.{capacitance, class_of}
+use Rattle.meeting_sums.proofs.Common.{◌≡◌, ◌+◌, ◌<◌, ℤ, pos, ◌+ℤ◌, List, length, map, take, get_or, to_z, of_z, ap, sym, ◌∙◌, arith, w128, ints}
+use Rattle.meeting_sums.proofs.Common.{ClassRec, RawTech, capacitance, class_of}
 use Rattle.meeting_laws.proofs.CellNodes.CapacitanceLaws.{counted_in, capacitance_more}
 use Rattle.meeting_sums.proofs.capacitances.capacitance_of.Goals as goal
 

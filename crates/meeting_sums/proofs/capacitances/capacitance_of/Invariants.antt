@@ -1,5 +1,4 @@
-use Rattle.std.proofs.Common.{◌≡◌, ◌^◌, ◌*◌, take, map, pos, neg_ℤ, ◌≤ℤ◌}
-use Rattle.offences.specs.LayoutModel.Technologies.{capacitance, class_of}
+use Rattle.meeting_sums.proofs.Common.{◌≡◌, ◌^◌, ◌*◌, take, map, pos, neg_ℤ, ◌≤ℤ◌, capacitance, class_of}
 use Rattle.meeting_sums.proofs.capacitances.capacitance_of.Given as goal
 
 abbrev pub invariant-loop-k : goal.invariant-loop-k

@@ -1,6 +1,4 @@
-use Rattle.std.proofs.Common.{◌≡◌, pos, to_z, of_z, arith}
-use Rattle.std.specs.Int.{w128}
-use Rattle.std.proofs.lemmas.Int.{ints}
+use Rattle.meeting_sums.proofs.Common.{◌≡◌, pos, to_z, of_z, arith, w128, ints}
 use Rattle.meeting_sums.proofs.CapacitanceLaws.{product_around}
 use Rattle.meeting_sums.proofs.capacitances.charge.Goals as goal
 

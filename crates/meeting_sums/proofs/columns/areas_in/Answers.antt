@@ -1,8 +1,4 @@
-use Rattle.std.proofs.Common.{◌<◌, sym, subst}
-use Rattle.std.specs.Prelude.{All}
-use Rattle.key_sums.specs.declared.Amount.{Amount}
-use Rattle.offences.specs.LayoutModel.Technologies.{class_of}
-use Rattle.meeting_sums.specs.steps.Counts.{area_beyond}
+use Rattle.meeting_sums.proofs.Common.{◌<◌, sym, subst, All, Amount, class_of, area_beyond}
 use Rattle.meeting_sums.proofs.ColumnLaws.{group_keys}
 use Rattle.meeting_sums.proofs.columns.areas_in.Goals as goal
 

@@ -1,8 +1,4 @@
-use Rattle.std.proofs.Common.{subst}
-use Rattle.tech_model.specs.declared.raw.ClassRec.{ClassRec}
-use Rattle.offences.specs.LayoutModel.Technologies.{class_of}
-use Rattle.meeting_sums.specs.declared.columns.Column.{Column}
-use Rattle.meeting_sums.specs.steps.Counts.{IsColumn}
+use Rattle.meeting_sums.proofs.Common.{subst, ClassRec, class_of, Column, IsColumn}
 use Rattle.meeting_sums.proofs.ColumnLaws.{columns_more}
 use Rattle.meeting_sums.proofs.columns.columns_of.Goals as goal
 

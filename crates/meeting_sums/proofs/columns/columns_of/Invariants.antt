@@ -1,5 +1,4 @@
-use Rattle.std.proofs.Common.{take}
-use Rattle.meeting_sums.specs.steps.Counts.{AreColumns}
+use Rattle.meeting_sums.proofs.Common.{take, AreColumns}
 use Rattle.meeting_sums.proofs.columns.columns_of.Given as goal
 
 abbrev pub invariant-loop-class : goal.invariant-loop-class

@@ -1,9 +1,5 @@
-use Rattle.std.proofs.Common.{◌<◌, pos, ◌-ℤ◌, sym, subst}
-use Rattle.std.specs.Prelude.{All}
-use Rattle.finite_sets.specs.Lists.{In}
-use Rattle.key_sums.specs.declared.Amount.{Amount}
-use Rattle.offences.specs.LayoutModel.Technologies.{class_of}
-use Rattle.meeting_sums.specs.steps.Counts.{alone_beyond, shared_beyond, perimeter_beyond}
+use Rattle.meeting_sums.proofs.Common.{◌<◌, pos, ◌-ℤ◌, sym, subst, All, In, Amount, class_of, shared_beyond, perimeter_beyond}
+use Rattle.meeting_sums.specs.steps.Counts.{alone_beyond}
 use Rattle.meeting_sums.proofs.AmountLaws.{adds_then}
 use Rattle.meeting_sums.proofs.ColumnLaws.{group_keys, alone_less_shared}
 use Rattle.meeting_sums.proofs.StackLaws.{contacts_within, contacts_some}

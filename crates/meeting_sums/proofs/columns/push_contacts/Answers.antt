@@ -1,11 +1,6 @@
-use Rattle.std.proofs.Common.{◌≡◌, pos, ℤ, to_z, of_z, get_or, ap, refl, rules}
-use Rattle.std.specs.Int.{w64}
+use Rattle.meeting_sums.proofs.Common.{◌≡◌, pos, ℤ, to_z, of_z, get_or, ap, refl, rules, w64, get_or_default, Contact, class_of, PlaneStack}
+use Rattle.meeting_sums.proofs.Common.{no_piece}
 use Rattle.std.proofs.lemmas.Int.{to_z-of_z}
-use Rattle.std.proofs.lemmas.List.{get_or_default}
-use Rattle.rect_contacts.specs.declared.contacts.Contact.{Contact}
-use Rattle.offences.specs.LayoutModel.Technologies.{class_of}
-use Rattle.offences.specs.declared.plane_stacks.PlaneStack.{PlaneStack}
-use Rattle.meeting_sums.specs.steps.Counts.{no_piece}
 use Rattle.meeting_sums.proofs.StackLaws.{contact_adds}
 use Rattle.meeting_sums.proofs.columns.push_contacts.Goals as goal
 

@@ -1,8 +1,4 @@
-use Rattle.std.proofs.Common.{pos, ◌-ℤ◌, take}
-use Rattle.finite_sets.specs.Lists.{In}
-use Rattle.finite_sets.specs.Total.{sum_on}
-use Rattle.offences.specs.LayoutModel.Technologies.{class_of}
-use Rattle.meeting_sums.specs.steps.Counts.{contact_counted, AddAmounts}
+use Rattle.meeting_sums.proofs.Common.{pos, ◌-ℤ◌, take, In, sum_on, class_of, contact_counted, AddAmounts}
 use Rattle.meeting_sums.proofs.columns.push_contacts.Given as goal
 
 abbrev pub invariant-loop-contact : goal.invariant-loop-contact

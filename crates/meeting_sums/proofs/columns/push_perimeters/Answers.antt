@@ -1,8 +1,4 @@
-use Rattle.std.proofs.Common.{◌≡◌, to_z, of_z, ◌∙◌, arith}
-use Rattle.std.specs.Int.{w64}
-use Rattle.std.proofs.lemmas.Int.{ints}
-use Rattle.rect_contacts.specs.Squares.{perimeter_of}
-use Rattle.offences.specs.LayoutModel.Technologies.{class_of}
+use Rattle.meeting_sums.proofs.Common.{◌≡◌, to_z, of_z, ◌∙◌, arith, w64, ints, perimeter_of, class_of}
 use Rattle.meeting_sums.proofs.StackLaws.{read_proper, read_near, perimeter_not_negative, piece_adds}
 use Rattle.meeting_sums.proofs.columns.push_perimeters.Goals as goal
 

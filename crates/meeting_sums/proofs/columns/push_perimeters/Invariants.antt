@@ -1,8 +1,5 @@
-use Rattle.std.specs.List.{range_with_len}
-use Rattle.finite_sets.specs.Lists.{In}
-use Rattle.finite_sets.specs.Total.{sum_on}
-use Rattle.offences.specs.LayoutModel.Technologies.{class_of}
-use Rattle.meeting_sums.specs.steps.Counts.{perimeter_counted, AddAmounts}
+use Rattle.meeting_sums.proofs.Common.{range_with_len, In, sum_on, class_of, AddAmounts}
+use Rattle.meeting_sums.specs.steps.Counts.{perimeter_counted}
 use Rattle.meeting_sums.proofs.columns.push_perimeters.Given as goal
 
 abbrev pub invariant-loop-place : goal.invariant-loop-place

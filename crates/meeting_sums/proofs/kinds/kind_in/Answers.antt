@@ -1,6 +1,4 @@
-use Rattle.std.proofs.Common.{sym, ap, ◌∙◌, arith}
-use Rattle.std.proofs.lemmas.List.{get_or_default}
-use Rattle.offences.specs.declared.stacks.PartKind.{PartKind}
+use Rattle.meeting_sums.proofs.Common.{sym, ap, ◌∙◌, arith, get_or_default, PartKind}
 use Rattle.meeting_sums.proofs.KindLaws.{kind_at_cut, none_at_cut}
 use Rattle.meeting_sums.proofs.kinds.kind_in.Goals as goal
 use Rattle.meeting_sums.proofs.kinds.kind_in.Goals.{else-place-kinds-via-then-place-kinds+else-kinds-place, else-place-kinds-via-else-place-kinds}

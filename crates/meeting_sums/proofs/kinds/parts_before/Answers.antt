@@ -1,9 +1,8 @@
-use Rattle.std.proofs.Common.{◌≡◌, ◌+◌, ◌<◌, ◌≤◌, true, false, sym, subst, length, get_or, arith, rules}
+use Rattle.meeting_sums.proofs.Common.{◌≡◌, ◌+◌, ◌<◌, ◌≤◌, true, false, sym, subst, length, get_or, arith, rules, get_or-take, get_or-drop}
+use Rattle.meeting_sums.proofs.Common.{length-take, length-drop, PartKind}
 use Rattle.std.specs.Prelude.{nat_lt}
 use Rattle.std.proofs.lemmas.Bool.Decides.{nat_tests}
-use Rattle.std.proofs.lemmas.List.{get_or-take, get_or-drop, length-take, length-drop}
 use Rattle.std.proofs.lemmas.List.Sorted.{IsPartitionPoint-from_clause, IsPartitionedBy-ltb}
-use Rattle.offences.specs.declared.stacks.PartKind.{PartKind}
 use Rattle.meeting_sums.proofs.KindLaws.{rising_parts}
 use Rattle.meeting_sums.proofs.kinds.parts_before.Goals as goal
 

@@ -1,5 +1,4 @@
-use Rattle.std.proofs.Common.{◌≡◌, take}
-use Rattle.meeting_sums.specs.steps.Counts.{pairs_at}
+use Rattle.meeting_sums.proofs.Common.{◌≡◌, take, pairs_at}
 use Rattle.meeting_sums.proofs.sums.measures_of.Given as goal
 
 abbrev pub invariant-loop-column : goal.invariant-loop-column

@@ -1,11 +1,6 @@
 -- There is a column for each class, and a sum of them for each group.
-use Rattle.std.proofs.Common.{◌<◌, List, length, sym, ◌∙◌, ap, subst, arith}
-use Rattle.std.specs.Prelude.{All}
-use Rattle.tech_model.specs.declared.raw.ClassRec.{ClassRec}
-use Rattle.tech_model.specs.declared.raw.RawTech.{RawTech}
-use Rattle.offences.specs.declared.plane_stacks.PlaneStack.{PlaneStack}
-use Rattle.meeting_sums.specs.declared.columns.Column.{Column}
-use Rattle.meeting_sums.specs.steps.Counts.{AreColumns, IsSmallSum, pairs_at}
+use Rattle.meeting_sums.proofs.Common.{◌<◌, List, length, sym, ◌∙◌, ap, subst, arith, All, ClassRec, RawTech, PlaneStack, Column, AreColumns}
+use Rattle.meeting_sums.proofs.Common.{IsSmallSum, pairs_at}
 use Rattle.meeting_sums.proofs.ColumnLaws.{areas_long, perimeters_long}
 use Rattle.meeting_sums.proofs.GroupLaws.{sums_are}
 use Rattle.meeting_sums.proofs.SmallLaws.{pairs_small}

@@ -1,4 +1,4 @@
-use Rattle.std.proofs.Common.{◌≡◌, ℕ, ◌<◌, length, get_or}
+use Rattle.meeting_sums.proofs.Common.{◌≡◌, ℕ, ◌<◌, length, get_or}
 use Rattle.meeting_sums.specs.Sums.{IsSumOf}
 use Rattle.meeting_sums.proofs.ColumnLaws.{no_sum}
 use Rattle.meeting_sums.proofs.sums.meeting_sums.Given as goal

@@ -1,11 +1,5 @@
-use Rattle.std.proofs.Common.{ℕ, List, length, sym, ◌∙◌, ap, subst}
-use Rattle.full_names.specs.ElementTree.declared.tree.TreeElement.{TreeElement}
-use Rattle.full_names.specs.ElementTree.declared.tree.ElementTree.{ElementTree}
-use Rattle.full_names.specs.Names.{elements_in}
-use Rattle.name_classes.specs.declared.links.RecordLinks.{RecordLinks}
-use Rattle.name_classes.specs.Classes.{AreLabels}
-use Rattle.name_classes.specs.steps.Links.{AreFirsts}
-use Rattle.name_classes.specs.steps.Joins.{AreJoined}
+use Rattle.name_classes.proofs.Common.{ℕ, List, length, sym, ◌∙◌, ap, subst, TreeElement, ElementTree, elements_in, RecordLinks, AreLabels}
+use Rattle.name_classes.proofs.Common.{AreFirsts, AreJoined}
 use Rattle.name_classes.proofs.SeenLaws.{all_sound}
 use Rattle.name_classes.proofs.ClassLaws.{labels_made, firsts_long, ends_made}
 use Rattle.name_classes.proofs.classes.name_classes.Goals as goal

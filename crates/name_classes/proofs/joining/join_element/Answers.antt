@@ -1,8 +1,4 @@
-use Rattle.std.proofs.Common.{List, ◌++◌, ◌∙◌, subst}
-use Rattle.partition.specs.FiniteSets.Lists.{In}
-use Rattle.partition.proofs.FiniteSets.Members.{In-append_left, In-append_right}
-use Rattle.name_classes.specs.declared.links.Link.{Link}
-use Rattle.name_classes.specs.steps.Joins.{AddsJoins, once_at}
+use Rattle.name_classes.proofs.Common.{List, ◌++◌, ◌∙◌, subst, In, In-append_left, In-append_right, Link, AddsJoins, once_at}
 use Rattle.name_classes.proofs.JoinLaws.{adds_append}
 use Rattle.name_classes.proofs.joining.join_element.Goals as goal
 

@@ -1,4 +1,4 @@
-use Rattle.std.proofs.Common.{◌+◌, arith}
+use Rattle.name_classes.proofs.Common.{◌+◌, arith}
 use Rattle.name_classes.proofs.JoinLaws.{gives_within, spot_within, adds_one}
 use Rattle.name_classes.proofs.joining.join_link.Goals as goal
 

@@ -1,8 +1,4 @@
-use Rattle.std.proofs.Common.{List, ◌∷◌, [], take, sym, ◌∙◌, subst}
-use Rattle.std.proofs.lemmas.Option.{slice_get-get_or}
-use Rattle.partition.proofs.FiniteSets.Places.{In-slice_get, take-slice_get}
-use Rattle.name_classes.specs.declared.links.Link.{Link}
-use Rattle.name_classes.specs.steps.Joins.{AddsJoins}
+use Rattle.name_classes.proofs.Common.{List, ◌∷◌, [], take, sym, ◌∙◌, subst, slice_get-get_or, In-slice_get, take-slice_get, Link, AddsJoins}
 use Rattle.name_classes.proofs.JoinLaws.{adds_none, adds_append}
 use Rattle.name_classes.proofs.joining.join_links.Goals as goal
 

@@ -1,5 +1,4 @@
-use Rattle.std.proofs.Common.{take}
-use Rattle.name_classes.specs.steps.Joins.{AddsJoins}
+use Rattle.name_classes.proofs.Common.{take, AddsJoins}
 use Rattle.name_classes.proofs.joining.join_links.Given as goal
 
 abbrev pub invariant-loop-link : goal.invariant-loop-link

@@ -1,7 +1,5 @@
-use Rattle.std.proofs.Common.{◌≡◌, ◌<◌, List, length, get_or, refl, sym, ◌∙◌, ap, arith}
-use Rattle.std.specs.Prelude.{Some, slice_get}
-use Rattle.std.proofs.lemmas.Option.{slice_get-get_or, slice_get_read, slice_get_within}
-use Rattle.full_names.specs.ElementTree.declared.tree.TreeElement.{TreeElement}
+use Rattle.name_classes.proofs.Common.{◌≡◌, ◌<◌, List, length, get_or, refl, sym, ◌∙◌, ap, arith, Some, slice_get, slice_get-get_or, slice_get_read}
+use Rattle.name_classes.proofs.Common.{slice_get_within, TreeElement}
 use Rattle.name_classes.proofs.RecordLaws.{no_element}
 use Rattle.name_classes.proofs.EndLaws.{ends_here, joined_next}
 use Rattle.name_classes.proofs.joining.joined.Goals as goal

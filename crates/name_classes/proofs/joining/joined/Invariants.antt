@@ -1,5 +1,4 @@
-use Rattle.std.proofs.Common.{◌≡◌, length}
-use Rattle.name_classes.specs.steps.Joins.{AreJoined}
+use Rattle.name_classes.proofs.Common.{◌≡◌, length, AreJoined}
 use Rattle.name_classes.proofs.joining.joined.Given as goal
 
 abbrev pub invariant-loop-number : goal.invariant-loop-number

@@ -1,5 +1,4 @@
-use Rattle.std.proofs.Common.{take}
-use Rattle.name_classes.specs.steps.Links.{AreFirsts}
+use Rattle.name_classes.proofs.Common.{take, AreFirsts}
 use Rattle.name_classes.proofs.links.all_firsts.Given as goal
 
 abbrev pub invariant-loop-links : goal.invariant-loop-links

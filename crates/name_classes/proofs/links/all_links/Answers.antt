@@ -1,12 +1,7 @@
-use Rattle.std.proofs.Common.{◌≡◌, ◌⊎◌, ◌<◌, ℕ, List, length, get_or, inl, inr, refl, ◌∙◌, ap, arith}
+use Rattle.name_classes.proofs.Common.{◌≡◌, ◌⊎◌, ◌<◌, ℕ, List, length, get_or, inl, inr, refl, ◌∙◌, ap, arith, slice_get_read, Some, slice_get}
+use Rattle.name_classes.proofs.Common.{Memory, CellExt, TreeElement, ElementTree, IsPathFaultOf}
 use Rattle.std.proofs.lemmas.List.{length-replicate}
-use Rattle.std.proofs.lemmas.Option.{slice_get_read}
-use Rattle.std.specs.Prelude.{Bool, true, false, Some, slice_get, replicate}
-use Rattle.circuit_model.specs.declared.faults.FlatFault.TheVariants.{Memory}
-use Rattle.ext_model.specs.declared.records.CellExt.{CellExt}
-use Rattle.full_names.specs.ElementTree.declared.tree.TreeElement.{TreeElement}
-use Rattle.full_names.specs.ElementTree.declared.tree.ElementTree.{ElementTree}
-use Rattle.name_classes.specs.Classes.{IsPathFaultOf}
+use Rattle.std.specs.Prelude.{Bool, true, false, replicate}
 use Rattle.name_classes.proofs.FaultLaws.{err_same}
 use Rattle.name_classes.proofs.RecordLaws.{no_element, stands_read, cell_read}
 use Rattle.name_classes.proofs.SeenLaws.{seen_start, seen_next, seen_set, seen_end, seen_fault, written}

@@ -1,9 +1,5 @@
-use Rattle.std.proofs.Common.{◌≡◌, ◌⊎◌, List, length, take, refl, sym, subst}
-use Rattle.std.proofs.lemmas.Option.{slice_get_read}
-use Rattle.partition.proofs.FiniteSets.Places.{take-slice_get}
-use Rattle.ext_model.specs.declared.records.MergeRec.{MergeRec}
-use Rattle.circuit_model.specs.declared.faults.FlatFault.TheVariants.{Memory}
-use Rattle.name_classes.specs.steps.Links.{AreMergeLinks, IsMergeFault}
+use Rattle.name_classes.proofs.Common.{◌≡◌, ◌⊎◌, List, length, take, refl, sym, subst, slice_get_read, take-slice_get, MergeRec, Memory}
+use Rattle.name_classes.proofs.Common.{AreMergeLinks, IsMergeFault}
 use Rattle.name_classes.proofs.FaultLaws.{err_same, path_sound, first_faulty, second_faulty, merges_refused, merge_added}
 use Rattle.name_classes.proofs.links.merge_links.Goals as goal
 

@@ -1,5 +1,4 @@
-use Rattle.std.proofs.Common.{take}
-use Rattle.name_classes.specs.steps.Links.{AreMergeLinks}
+use Rattle.name_classes.proofs.Common.{take, AreMergeLinks}
 use Rattle.name_classes.proofs.links.merge_links.Given as goal
 
 abbrev pub invariant-loop-merge : goal.invariant-loop-merge

@@ -1,4 +1,4 @@
-use Rattle.std.proofs.Common.{◌≡◌, length}
+use Rattle.name_classes.proofs.Common.{◌≡◌, length}
 use Rattle.name_classes.proofs.links.no_links.Given as goal
 
 abbrev pub invariant-loop : goal.invariant-loop

@@ -1,8 +1,4 @@
-use Rattle.std.proofs.Common.{List, length, take, refl, sym, subst}
-use Rattle.std.proofs.lemmas.Option.{slice_get_read}
-use Rattle.partition.proofs.FiniteSets.Places.{In-slice_get, take-slice_get}
-use Rattle.ext_model.specs.declared.records.NodeRec.{NodeRec}
-use Rattle.name_classes.specs.steps.Links.{AreNodeLinks}
+use Rattle.name_classes.proofs.Common.{List, length, take, refl, sym, subst, slice_get_read, In-slice_get, take-slice_get, NodeRec, AreNodeLinks}
 use Rattle.name_classes.proofs.LinkLaws.{no_nodes, node_added}
 use Rattle.name_classes.proofs.links.node_links.Goals as goal
 

@@ -1,5 +1,4 @@
-use Rattle.std.proofs.Common.{take}
-use Rattle.name_classes.specs.steps.Links.{AreNodeLinks}
+use Rattle.name_classes.proofs.Common.{take, AreNodeLinks}
 use Rattle.name_classes.proofs.links.node_links.Given as goal
 
 abbrev pub invariant-loop-node : goal.invariant-loop-node

@@ -1,4 +1,4 @@
-use Rattle.std.proofs.Common.{arith}
+use Rattle.name_classes.proofs.Common.{arith}
 use Rattle.name_classes.proofs.RecordLaws.{cell_read, record_read}
 use Rattle.name_classes.proofs.links.record_links.Goals as goal
 

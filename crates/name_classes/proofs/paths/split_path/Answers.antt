@@ -1,4 +1,4 @@
-use Rattle.std.proofs.Common.{sym}
+use Rattle.name_classes.proofs.Common.{sym}
 use Rattle.name_classes.proofs.SplitLaws.{split_at_slash, no_slash}
 use Rattle.name_classes.proofs.paths.split_path.Goals as goal
 

@@ -1,10 +1,5 @@
-use Rattle.std.proofs.Common.{List, ◌∷◌, [], ◌++◌, take, length, refl, sym, subst}
-use Rattle.std.proofs.lemmas.Option.{slice_get_read}
-use Rattle.partition.proofs.FiniteSets.Places.{take-slice_get}
-use Rattle.ext_model.specs.declared.records.UseRec.{UseRec}
-use Rattle.ext_model.specs.declared.records.CellExt.{CellExt}
-use Rattle.name_classes.specs.declared.tables.UseTable.{UseTable}
-use Rattle.name_classes.specs.steps.UseTables.{AreUseTables, IsTableOf}
+use Rattle.name_classes.proofs.Common.{List, ◌∷◌, [], ◌++◌, take, length, refl, sym, subst, slice_get_read, take-slice_get, UseRec, CellExt}
+use Rattle.name_classes.proofs.Common.{UseTable, AreUseTables, IsTableOf}
 use Rattle.name_classes.proofs.TableLaws.{tables_push}
 use Rattle.name_classes.proofs.tables.use_tables.Goals as goal
 

@@ -1,5 +1,4 @@
-use Rattle.std.proofs.Common.{take}
-use Rattle.name_classes.specs.steps.UseTables.{AreUseTables}
+use Rattle.name_classes.proofs.Common.{take, AreUseTables}
 use Rattle.name_classes.proofs.tables.use_tables.Given as goal
 
 abbrev pub invariant-loop-ext : goal.invariant-loop-ext

@@ -1,8 +1,4 @@
-use Rattle.std.proofs.Common.{subst, arith}
-use Rattle.std.proofs.lemmas.List.{get_or_read}
-use Rattle.tech_model.specs.declared.raw.Label.{Label}
-use Rattle.names.specs.Attachments.{no_label}
-use Rattle.names.specs.steps.TakenLabels.{IsAttachment}
+use Rattle.names.proofs.Common.{subst, arith, get_or_read, Label, no_label, IsAttachment}
 use Rattle.names.proofs.AttachmentLists.{attachments_more, attachments_all}
 use Rattle.names.proofs.attaching.attachments.Goals as goal
 

@@ -1,10 +1,5 @@
-use Rattle.std.proofs.Common.{◌≡◌, false, sym, ◌∙◌, ap}
+use Rattle.names.proofs.Common.{◌≡◌, false, sym, ◌∙◌, ap, Rect, Square, has_square, common_rect, corner_of, touched, stands_earlier}
 use Rattle.std.proofs.lemmas.Bool.{not-true}
-use Rattle.geo_core.specs.declared.squares.Rect.{Rect}
-use Rattle.geo_core.specs.declared.squares.Square.{Square}
-use Rattle.geo_core.specs.Areas.{has_square, common_rect, corner_of}
-use Rattle.names.specs.Attachments.{touched}
-use Rattle.names.specs.steps.TakenLabels.{stands_earlier}
 use Rattle.names.proofs.TakingLaws.{beaten_apart, beaten_later}
 use Rattle.names.proofs.attaching.is_beaten.Goals as goal
 

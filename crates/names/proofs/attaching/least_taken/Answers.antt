@@ -1,5 +1,4 @@
-use Rattle.std.proofs.Common.{get_or, refl, arith}
-use Rattle.flood_nodes.specs.TileShares.{tile_at}
+use Rattle.names.proofs.Common.{get_or, refl, arith, tile_at}
 use Rattle.names.proofs.BlockLaws.{no_block}
 use Rattle.names.proofs.TakingLaws.{taken_none, taken_more, taken_past, taken_all}
 use Rattle.names.proofs.attaching.least_taken.Goals as goal

@@ -1,4 +1,5 @@
-use Rattle.std.proofs.Common.{◌≤◌, ◌-◌, length}
+use Rattle.names.proofs.Common.{◌≤◌, length}
+use Rattle.std.proofs.Common.{◌-◌}
 use Rattle.names.specs.steps.TakenLabels.{IsLeastTaken}
 use Rattle.names.proofs.TakingLaws.{IsSeen}
 use Rattle.names.proofs.attaching.least_taken.Given as goal

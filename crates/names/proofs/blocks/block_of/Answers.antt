@@ -1,4 +1,4 @@
-use Rattle.std.proofs.Common.{◌∙◌}
+use Rattle.names.proofs.Common.{◌∙◌}
 use Rattle.names.proofs.BlockLaws.{within_more}
 use Rattle.names.proofs.blocks.block_of.Goals as goal
 

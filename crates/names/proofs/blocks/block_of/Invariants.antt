@@ -1,5 +1,4 @@
-use Rattle.std.proofs.Common.{◌≡◌, ◌≤◌, ◌<◌, ℕ}
-use Rattle.flood_nodes.specs.TileShares.{tile_at}
+use Rattle.names.proofs.Common.{◌≡◌, ◌≤◌, ◌<◌, ℕ, tile_at}
 use Rattle.names.specs.steps.Blocks.{IsWithinBlock}
 use Rattle.names.proofs.blocks.block_of.Given as goal
 

@@ -1,14 +1,6 @@
-use Rattle.std.proofs.Common.{ap, subst, arith}
-use Rattle.std.specs.Ordering.{nat_cmp}
-use Rattle.std.specs.Option.{option_map}
-use Rattle.std.specs.Cmp.Lexicographic.{slice_cmp}
-use Rattle.std.specs.BTreeMap.{get, is_at}
+use Rattle.names.proofs.Common.{ap, subst, arith, nat_cmp, option_map, slice_cmp, get, is_at, get_or_read, Label, Attachment, no_label, text_at}
+use Rattle.names.proofs.Common.{region_found, IsCounted}
 use Rattle.std.specs.Map.{lookup}
-use Rattle.std.proofs.lemmas.List.{get_or_read}
-use Rattle.tech_model.specs.declared.raw.Label.{Label}
-use Rattle.names.specs.declared.attaching.Attachment.{Attachment}
-use Rattle.names.specs.Attachments.{no_label}
-use Rattle.names.specs.steps.CountedLabels.{text_at, region_found, IsCounted}
 use Rattle.names.proofs.CountingLaws.{counted_none, counted_nowhere, counted_one, counted_all}
 use Rattle.names.proofs.counting.count_labels.Goals as goal
 use Rattle.names.proofs.counting.count_labels.Goals.{in-None, in-Some+in_ok-region-in-Some}

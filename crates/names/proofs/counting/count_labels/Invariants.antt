@@ -1,7 +1,4 @@
-use Rattle.std.specs.Ordering.{nat_cmp}
-use Rattle.std.specs.Cmp.Lexicographic.{slice_cmp}
-use Rattle.std.specs.BTreeMap.{get}
-use Rattle.names.specs.steps.CountedLabels.{text_at, region_found}
+use Rattle.names.proofs.Common.{nat_cmp, slice_cmp, get, text_at, region_found}
 use Rattle.names.proofs.CountingLaws.{HasCounted}
 use Rattle.names.proofs.counting.count_labels.Given as goal
 

@@ -1,4 +1,4 @@
-use Rattle.std.proofs.Common.{◌∙◌}
+use Rattle.names.proofs.Common.{◌∙◌}
 use Rattle.names.proofs.TextMaps.{apart_from_test}
 use Rattle.names.proofs.counting.first_region.Goals as goal
 

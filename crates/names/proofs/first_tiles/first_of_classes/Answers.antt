@@ -1,7 +1,4 @@
-use Rattle.std.proofs.Common.{◌<◌, sym, ◌∙◌, arith}
-use Rattle.std.proofs.lemmas.Bool.{false≢true}
-use Rattle.flood_nodes.specs.TileShares.{tile_at, no_tile}
-use Rattle.names.specs.steps.FirstTiles.{class_of}
+use Rattle.names.proofs.Common.{◌<◌, sym, ◌∙◌, arith, false≢true, tile_at, no_tile, class_of}
 use Rattle.names.proofs.FirstTileLaws.{marked_none, marked_again, marked_new, firsts_none, firsts_again, firsts_new, firsts_all}
 use Rattle.names.proofs.first_tiles.first_of_classes.Goals as goal
 use Rattle.names.proofs.first_tiles.first_of_classes.Goals.{then-not-index+in_ok-push, else-not-index}

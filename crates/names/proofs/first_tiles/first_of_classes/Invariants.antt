@@ -1,4 +1,4 @@
-use Rattle.names.specs.steps.FirstTiles.{AreFirstTiles}
+use Rattle.names.proofs.Common.{AreFirstTiles}
 use Rattle.names.proofs.FirstTileLaws.{AreMarked}
 use Rattle.names.proofs.TakingLaws.{IsSeen}
 use Rattle.names.proofs.first_tiles.first_of_classes.Given as goal

@@ -1,10 +1,5 @@
-use Rattle.std.proofs.Common.{◌<◌, List, length, sym, subst, Vec, Global}
-use Rattle.std.specs.Prelude.{All}
+use Rattle.names.proofs.Common.{◌<◌, List, length, sym, subst, Vec, Global, All, IfOk-weaker, In, RegionTile, AreFirstTiles}
 use Rattle.std.proofs.lemmas.List.Sorted.{All-permutation}
-use Rattle.std.proofs.lemmas.Result.{IfOk-weaker}
-use Rattle.geo_core.specs.FiniteSets.Lists.{In}
-use Rattle.layout_model.specs.declared.region_tiles.RegionTile.{RegionTile}
-use Rattle.names.specs.steps.FirstTiles.{AreFirstTiles}
 use Rattle.names.proofs.FirstTileLaws.{firsts_moved}
 use Rattle.names.proofs.first_tiles.first_tiles.Goals as goal
 

@@ -1,5 +1,4 @@
-use Rattle.std.proofs.Common.{rules}
-use Rattle.std.proofs.lemmas.List.Sorted.{answers_always}
+use Rattle.names.proofs.Common.{rules, answers_always}
 use Rattle.names.proofs.FirstTileLaws.{place_key, sorted_places}
 use Rattle.names.proofs.first_tiles.in_place_order.Goals as goal
 

@@ -1,4 +1,4 @@
-use Rattle.std.proofs.Common.{◌≡◌, ◌<◌, ℕ, [], length, get_or, Vec, Global}
+use Rattle.names.proofs.Common.{◌≡◌, ◌<◌, ℕ, [], length, get_or, Vec, Global}
 use Rattle.names.proofs.groups.empty_groups.Given as goal
 
 abbrev pub invariant-loop : goal.invariant-loop

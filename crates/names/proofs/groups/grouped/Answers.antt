@@ -1,5 +1,4 @@
-use Rattle.std.proofs.Common.{◌<◌, ℕ, None, arith}
-use Rattle.names.specs.steps.Groups.{key_at}
+use Rattle.names.proofs.Common.{◌<◌, ℕ, None, arith, key_at}
 use Rattle.names.proofs.GroupLaws.{groups_from_empty, groups_same, groups_more, groups_all, IfSome_at}
 use Rattle.names.proofs.groups.grouped.Goals as goal
 use Rattle.names.proofs.groups.grouped.Goals.{in-Some+in_ok-push_member, in_default}

@@ -1,4 +1,4 @@
-use Rattle.names.specs.steps.Groups.{key_at, AreGroupsBy}
+use Rattle.names.proofs.Common.{key_at, AreGroupsBy}
 use Rattle.names.proofs.groups.grouped.Given as goal
 
 abbrev pub invariant-loop-member : goal.invariant-loop-member

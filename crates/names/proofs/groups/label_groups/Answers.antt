@@ -1,6 +1,4 @@
-use Rattle.std.proofs.Common.{ℕ, length, ◌∙◌, Vec, Global}
-use Rattle.std.proofs.lemmas.Result.{IfOk-weaker}
-use Rattle.names.specs.steps.Groups.{AreGroups, AreGroupsBy, label_key}
+use Rattle.names.proofs.Common.{ℕ, length, ◌∙◌, Vec, Global, IfOk-weaker, AreGroups, AreGroupsBy, label_key}
 use Rattle.names.proofs.GroupLaws.{groups_of_labels, label_keys_below}
 use Rattle.names.proofs.groups.label_groups.Goals as goal
 

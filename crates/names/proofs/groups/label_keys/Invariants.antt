@@ -1,5 +1,4 @@
-use Rattle.std.proofs.Common.{◌≡◌, map, take}
-use Rattle.names.specs.steps.Groups.{class_in}
+use Rattle.names.proofs.Common.{◌≡◌, map, take, class_in}
 use Rattle.names.proofs.groups.label_keys.Given as goal
 
 abbrev pub invariant-loop-region : goal.invariant-loop-region

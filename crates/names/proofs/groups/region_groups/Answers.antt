@@ -1,6 +1,4 @@
-use Rattle.std.proofs.Common.{ℕ, length, ◌∙◌, Vec, Global}
-use Rattle.std.proofs.lemmas.Result.{IfOk-weaker}
-use Rattle.names.specs.steps.Groups.{AreGroups, AreGroupsBy, region_key}
+use Rattle.names.proofs.Common.{ℕ, length, ◌∙◌, Vec, Global, IfOk-weaker, AreGroups, AreGroupsBy, region_key}
 use Rattle.names.proofs.GroupLaws.{groups_of_regions, region_keys_below}
 use Rattle.names.proofs.groups.region_groups.Goals as goal
 

@@ -1,8 +1,6 @@
-use Rattle.std.proofs.Common.{rules}
+use Rattle.names.proofs.Common.{rules, answers_always, name_cmp, name_cmp_total}
 use Rattle.std.specs.Ordering.{is_lt}
-use Rattle.std.proofs.lemmas.List.Sorted.{ranks_by, answers_always}
-use Rattle.ext_model.specs.NameOrder.{name_cmp}
-use Rattle.ext_model.proofs.NameOrders.{name_cmp_total}
+use Rattle.std.proofs.lemmas.List.Sorted.{ranks_by}
 use Rattle.names.proofs.naming.in_name_order.Goals as goal
 
 pub returns-clause-sorted : goal.returns-clause-sorted

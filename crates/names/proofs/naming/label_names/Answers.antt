@@ -1,4 +1,5 @@
-use Rattle.std.proofs.Common.{nat_eq, sym}
+use Rattle.names.proofs.Common.{sym}
+use Rattle.std.proofs.Common.{nat_eq}
 use Rattle.std.specs.Cmp.Lexicographic.{pointwise, same_text}
 use Rattle.std.proofs.lemmas.Cmp.{nat_list_eq_equiv}
 use Rattle.std.proofs.lemmas.List.Filters.{dedup_is}

@@ -1,5 +1,4 @@
-use Rattle.std.proofs.Common.{◌≡◌, map, take}
-use Rattle.names.specs.steps.CountedLabels.{text_at}
+use Rattle.names.proofs.Common.{◌≡◌, map, take, text_at}
 use Rattle.names.proofs.naming.texts_at.Given as goal
 
 abbrev pub invariant-loop-index : goal.invariant-loop-index

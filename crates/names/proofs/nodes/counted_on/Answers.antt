@@ -1,9 +1,5 @@
-use Rattle.std.proofs.Common.{List, Option, length, subst}
-use Rattle.std.proofs.lemmas.Result.{IfOk-weaker}
-use Rattle.layout_model.specs.declared.region_tiles.RegionTile.{RegionTile}
-use Rattle.names.specs.declared.attaching.Attachment.{Attachment}
+use Rattle.names.proofs.Common.{List, Option, length, subst, IfOk-weaker, RegionTile, Attachment, AreCounted, AreCountedOn, text_at, region_found}
 use Rattle.names.specs.declared.counting.Counted.{Counted}
-use Rattle.names.specs.steps.CountedLabels.{AreCounted, AreCountedOn, text_at, region_found}
 use Rattle.names.specs.steps.TakenLabels.{AreAttachments}
 use Rattle.names.proofs.AttachmentLists.{attachments_moved}
 use Rattle.names.proofs.nodes.counted_on.Goals as goal

@@ -1,14 +1,5 @@
-use Rattle.std.proofs.Common.{◌≡◌, ◌<◌, ℕ, List, Option, None, length, IsTrue, sym, subst, arith}
-use Rattle.std.specs.Prelude.{All, IfSome}
-use Rattle.geo_core.specs.FiniteSets.Lists.{In}
-use Rattle.partition.specs.Divides.{Divides, IsPair}
-use Rattle.tech_model.specs.Types.{is_type}
-use Rattle.layout_model.specs.declared.region_tiles.RegionTile.{RegionTile}
-use Rattle.names.specs.Attachments.{AreUnattached, AreTextsOf}
-use Rattle.names.specs.steps.CountedLabels.{AreCountedOn}
-use Rattle.names.specs.steps.FirstTiles.{AreFirstTiles}
-use Rattle.names.specs.steps.Groups.{AreNodesOf, key_at}
-use Rattle.names.specs.NamedNodes.{AreNamedNodes}
+use Rattle.names.proofs.Common.{◌≡◌, ◌<◌, ℕ, List, Option, None, length, IsTrue, sym, subst, arith, All, IfSome, In, Divides, IsPair, is_type}
+use Rattle.names.proofs.Common.{RegionTile, AreUnattached, AreTextsOf, AreCountedOn, AreFirstTiles, AreNodesOf, key_at, AreNamedNodes}
 use Rattle.names.proofs.AttachmentLists.{pairs_below, named_below, firsts_have}
 use Rattle.names.proofs.NamedNodeLaws.{named_nodes_are, unattached_are}
 use Rattle.names.proofs.nodes.name_nodes.Goals as goal

@@ -1,8 +1,5 @@
-use Rattle.std.proofs.Common.{◌<◌, List, ℕ, Vec, Global, length, sym, subst}
-use Rattle.std.specs.Prelude.{All}
-use Rattle.std.proofs.lemmas.Result.{IfOk-weaker}
-use Rattle.names.specs.declared.nodes.NamedNode.{NamedNode}
-use Rattle.names.specs.steps.Groups.{AreGroupsBy, AreNodesOn, AreNodesOf, region_key, label_key}
+use Rattle.names.proofs.Common.{◌<◌, List, ℕ, Vec, Global, length, sym, subst, All, IfOk-weaker, NamedNode, AreGroupsBy, AreNodesOn, AreNodesOf}
+use Rattle.names.proofs.Common.{region_key, label_key}
 use Rattle.names.proofs.GroupLaws.{members_below}
 use Rattle.names.proofs.NodeLists.{nodes_of_classes}
 use Rattle.names.proofs.nodes.nodes_of.Goals as goal

@@ -1,9 +1,5 @@
-use Rattle.std.proofs.Common.{◌≡◌, ◌<◌, List, ℕ, Vec, Global, length, get_or, sym, ◌∙◌, ap, subst, arith}
-use Rattle.std.specs.Prelude.{All}
-use Rattle.std.proofs.lemmas.List.{get_or_default}
-use Rattle.flood_nodes.specs.TileShares.{tile_at, no_tile}
-use Rattle.names.specs.steps.FirstTiles.{class_of}
-use Rattle.names.specs.steps.Groups.{IsNodeOn}
+use Rattle.names.proofs.Common.{◌≡◌, ◌<◌, List, ℕ, Vec, Global, length, get_or, sym, ◌∙◌, ap, subst, arith, All, get_or_default, tile_at, no_tile}
+use Rattle.names.proofs.Common.{class_of, IsNodeOn}
 use Rattle.names.proofs.NodeLists.{nodes_more, nodes_all}
 use Rattle.names.proofs.nodes.nodes_on.Goals as goal
 

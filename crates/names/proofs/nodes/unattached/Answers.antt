@@ -1,10 +1,5 @@
-use Rattle.std.proofs.Common.{◌≡◌, ◌++◌, ◌∷◌, [], List, ℕ, ◌∙◌, ap, arith}
+use Rattle.names.proofs.Common.{◌≡◌, ◌++◌, ◌∷◌, [], List, ℕ, ◌∙◌, ap, arith, get_or_read, Label, no_label, text_at, key_at}
 use Rattle.std.proofs.lemmas.Bool.{not_from_true, not_from_false}
-use Rattle.std.proofs.lemmas.List.{get_or_read}
-use Rattle.tech_model.specs.declared.raw.Label.{Label}
-use Rattle.names.specs.Attachments.{no_label}
-use Rattle.names.specs.steps.CountedLabels.{text_at}
-use Rattle.names.specs.steps.Groups.{key_at}
 use Rattle.names.proofs.TextLists.{IsLeftBelow, texts_by, texts_none, texts_same, texts_more, none_from_test, some_from_test}
 use Rattle.names.proofs.nodes.unattached.Goals as goal
 use Rattle.names.proofs.nodes.unattached.Goals.{then-is_none+in_ok-copy+in_ok-push, else-is_none}

@@ -1,4 +1,4 @@
-use Rattle.names.specs.Attachments.{AreTextsOf}
+use Rattle.names.proofs.Common.{AreTextsOf}
 use Rattle.names.proofs.TextLists.{IsLeftBelow}
 use Rattle.names.proofs.nodes.unattached.Given as goal
 

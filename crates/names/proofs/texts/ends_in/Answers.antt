@@ -1,4 +1,4 @@
-use Rattle.std.proofs.Common.{sym, ◌∙◌, ap}
+use Rattle.names.proofs.Common.{sym, ◌∙◌, ap}
 use Rattle.ext_model.proofs.NameKinds.{is_byte, ends_in-last}
 use Rattle.names.proofs.texts.ends_in.Goals as goal
 

@@ -1,8 +1,4 @@
-use Rattle.std.proofs.Common.{◌≡◌, Ok, Err, subst}
-use Rattle.session_model.specs.declared.fetching.Fetched.{Fetched}
-use Rattle.session_model.specs.Fetches.{FetchMeans, text_in}
-use Rattle.switch_net.specs.Net.{network_of}
-use Rattle.line_answers.proofs.AnswerLaws.{both_ok}
+use Rattle.network_commands.proofs.Common.{◌≡◌, Ok, Err, subst, Fetched, FetchMeans, text_in, network_of, both_ok}
 use Rattle.network_commands.proofs.SimulationCommands.{vectors_refused, vectors_run}
 use Rattle.network_commands.proofs.command_simrun.run_network.Goals as goal
 

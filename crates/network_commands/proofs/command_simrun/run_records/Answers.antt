@@ -1,8 +1,5 @@
-use Rattle.std.proofs.Common.{rules}
-use Rattle.std.proofs.lemmas.Result.{IfOk-weaker}
-use Rattle.switch_net.specs.Net.{network_of}
-use Rattle.network_runs.specs.Simulations.{IsNetOf, PassesNet}
-use Rattle.line_answers.proofs.AnswerLaws.{both_ok}
+use Rattle.network_commands.proofs.Common.{rules, IfOk-weaker, network_of, IsNetOf, both_ok}
+use Rattle.network_runs.specs.Simulations.{PassesNet}
 use Rattle.network_commands.proofs.SimulationCommands.{net_refused, net_run}
 use Rattle.network_commands.proofs.command_simrun.run_records.Goals as goal
 

@@ -1,7 +1,4 @@
-use Rattle.std.proofs.Common.{◌≡◌, ◌∷◌, [], Ok, Err, refl, rules, arith}
-use Rattle.std.proofs.lemmas.Result.{IfOk-weaker}
-use Rattle.sim_text.specs.SimTexts.{sim_in}
-use Rattle.line_answers.proofs.AnswerLaws.{both_ok}
+use Rattle.network_commands.proofs.Common.{◌≡◌, ◌∷◌, [], Ok, Err, refl, rules, arith, IfOk-weaker, sim_in, both_ok}
 use Rattle.line_answers.proofs.CauseLaws.{causes_of_inside}
 use Rattle.network_commands.proofs.SimulationCommands.{read_refused, read_run, sim_inside}
 use Rattle.network_commands.proofs.command_simrun.run_text.Goals as goal

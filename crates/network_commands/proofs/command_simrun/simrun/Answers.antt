@@ -1,8 +1,4 @@
-use Rattle.std.proofs.Common.{◌≡◌, ◌∙◌, Ok, Err, subst}
-use Rattle.std.proofs.lemmas.Result.{IfOk-weaker}
-use Rattle.session_model.specs.declared.fetching.Fetched.{Fetched}
-use Rattle.session_model.specs.Fetches.{FetchMeans, text_in}
-use Rattle.line_answers.proofs.AnswerLaws.{both_ok}
+use Rattle.network_commands.proofs.Common.{◌≡◌, ◌∙◌, Ok, Err, subst, IfOk-weaker, Fetched, FetchMeans, text_in, both_ok}
 use Rattle.network_commands.proofs.SimulationCommands.{simrun_means, source_refused, source_run}
 use Rattle.network_commands.proofs.command_simrun.simrun.Goals as goal
 

@@ -1,5 +1,4 @@
-use Rattle.std.proofs.Common.{◌≡◌, ◌++◌, drop, map}
-use Rattle.network_runs.specs.Grading.{grade_line, preferred_names}
+use Rattle.network_runs.proofs.Common.{◌≡◌, ◌++◌, drop, map, grade_line, preferred_names}
 use Rattle.network_runs.proofs.grading.grade_lines.Given as goal
 
 -- the lines so far and those of the grades that are left are the lines of all

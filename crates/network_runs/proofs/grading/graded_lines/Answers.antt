@@ -1,8 +1,4 @@
-use Rattle.std.proofs.Common.{◌<◌, List, length, sym, subst}
-use Rattle.std.specs.Prelude.{All}
-use Rattle.switch_net.specs.Net.{network_of}
-use Rattle.fault_grade.specs.declared.grading.Graded.{Graded}
-use Rattle.network_runs.specs.Grading.{preferred_names}
+use Rattle.network_runs.proofs.Common.{◌<◌, List, length, sym, subst, All, network_of, Graded, preferred_names}
 use Rattle.network_runs.proofs.GradingLaws.{grades_inside, grades_of_nodes}
 use Rattle.network_runs.proofs.grading.graded_lines.Goals as goal
 

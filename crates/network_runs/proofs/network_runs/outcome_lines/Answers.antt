@@ -1,6 +1,4 @@
-use Rattle.std.proofs.Common.{◌≡◌, ◌∙◌, ◌++◌, ◌∷◌, [], ap}
-use Rattle.stack_runs.specs.Summaries.{summary_of, summary_text}
-use Rattle.line_answers.specs.LineEffects.{reply}
+use Rattle.network_runs.proofs.Common.{◌≡◌, ◌∙◌, ◌++◌, ◌∷◌, [], ap, summary_of, summary_text, reply}
 use Rattle.network_runs.proofs.network_runs.outcome_lines.Goals as goal
 
 pub returns : goal.returns

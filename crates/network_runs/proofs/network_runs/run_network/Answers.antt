@@ -1,11 +1,7 @@
-use Rattle.std.proofs.Common.{ℕ, List, sym, subst}
+use Rattle.network_runs.proofs.Common.{ℕ, List, sym, subst, sim_of, network_of, TellsVectors, TellsFaults}
 use Rattle.std.proofs.lemmas.Result.{IfOk-weaker}
-use Rattle.sim_records.specs.SimRecords.{sim_of}
-use Rattle.switch_net.specs.Net.{network_of}
 use Rattle.network_runs.specs.declared.network_runs.NetworkRun.{NetworkRun}
 use Rattle.network_runs.specs.NetworkRuns.{TellsOn}
-use Rattle.network_runs.specs.Simulations.{TellsVectors}
-use Rattle.network_runs.specs.Grading.{TellsFaults}
 use Rattle.network_runs.proofs.GradingLaws.{tells_coverage}
 use Rattle.network_runs.proofs.SimulationLaws.{tells_net}
 use Rattle.network_runs.proofs.network_runs.run_network.Goals as goal

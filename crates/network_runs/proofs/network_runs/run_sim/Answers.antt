@@ -1,8 +1,6 @@
-use Rattle.std.proofs.Common.{subst}
-use Rattle.sim_text.specs.declared.files.SimFile.{SimFile}
-use Rattle.switch_net.specs.Net.{network_of}
+use Rattle.network_runs.proofs.Common.{subst, SimFile, network_of, IsNetOf}
 use Rattle.network_runs.specs.declared.simulations.MadeNet.{MadeNet}
-use Rattle.network_runs.specs.Simulations.{IsMadeNet, IsNetOf}
+use Rattle.network_runs.specs.Simulations.{IsMadeNet}
 use Rattle.network_runs.proofs.network_runs.run_sim.Goals as goal
 
 pub run_network-requires-clause-nodes : goal.run_network-requires-clause-nodes

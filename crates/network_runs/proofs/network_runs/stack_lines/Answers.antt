@@ -1,4 +1,4 @@
-use Rattle.switch_net.specs.Net.{network_of}
+use Rattle.network_runs.proofs.Common.{network_of}
 use Rattle.network_runs.proofs.NetworkRunLaws.{outcome_inside, tells_outcome}
 use Rattle.network_runs.proofs.network_runs.stack_lines.Goals as goal
 

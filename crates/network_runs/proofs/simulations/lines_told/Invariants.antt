@@ -1,5 +1,4 @@
-use Rattle.std.proofs.Common.{◌≡◌, ◌++◌, drop, map}
-use Rattle.network_runs.specs.Simulations.{vector_line}
+use Rattle.network_runs.proofs.Common.{◌≡◌, ◌++◌, drop, map, vector_line}
 use Rattle.network_runs.proofs.simulations.lines_told.Given as goal
 
 -- the lines so far and those of the replies that are left are the lines of all

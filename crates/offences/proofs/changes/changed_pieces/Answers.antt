@@ -1,10 +1,6 @@
-use Rattle.std.proofs.Common.{◌≡◌, pos, get_or, take, sym, ap, ◌∙◌, ◌++◌, List}
+use Rattle.offences.proofs.Common.{◌≡◌, pos, get_or, take, sym, ap, ◌∙◌, ◌++◌, List, Rect, Contact, TypedStack, changed, changed_pieces}
+use Rattle.offences.proofs.Common.{typed_stack_at, no_typed_stack}
 use Rattle.std.proofs.lemmas.List.{append_assoc, get_or_read}
-use Rattle.geo_core.specs.declared.squares.Rect.{Rect}
-use Rattle.rect_overlays.specs.RectContacts.declared.contacts.Contact.{Contact}
-use Rattle.offences.specs.declared.stacks.TypedStack.{TypedStack}
-use Rattle.offences.specs.steps.Pieces.{changed, changed_pieces}
-use Rattle.offences.specs.TypedStacks.{typed_stack_at, no_typed_stack}
 use Rattle.offences.proofs.PieceLaws.{changed_more}
 use Rattle.offences.proofs.changes.changed_pieces.Goals as goal
 

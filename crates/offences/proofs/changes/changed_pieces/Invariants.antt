@@ -1,5 +1,4 @@
-use Rattle.std.proofs.Common.{◌≡◌, take}
-use Rattle.offences.specs.steps.Pieces.{changed_pieces}
+use Rattle.offences.proofs.Common.{◌≡◌, take, changed_pieces}
 use Rattle.offences.proofs.changes.changed_pieces.Given as goal
 
 abbrev pub invariant-loop-contact : goal.invariant-loop-contact

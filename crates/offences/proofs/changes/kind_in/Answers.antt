@@ -1,11 +1,8 @@
-use Rattle.std.proofs.Common.{◌≡◌, ℕ, true, false, get_or, List, sym, arith, rules}
+use Rattle.offences.proofs.Common.{◌≡◌, ℕ, true, false, get_or, List, sym, arith, rules, type_number, PartKind, AreByPart}
 use Rattle.std.specs.Prelude.{nat_lt}
 use Rattle.std.specs.List.Sorted.{IsPartitionedBy, IsPartitionPoint}
 use Rattle.std.proofs.lemmas.Bool.{ltb-true, ltb-false, lt-ltb}
 use Rattle.std.proofs.lemmas.List.Sorted.{IsPartitionPoint-from_clause}
-use Rattle.tech_model.specs.Types.{type_number}
-use Rattle.offences.specs.declared.stacks.PartKind.{PartKind}
-use Rattle.offences.specs.TypedStacks.{AreByPart}
 use Rattle.offences.proofs.KindLaws.{IsSplitAt, found_nowhere, found_at, found_later, rises}
 use Rattle.offences.proofs.changes.kind_in.Goals as goal
 

@@ -1,9 +1,9 @@
-use Rattle.std.proofs.Common.{◌≡◌, ℤ, pos, negsuc, ◌+ℤ◌, ◌≤ℤ◌, FitsSigned, to_z, of_z, ap, ◌∙◌, rules}
+use Rattle.offences.proofs.Common.{◌≡◌, ℤ, pos, ◌+ℤ◌, ◌≤ℤ◌, ap, ◌∙◌, rules, ints, moved_rect}
+use Rattle.std.proofs.Common.{negsuc, FitsSigned, to_z, of_z}
 use Rattle.std.specs.Int.{w64}
-use Rattle.std.proofs.lemmas.Int.{ints, to_z-of_z}
+use Rattle.std.proofs.lemmas.Int.{to_z-of_z}
 use Rattle.geo_core.specs.Areas.{IsSmall}
 use Rattle.geo_core.proofs.SquareLaws.{rect_is}
-use Rattle.offences.specs.steps.Pieces.{moved_rect}
 use Rattle.offences.proofs.changes.moved.Goals as goal
 
 sum_kept : (a d : ℤ) → FitsSigned w64 a → FitsSigned w64 d → FitsSigned w64 (a +ℤ d)

@@ -1,21 +1,9 @@
-use Rattle.std.proofs.Common.{◌≡◌, ◌≢◌, ℕ, List, length, map, sym, subst, ap, ◌∙◌}
-use Rattle.std.specs.Prelude.{All, None}
-use Rattle.std.proofs.lemmas.List.{length-map}
+use Rattle.offences.proofs.Common.{◌≡◌, ◌≢◌, ℕ, List, length, map, sym, subst, ap, ◌∙◌, All, None, length-map, Square, Rect, widened, common_rect}
+use Rattle.offences.proofs.Common.{Covers, IsProper, IsInUnion, IsStrips, strips_same, RawTech, Kinds, SetTile, ArePartTiles, SetLayout, OffendsOn}
+use Rattle.offences.proofs.Common.{HaveTypes, CoverExactly, AreTilesOfParts, tile_parts, set_layout}
 use Rattle.std.proofs.lemmas.List.Elements.{All-map}
 use Rattle.std.proofs.lemmas.Simd.{map-map}
-use Rattle.geo_core.specs.declared.squares.Square.{Square}
-use Rattle.geo_core.specs.declared.squares.Rect.{Rect}
-use Rattle.geo_core.specs.Areas.{widened, common_rect}
-use Rattle.geo_core.specs.Covering.{Covers, IsProper}
-use Rattle.geo_core.specs.Strips.{IsInUnion, IsStrips}
-use Rattle.geo_core.proofs.StripSets.{strips_same}
-use Rattle.tech_model.specs.declared.raw.RawTech.{RawTech}
-use Rattle.layout_model.specs.LayerTypes.{Kinds, AreTypesOf}
-use Rattle.offences.specs.declared.set_tiles.SetTile.{SetTile}
-use Rattle.offences.specs.steps.LayerParts.{ArePartTiles}
-use Rattle.offences.specs.Offences.{SetLayout, OffendsOn, HaveTypes}
-use Rattle.offences.specs.steps.Pieces.{CoverExactly}
-use Rattle.offences.specs.SetTiles.{AreTilesOfParts, tile_parts, set_layout}
+use Rattle.layout_model.specs.LayerTypes.{AreTypesOf}
 use Rattle.offences.proofs.LayerLaws.{grown_proper, near_before, tiles_of_parts, tiles_have_types, layers_covered}
 use Rattle.offences.proofs.layers.offending.Goals as goal
 

@@ -1,7 +1,4 @@
-use Rattle.std.proofs.Common.{◌≡◌, ◌++◌, List, map, ap, ◌∙◌}
-use Rattle.geo_core.specs.declared.squares.Rect.{Rect}
-use Rattle.tech_model.specs.declared.raw.TypeId.{TypeId}
-use Rattle.offences.specs.steps.LayerParts.{layer_tile}
+use Rattle.offences.proofs.Common.{◌≡◌, ◌++◌, List, map, ap, ◌∙◌, Rect, TypeId, layer_tile}
 use Rattle.offences.proofs.LayerLaws.{no_part_tiles, next_part_tiles, all_part_tiles}
 use Rattle.offences.proofs.layers.part_tiles.Goals as goal
 

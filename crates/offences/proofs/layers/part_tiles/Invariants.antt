@@ -1,5 +1,4 @@
-use Rattle.std.proofs.Common.{map, take}
-use Rattle.offences.specs.steps.LayerParts.{ArePartTiles}
+use Rattle.offences.proofs.Common.{map, take, ArePartTiles}
 use Rattle.offences.proofs.layers.part_tiles.Given as goal
 
 abbrev pub invariant-loop-number : goal.invariant-loop-number

@@ -1,5 +1,4 @@
-use Rattle.std.proofs.Common.{◌≡◌, ◌++◌, map, take}
-use Rattle.offences.specs.steps.LayerParts.{layer_tile}
+use Rattle.offences.proofs.Common.{◌≡◌, ◌++◌, map, take, layer_tile}
 use Rattle.offences.proofs.layers.push_tiles.Given as goal
 
 abbrev pub invariant-loop-area : goal.invariant-loop-area

@@ -1,7 +1,4 @@
-use Rattle.std.proofs.Common.{bit_or, get_or, take, sym, ◌∙◌, ap}
-use Rattle.std.proofs.lemmas.List.{take_more}
-use Rattle.offences.specs.declared.part_sets.PartSum.{PartSum}
-use Rattle.offences.specs.PartSets.{all_sets}
+use Rattle.offences.proofs.Common.{bit_or, get_or, take, sym, ◌∙◌, ap, take_more, PartSum, all_sets}
 use Rattle.offences.proofs.SumLaws.{no_sum, all_sets-push}
 use Rattle.offences.proofs.part_sets.all_sets.Goals as goal
 

@@ -1,5 +1,4 @@
-use Rattle.std.proofs.Common.{◌≡◌, take}
-use Rattle.offences.specs.PartSets.{all_sets}
+use Rattle.offences.proofs.Common.{◌≡◌, take, all_sets}
 use Rattle.offences.proofs.part_sets.all_sets.Given as goal
 
 abbrev pub invariant-loop-sum : goal.invariant-loop-sum

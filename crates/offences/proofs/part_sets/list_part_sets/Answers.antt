@@ -1,9 +1,5 @@
-use Rattle.std.proofs.Common.{refl, bit_or, arith}
-use Rattle.offences.specs.declared.set_tiles.SetTile.{SetTile}
-use Rattle.offences.specs.declared.part_sets.PartSum.{PartSum}
-use Rattle.offences.specs.PartSets.{tile_at, HaveSetsOf}
+use Rattle.offences.proofs.Common.{refl, bit_or, arith, SetTile, PartSum, tile_at, HaveSetsOf, ◌+◌, get_or, sym, subst}
 use Rattle.offences.proofs.SumLaws.{AreSumsUpTo, with_material, no_sums, next_part, same_part, all_summed}
-use Rattle.std.proofs.Common.{◌+◌, get_or, sym, subst}
 use Rattle.offences.proofs.part_sets.list_part_sets.Goals as goal
 use Rattle.offences.proofs.part_sets.list_part_sets.Goals.{then-tile-sum+in_ok-push_material, else-tile-sum}
 

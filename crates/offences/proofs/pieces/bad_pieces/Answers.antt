@@ -1,18 +1,7 @@
-use Rattle.std.proofs.Common.{ℕ, ◌<◌, List, sym, subst, Vec, Global}
-use Rattle.std.specs.Prelude.{All, AllPairs}
-use Rattle.std.proofs.lemmas.List.Elements.{All-weaker}
+use Rattle.offences.proofs.Common.{ℕ, ◌<◌, List, sym, subst, Vec, Global, All, AllPairs, All-weaker, IfOk-weaker, All-from_In, Rect, IsNear}
+use Rattle.offences.proofs.Common.{AreDisjoint, IsProper, SetTile, TypedStack, SetLayout, OffendsOn, CoverExactly, tile_parts, AreByPart}
+use Rattle.offences.proofs.Common.{AreTypedStacks, typed_stack_areas}
 use Rattle.std.proofs.lemmas.List.Sorted.{All-permutation}
-use Rattle.std.proofs.lemmas.Result.{IfOk-weaker}
-use Rattle.geo_core.proofs.FiniteSets.Searches.{All-from_In}
-use Rattle.geo_core.specs.declared.squares.Rect.{Rect}
-use Rattle.geo_core.specs.Areas.{IsNear, AreDisjoint}
-use Rattle.geo_core.specs.Covering.{IsProper}
-use Rattle.offences.specs.declared.set_tiles.SetTile.{SetTile}
-use Rattle.offences.specs.declared.stacks.TypedStack.{TypedStack}
-use Rattle.offences.specs.Offences.{SetLayout, OffendsOn}
-use Rattle.offences.specs.steps.Pieces.{CoverExactly}
-use Rattle.offences.specs.SetTiles.{tile_parts}
-use Rattle.offences.specs.TypedStacks.{AreByPart, AreTypedStacks, typed_stack_areas}
 use Rattle.offences.proofs.MemberLaws.{of_moved}
 use Rattle.offences.proofs.pieces.bad_pieces.Goals as goal
 

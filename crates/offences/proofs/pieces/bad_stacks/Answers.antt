@@ -1,12 +1,5 @@
-use Rattle.std.proofs.Common.{◌≡◌, List, sym, subst, ap, ◌∙◌, ◌++◌}
-use Rattle.std.proofs.lemmas.List.Elements.{All-weaker}
-use Rattle.geo_core.specs.declared.squares.Rect.{Rect}
-use Rattle.geo_core.specs.Areas.{IsNear}
-use Rattle.geo_core.specs.Covering.{IsProper}
-use Rattle.offences.specs.declared.stacks.TypedStack.{TypedStack}
-use Rattle.offences.specs.Offences.{OffendsOn}
-use Rattle.offences.specs.steps.Pieces.{CoverExactly, AreFoundChanges, spoiled_areas}
-use Rattle.offences.specs.TypedStacks.{AreByPart}
+use Rattle.offences.proofs.Common.{◌≡◌, List, sym, subst, ap, ◌∙◌, ◌++◌, All-weaker, Rect, IsNear, IsProper, TypedStack, OffendsOn, CoverExactly}
+use Rattle.offences.proofs.Common.{AreFoundChanges, spoiled_areas, AreByPart}
 use Rattle.offences.proofs.PieceLaws.{pieces_cover, found_changes}
 use Rattle.offences.proofs.pieces.bad_stacks.Goals as goal
 

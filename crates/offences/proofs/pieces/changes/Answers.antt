@@ -1,14 +1,5 @@
-use Rattle.std.proofs.Common.{◌≡◌, ◌<◌, List, length, sym, subst, ◌∙◌, Vec, Global}
-use Rattle.std.specs.Prelude.{All}
-use Rattle.std.proofs.lemmas.Result.{IfOk-weaker}
-use Rattle.geo_core.specs.FiniteSets.Lists.{Lists}
-use Rattle.geo_core.specs.declared.squares.Rect.{Rect}
-use Rattle.geo_core.specs.Areas.{IsNear}
-use Rattle.geo_core.specs.Covering.{IsProper}
-use Rattle.rect_overlays.specs.RectContacts.declared.contacts.Contact.{Contact}
-use Rattle.rect_overlays.specs.RectContacts.Contacts.{IsSharedEdge}
-use Rattle.offences.specs.steps.Pieces.{AreFoundChanges, of_contacts, changed_pieces}
-use Rattle.offences.specs.TypedStacks.{typed_stack_areas}
+use Rattle.offences.proofs.Common.{◌≡◌, ◌<◌, List, length, sym, subst, ◌∙◌, Vec, Global, All, IfOk-weaker, Lists, Rect, IsNear, IsProper, Contact}
+use Rattle.offences.proofs.Common.{IsSharedEdge, AreFoundChanges, of_contacts, changed_pieces, typed_stack_areas}
 use Rattle.offences.proofs.PieceLaws.{all_areas, contacts_within}
 use Rattle.offences.proofs.pieces.changes.Goals as goal
 

@@ -1,8 +1,4 @@
-use Rattle.std.proofs.Common.{List, subst}
-use Rattle.geo_core.specs.declared.squares.Rect.{Rect}
-use Rattle.geo_core.specs.Strips.{IsInUnion, IsStrips}
-use Rattle.geo_core.proofs.StripSets.{strips_same}
-use Rattle.offences.specs.Offences.{OffendsOn}
+use Rattle.offences.proofs.Common.{List, subst, Rect, IsInUnion, IsStrips, strips_same, OffendsOn}
 use Rattle.offences.proofs.pieces.offending_stacks.Goals as goal
 
 pub returns : goal.returns

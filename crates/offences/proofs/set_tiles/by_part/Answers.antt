@@ -1,6 +1,5 @@
-use Rattle.std.proofs.Common.{ℕ, rules}
+use Rattle.offences.proofs.Common.{ℕ, rules, SetTile}
 use Rattle.std.proofs.lemmas.List.Sorted.{answers_always}
-use Rattle.offences.specs.declared.set_tiles.SetTile.{SetTile}
 use Rattle.offences.proofs.OrderLaws.{sorted_by_part}
 use Rattle.offences.proofs.set_tiles.by_part.Goals as goal
 

@@ -1,9 +1,4 @@
-use Rattle.std.proofs.Common.{List, subst}
-use Rattle.geo_core.specs.declared.squares.Rect.{Rect}
-use Rattle.geo_core.specs.Strips.{IsInUnion, IsStrips}
-use Rattle.geo_core.proofs.StripSets.{strips_same}
-use Rattle.offences.specs.Offences.{OffendsOn}
-use Rattle.offences.specs.SetTiles.{tile_parts}
+use Rattle.offences.proofs.Common.{List, subst, Rect, IsInUnion, IsStrips, strips_same, OffendsOn, tile_parts}
 use Rattle.offences.proofs.set_tiles.offending_tiles.Goals as goal
 
 pub returns : goal.returns

@@ -1,5 +1,4 @@
-use Rattle.std.proofs.Common.{◌≡◌, map, take}
-use Rattle.offences.specs.TypedStacks.{kind_of}
+use Rattle.offences.proofs.Common.{◌≡◌, map, take, kind_of}
 use Rattle.offences.proofs.stacks.kinds_of.Given as goal
 
 abbrev pub invariant-loop-sum : goal.invariant-loop-sum

@@ -1,12 +1,5 @@
-use Rattle.std.proofs.Common.{List, subst, ◌∙◌, Vec, Global, ◌≡◌}
-use Rattle.std.specs.Prelude.{All}
-use Rattle.std.proofs.lemmas.Result.{IfOk-weaker}
-use Rattle.geo_core.specs.declared.squares.Rect.{Rect}
-use Rattle.rect_overlays.specs.declared.stacks.Stack.{Stack}
-use Rattle.rect_overlays.specs.Stacks.{AreStacks}
-use Rattle.offences.specs.declared.set_tiles.SetTile.{SetTile}
-use Rattle.offences.specs.declared.stacks.TypedStack.{TypedStack}
-use Rattle.offences.specs.TypedStacks.{StandForAll, StandForTiles, HasMembers}
+use Rattle.offences.proofs.Common.{List, subst, ◌∙◌, Vec, Global, ◌≡◌, All, IfOk-weaker, Rect, Stack, AreStacks, SetTile, TypedStack, StandForAll}
+use Rattle.offences.proofs.Common.{StandForTiles, HasMembers}
 use Rattle.offences.proofs.MemberLaws.{have_members}
 use Rattle.offences.proofs.StackLaws.{tile_areas}
 use Rattle.offences.proofs.TypedStackLaws.{are_typed_stacks}

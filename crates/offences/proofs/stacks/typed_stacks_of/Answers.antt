@@ -1,10 +1,7 @@
-use Rattle.std.proofs.Common.{◌≡◌, inl, List, [], ◌∷◌, ◌++◌, length, refl, sym, ap, subst, ◌∙◌, arith}
-use Rattle.std.proofs.lemmas.List.{append-nil, append_assoc, nil_from_length}
+use Rattle.offences.proofs.Common.{◌≡◌, inl, List, [], ◌∷◌, ◌++◌, length, refl, sym, ap, subst, ◌∙◌, arith, append-nil, In, In-append_right, Stack}
+use Rattle.offences.proofs.Common.{StandForAll}
+use Rattle.std.proofs.lemmas.List.{append_assoc, nil_from_length}
 use Rattle.std.specs.Vec.Iter.{into_iter_items}
-use Rattle.geo_core.specs.FiniteSets.Lists.{In}
-use Rattle.geo_core.proofs.FiniteSets.Members.{In-append_right}
-use Rattle.rect_overlays.specs.declared.stacks.Stack.{Stack}
-use Rattle.offences.specs.TypedStacks.{StandForAll}
 use Rattle.offences.proofs.StackLaws.{members_within, no_typed_stacks, with_typed_stack}
 use Rattle.offences.proofs.stacks.typed_stacks_of.Goals as goal
 

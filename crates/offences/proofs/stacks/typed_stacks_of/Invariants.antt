@@ -1,6 +1,5 @@
-use Rattle.std.proofs.Common.{◌≡◌, ◌++◌, length}
+use Rattle.offences.proofs.Common.{◌≡◌, ◌++◌, length, StandForAll}
 use Rattle.std.specs.Vec.Iter.{into_iter_items, into_iter_len}
-use Rattle.offences.specs.TypedStacks.{StandForAll}
 use Rattle.offences.proofs.stacks.typed_stacks_of.Given as goal
 
 -- what the stacks so far make is there, and the others are still to come

@@ -1,4 +1,4 @@
-use Rattle.std.proofs.Common.{arith}
+use Rattle.piece_groups.proofs.Common.{arith}
 use Rattle.piece_groups.proofs.LinkLaws.{linked_before}
 use Rattle.piece_groups.proofs.links.link.Goals as goal
 

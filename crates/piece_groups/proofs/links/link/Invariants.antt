@@ -1,5 +1,4 @@
-use Rattle.piece_groups.specs.steps.Links.{AreLinkedFrom}
-use Rattle.piece_groups.specs.steps.Members.{marks_of}
+use Rattle.piece_groups.proofs.Common.{AreLinkedFrom, marks_of}
 use Rattle.piece_groups.proofs.links.link.Given as goal
 
 abbrev pub invariant-loop-place : goal.invariant-loop-place

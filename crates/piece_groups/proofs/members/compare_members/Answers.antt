@@ -1,6 +1,5 @@
-use Rattle.std.proofs.Common.{◌≡◌, ◌∙◌, length, nat_cmp, rules}
-use Rattle.std.specs.Cmp.Lexicographic.{slice_cmp}
-use Rattle.std.specs.Ordering.{ordering_then}
+use Rattle.piece_groups.proofs.Common.{◌≡◌, ◌∙◌, length, rules, slice_cmp, ordering_then}
+use Rattle.std.proofs.Common.{nat_cmp}
 use Rattle.ext_model.specs.NameOrder.{kind_rank}
 use Rattle.piece_groups.specs.steps.Members.{member_cmp}
 use Rattle.ext_model.proofs.PartOrders.{ordering_then-assoc}

@@ -1,7 +1,5 @@
-use Rattle.std.proofs.Common.{rules}
-use Rattle.std.specs.Ordering.{is_lt}
+use Rattle.piece_groups.proofs.Common.{rules, is_lt, Member}
 use Rattle.std.proofs.lemmas.List.Sorted.{ranks_by, answers_always}
-use Rattle.piece_groups.specs.declared.members.Member.{Member}
 use Rattle.piece_groups.specs.steps.Members.{member_cmp}
 use Rattle.piece_groups.proofs.MemberLaws.{member_cmp_total}
 use Rattle.piece_groups.proofs.members.in_name_order.Goals as goal

@@ -1,4 +1,4 @@
-use Rattle.std.proofs.Common.{◌∙◌, arith}
+use Rattle.piece_groups.proofs.Common.{◌∙◌, arith}
 use Rattle.piece_groups.proofs.MemberLaws.{collected_none, collected_more, member_ranked, members_all}
 use Rattle.piece_groups.proofs.members.members_in_order.Goals as goal
 

@@ -1,4 +1,4 @@
-use Rattle.std.proofs.Common.{sym, ◌∙◌, arith}
+use Rattle.piece_groups.proofs.Common.{sym, ◌∙◌, arith}
 use Rattle.std.proofs.lemmas.Result.{on_ok_weaker}
 use Rattle.piece_groups.proofs.GroupLaws.{sum_read, adds_merge, adds_none, adds_more}
 use Rattle.piece_groups.proofs.WalkLaws.{next_is, next_none, name_read}

@@ -1,9 +1,4 @@
-use Rattle.std.proofs.Common.{sym, ◌∙◌, arith}
-use Rattle.std.proofs.lemmas.List.{length-map}
-use Rattle.meeting_sums.specs.TreeRecords.Merges.{merge_of}
-use Rattle.piece_groups.specs.declared.members.Member.{Member}
-use Rattle.piece_groups.specs.steps.Groups.{name_at}
-use Rattle.piece_groups.specs.MarkedGroups.{adjustment_of}
+use Rattle.piece_groups.proofs.Common.{sym, ◌∙◌, arith, length-map, merge_of, Member, name_at, adjustment_of}
 use Rattle.piece_groups.proofs.WalkLaws.{next_is, up_to_none, up_to_more, up_to_all, name_read}
 use Rattle.piece_groups.proofs.merges.add_others.Goals as goal
 

@@ -1,7 +1,4 @@
-use Rattle.std.proofs.Common.{◌-◌, length}
-use Rattle.meeting_sums.specs.TreeRecords.Merges.{merge_of}
-use Rattle.piece_groups.specs.steps.Groups.{name_at}
-use Rattle.piece_groups.specs.MarkedGroups.{adjustment_of}
+use Rattle.piece_groups.proofs.Common.{◌-◌, length, merge_of, name_at, adjustment_of}
 use Rattle.piece_groups.proofs.WalkLaws.{IsUpTo}
 use Rattle.piece_groups.proofs.merges.add_others.Given as goal
 

@@ -1,7 +1,5 @@
-use Rattle.std.proofs.Common.{sym, subst, arith}
-use Rattle.std.proofs.Common.{◌+◌, Vec, Global, [], length}
-use Rattle.ext_model.specs.declared.arrays.MergeRow.{MergeRow}
-use Rattle.piece_groups.specs.steps.Groups.{groups_before, AddsMerges}
+use Rattle.piece_groups.proofs.Common.{sym, subst, arith, ◌+◌, [], length, MergeRow, groups_before, AddsMerges}
+use Rattle.std.proofs.Common.{Vec, Global}
 use Rattle.piece_groups.proofs.GroupLaws.{groups_added, groups_kept}
 use Rattle.piece_groups.proofs.WalkLaws.{mark_within}
 use Rattle.piece_groups.proofs.merges.merges_of_groups.Goals as goal

@@ -1,5 +1,4 @@
-use Rattle.std.proofs.Common.{[]}
-use Rattle.piece_groups.specs.steps.Groups.{groups_before, AddsMerges}
+use Rattle.piece_groups.proofs.Common.{[], groups_before, AddsMerges}
 use Rattle.piece_groups.proofs.merges.merges_of_groups.Given as goal
 
 abbrev pub invariant-loop-place : goal.invariant-loop-place

@@ -1,10 +1,6 @@
-use Rattle.std.proofs.Common.{◌<◌, [], All, List, Vec, Global, length, sym, subst}
+use Rattle.piece_groups.proofs.Common.{◌<◌, [], List, length, sym, subst, MergeRec, MergeRow, AreRowsOf, Member, all_groups, AddsMerges}
+use Rattle.std.proofs.Common.{All, Vec, Global}
 use Rattle.std.proofs.lemmas.Result.{IfOk-weaker}
-use Rattle.ext_model.specs.declared.records.MergeRec.{MergeRec}
-use Rattle.ext_model.specs.declared.arrays.MergeRow.{MergeRow}
-use Rattle.ext_model.specs.Rows.{AreRowsOf}
-use Rattle.piece_groups.specs.declared.members.Member.{Member}
-use Rattle.piece_groups.specs.steps.Groups.{all_groups, AddsMerges}
 use Rattle.piece_groups.specs.MarkMerges.{AreMergesOfMarks}
 use Rattle.piece_groups.proofs.MarkLaws.{all_below, merges_marked}
 use Rattle.piece_groups.proofs.merges.merges_of_marks.Goals as goal

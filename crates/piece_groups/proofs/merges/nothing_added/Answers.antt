@@ -1,5 +1,4 @@
-use Rattle.std.proofs.Common.{ap, ◌∙◌}
-use Rattle.tech_model.specs.declared.raw.RawTech.{RawTech}
+use Rattle.piece_groups.proofs.Common.{ap, ◌∙◌, RawTech}
 use Rattle.piece_groups.proofs.SumLaws.{adds_nothing}
 use Rattle.piece_groups.proofs.merges.nothing_added.Goals as goal
 

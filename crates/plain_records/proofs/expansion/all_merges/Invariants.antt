@@ -1,6 +1,4 @@
-use Rattle.std.proofs.Common.{◌≡◌, take}
-use Rattle.std.specs.List.{flat_map}
-use Rattle.ext_model.specs.Plain.{plain_merges}
+use Rattle.plain_records.proofs.Common.{◌≡◌, take, flat_map, plain_merges}
 use Rattle.plain_records.proofs.expansion.all_merges.Given as goal
 
 abbrev pub invariant-loop-row : goal.invariant-loop-row

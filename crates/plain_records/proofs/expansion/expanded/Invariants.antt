@@ -1,5 +1,4 @@
-use Rattle.std.proofs.Common.{take}
-use Rattle.plain_records.specs.Reached.{AreExpanded}
+use Rattle.plain_records.proofs.Common.{take, AreExpanded}
 use Rattle.plain_records.proofs.expansion.expanded.Given as goal
 
 -- the plain forms of those passed stand in their places

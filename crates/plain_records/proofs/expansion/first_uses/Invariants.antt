@@ -1,5 +1,4 @@
-use Rattle.std.proofs.Common.{◌≡◌, map, take}
-use Rattle.plain_records.specs.Thin.{first_use}
+use Rattle.plain_records.proofs.Common.{◌≡◌, map, take, first_use}
 use Rattle.plain_records.proofs.expansion.first_uses.Given as goal
 
 abbrev pub invariant-loop-used : goal.invariant-loop-used

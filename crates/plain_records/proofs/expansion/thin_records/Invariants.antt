@@ -1,5 +1,4 @@
-use Rattle.std.proofs.Common.{◌≡◌, map, take}
-use Rattle.plain_records.specs.Thin.{thin}
+use Rattle.plain_records.proofs.Common.{◌≡◌, map, take, thin}
 use Rattle.plain_records.proofs.expansion.thin_records.Given as goal
 
 abbrev pub invariant-loop-ext : goal.invariant-loop-ext

@@ -1,9 +1,7 @@
-use Rattle.std.proofs.Common.{◌≡◌, ◌+◌, ◌∷◌, ◌++◌, [], List, ℕ, map, sym, ap, ◌∙◌, append_assoc, arith, rules}
-use Rattle.std.specs.List.{range_with_len}
-use Rattle.std.proofs.lemmas.List.{map-append}
+use Rattle.plain_records.proofs.Common.{◌≡◌, ◌+◌, ◌∷◌, ◌++◌, [], List, ℕ, map, sym, ap, ◌∙◌, append_assoc, arith, rules, range_with_len, map-append}
+use Rattle.plain_records.proofs.Common.{plain_merge}
 use Rattle.finite_sets.proofs.Searches.{range_push}
 use Rattle.ext_model.specs.declared.records.MergeRec.{MergeRec}
-use Rattle.ext_model.specs.Plain.{plain_merge}
 use Rattle.plain_records.proofs.merges.add_merges.Goals as goal
 
 pub loop-n-preserved : goal.loop-n-preserved

@@ -1,6 +1,4 @@
-use Rattle.std.proofs.Common.{◌≡◌, ◌++◌, map}
-use Rattle.std.specs.List.{range_with_len}
-use Rattle.ext_model.specs.Plain.{plain_merge}
+use Rattle.plain_records.proofs.Common.{◌≡◌, ◌++◌, map, range_with_len, plain_merge}
 use Rattle.plain_records.proofs.merges.add_merges.Given as goal
 
 -- the merges of lesser numbers are appended

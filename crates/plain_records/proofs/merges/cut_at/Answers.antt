@@ -1,4 +1,4 @@
-use Rattle.std.proofs.Common.{sym}
+use Rattle.plain_records.proofs.Common.{sym}
 use Rattle.plain_records.proofs.CutLaws.{cut_back, cut_none}
 use Rattle.plain_records.proofs.merges.cut_at.Goals as goal
 

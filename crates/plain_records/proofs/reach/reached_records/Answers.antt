@@ -1,8 +1,6 @@
-use Rattle.std.proofs.Common.{inl, inr, sym, subst, arith}
+use Rattle.plain_records.proofs.Common.{inl, inr, sym, subst, arith, CellExt, AreRecords}
 use Rattle.std.specs.Prelude.{List}
 use Rattle.std.proofs.lemmas.Result.{err_from_is_err_and}
-use Rattle.ext_model.specs.declared.records.CellExt.{CellExt}
-use Rattle.circuit_model.specs.Elements.{AreRecords}
 use Rattle.plain_records.proofs.ThinLaws.{thins_are_records}
 use Rattle.plain_records.proofs.FoundLaws.{walk_is, are_reached, deep_is, size_there, many_is, none_is}
 use Rattle.plain_records.proofs.reach.reached_records.Goals as goal

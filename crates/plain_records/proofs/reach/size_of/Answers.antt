@@ -1,9 +1,6 @@
-use Rattle.std.proofs.Common.{◌≡◌, ◌+◌, ◌*◌, suc, min, get_or, length, ◌∙◌, ap, arith}
+use Rattle.plain_records.proofs.Common.{◌≡◌, ◌+◌, ◌*◌, suc, min, get_or, length, ◌∙◌, ap, arith, get_or_default, plain_uses, MOST_FLAT_ELEMENTS}
+use Rattle.plain_records.proofs.Common.{value_at}
 use Rattle.std.proofs.lemmas.Grind.{common_steps}
-use Rattle.std.proofs.lemmas.List.{get_or_default}
-use Rattle.ext_model.specs.Plain.{plain_uses}
-use Rattle.circuit_model.specs.declared.limits.TheConstants.{MOST_FLAT_ELEMENTS}
-use Rattle.flat_limits.specs.ElementTree.Sizes.{value_at}
 use Rattle.plain_records.proofs.SizeLaws.{rest_step}
 use Rattle.plain_records.proofs.reach.size_of.Goals as goal
 

@@ -1,7 +1,4 @@
-use Rattle.std.proofs.Common.{◌≡◌, suc, ◌+◌, ◌≤◌, min, map}
-use Rattle.circuit_model.specs.declared.limits.TheConstants.{MOST_FLAT_ELEMENTS}
-use Rattle.flat_limits.specs.ElementTree.Sizes.{value_at, size_from}
-use Rattle.plain_records.specs.Reached.{spread}
+use Rattle.plain_records.proofs.Common.{◌≡◌, suc, ◌+◌, ◌≤◌, min, map, MOST_FLAT_ELEMENTS, value_at, size_from, spread}
 use Rattle.plain_records.proofs.SizeLaws.{rest_of}
 use Rattle.plain_records.proofs.reach.size_of.Given as goal
 

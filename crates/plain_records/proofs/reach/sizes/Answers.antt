@@ -1,14 +1,8 @@
-use Rattle.std.proofs.Common.{suc, ◌≤◌, length, map, ◌∙◌, sym, ap, arith}
-use Rattle.std.proofs.lemmas.List.{length-map, length-set}
+use Rattle.plain_records.proofs.Common.{suc, ◌≤◌, length, map, ◌∙◌, sym, ap, arith, length-map, MOST_FLAT_ELEMENTS, value_at, size_from, plains}
+use Rattle.plain_records.proofs.Common.{thin, spread, spread_graph, ArrayExt, plain}
+use Rattle.std.proofs.lemmas.List.{length-set}
 use Rattle.std.proofs.lemmas.List.Elements.{All-set}
-use Rattle.circuit_model.specs.declared.limits.TheConstants.{MOST_FLAT_ELEMENTS}
-use Rattle.flat_limits.specs.ElementTree.Sizes.{value_at, size_from}
 use Rattle.flat_limits.proofs.ElementTree.Measures.{row_read, read_within, read_measured}
-use Rattle.plain_records.specs.Plains.{plains}
-use Rattle.plain_records.specs.Thin.{thin}
-use Rattle.plain_records.specs.Reached.{spread, spread_graph}
-use Rattle.ext_model.specs.declared.arrays.ArrayExt.{ArrayExt}
-use Rattle.ext_model.specs.Plain.{plain}
 use Rattle.plain_records.proofs.GraphLaws.{length-spreads}
 use Rattle.plain_records.proofs.SizeLaws.{spread_read, read_paired, measured_all}
 use Rattle.plain_records.proofs.reach.sizes.Goals as goal

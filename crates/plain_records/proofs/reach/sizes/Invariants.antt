@@ -1,7 +1,5 @@
-use Rattle.std.proofs.Common.{◌≡◌, suc, ◌≤◌, All, length, reverse, take}
-use Rattle.circuit_model.specs.declared.limits.TheConstants.{MOST_FLAT_ELEMENTS}
-use Rattle.flat_limits.specs.ElementTree.Sizes.{size_from, AreMeasured}
-use Rattle.plain_records.specs.Reached.{spreads}
+use Rattle.plain_records.proofs.Common.{◌≡◌, suc, ◌≤◌, length, reverse, take, MOST_FLAT_ELEMENTS, size_from, AreMeasured, spreads}
+use Rattle.std.proofs.Common.{All}
 use Rattle.plain_records.proofs.reach.sizes.Given as goal
 
 abbrev pub invariant-loop-cell : goal.invariant-loop-cell

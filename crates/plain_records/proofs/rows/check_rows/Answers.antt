@@ -1,10 +1,6 @@
-use Rattle.std.proofs.Common.{Bool, cond, inr, sym, ap, ◌∙◌, arith}
-use Rattle.std.specs.Prelude.{Some, None, false}
-use Rattle.circuit_model.specs.declared.faults.FlatFault.TheVariants.{TooMany}
-use Rattle.circuit_model.specs.declared.limits.CircuitLimit.TheVariants.{Merges}
-use Rattle.circuit_model.specs.declared.limits.TheConstants.{MOST_MERGES}
+use Rattle.plain_records.proofs.Common.{Bool, cond, inr, sym, ap, ◌∙◌, arith, Some, None, TooMany, Merges, MOST_MERGES, with_merges}
+use Rattle.std.specs.Prelude.{false}
 use Rattle.flat_limits.proofs.TreeLaws.{size_within, past_is}
-use Rattle.plain_records.specs.Reached.{with_merges}
 use Rattle.plain_records.proofs.ReachLaws.{top_at}
 use Rattle.plain_records.proofs.RowLaws.{size_of, as_many, sizes_are, row_fault}
 use Rattle.plain_records.proofs.rows.check_rows.Goals as goal

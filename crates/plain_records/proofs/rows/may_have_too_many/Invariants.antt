@@ -1,5 +1,4 @@
-use Rattle.std.proofs.Common.{suc, ◌≤◌}
-use Rattle.circuit_model.specs.declared.limits.TheConstants.{MOST_MERGES}
+use Rattle.plain_records.proofs.Common.{suc, ◌≤◌, MOST_MERGES}
 use Rattle.plain_records.proofs.rows.may_have_too_many.Given as goal
 
 abbrev pub invariant-loop-cell : goal.invariant-loop-cell

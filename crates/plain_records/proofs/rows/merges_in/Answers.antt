@@ -1,4 +1,4 @@
-use Rattle.std.proofs.Common.{arith}
+use Rattle.plain_records.proofs.Common.{arith}
 use Rattle.plain_records.proofs.RowLaws.{rows_more}
 use Rattle.plain_records.proofs.rows.merges_in.Goals as goal
 

@@ -1,7 +1,4 @@
-use Rattle.std.proofs.Common.{◌≡◌, length, take}
-use Rattle.std.specs.List.{flat_map}
-use Rattle.ext_model.specs.Plain.{plain_merges}
-use Rattle.plain_records.specs.steps.Rows.{capped}
+use Rattle.plain_records.proofs.Common.{◌≡◌, length, take, flat_map, plain_merges, capped}
 use Rattle.plain_records.proofs.rows.merges_in.Given as goal
 
 abbrev pub invariant-loop-row : goal.invariant-loop-row

@@ -1,5 +1,4 @@
-use Rattle.std.proofs.Common.{◌≡◌, map, take}
-use Rattle.plain_records.specs.steps.Rows.{merges_in}
+use Rattle.plain_records.proofs.Common.{◌≡◌, map, take, merges_in}
 use Rattle.plain_records.proofs.rows.row_sizes.Given as goal
 
 abbrev pub invariant-loop-ext : goal.invariant-loop-ext

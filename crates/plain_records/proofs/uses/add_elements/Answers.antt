@@ -1,7 +1,4 @@
-use Rattle.std.proofs.Common.{◌∷◌, ◌++◌, [], List, map, take, sym, ap, ◌∙◌, append_assoc}
-use Rattle.geo_core.specs.Elements.{elements_of}
-use Rattle.ext_model.specs.declared.records.UseRec.{UseRec}
-use Rattle.ext_model.specs.Plain.{element_use}
+use Rattle.plain_records.proofs.Common.{◌∷◌, ◌++◌, [], List, map, take, sym, ap, ◌∙◌, append_assoc, elements_of, UseRec, element_use}
 use Rattle.plain_records.proofs.UseLaws.{images_more}
 use Rattle.plain_records.proofs.uses.add_elements.Goals as goal
 

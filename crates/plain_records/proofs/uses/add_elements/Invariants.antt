@@ -1,6 +1,4 @@
-use Rattle.std.proofs.Common.{◌≡◌, ◌++◌, map, take}
-use Rattle.geo_core.specs.Elements.{elements_of}
-use Rattle.ext_model.specs.Plain.{element_use}
+use Rattle.plain_records.proofs.Common.{◌≡◌, ◌++◌, map, take, elements_of, element_use}
 use Rattle.plain_records.proofs.uses.add_elements.Given as goal
 
 -- the elements before this one are appended

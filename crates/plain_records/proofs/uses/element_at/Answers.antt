@@ -1,13 +1,8 @@
-use Rattle.std.proofs.Common.{◌≡◌, Some, to_z, of_z, w64, sym, ap, subst, ◌∙◌, rules}
-use Rattle.std.specs.Option.{option_map}
-use Rattle.std.proofs.lemmas.Int.{to_z-of_z}
-use Rattle.std.proofs.lemmas.Option.{slice_get-map}
-use Rattle.finite_sets.proofs.Places.{In-slice_get}
-use Rattle.geo_core.specs.Elements.{elements_of}
+use Rattle.plain_records.proofs.Common.{◌≡◌, to_z, of_z, w64, sym, ap, subst, ◌∙◌, rules, option_map, to_z-of_z, slice_get-map, In-slice_get}
+use Rattle.plain_records.proofs.Common.{elements_of, UseRec, element_use, IsShortStep}
+use Rattle.std.proofs.Common.{Some}
 use Rattle.ext_model.specs.ElementNames.{indexed_name}
-use Rattle.ext_model.specs.declared.records.UseRec.{UseRec}
-use Rattle.ext_model.specs.Plain.{displaced, element_use}
-use Rattle.plain_records.specs.steps.Steps.{IsShortStep}
+use Rattle.ext_model.specs.Plain.{displaced}
 use Rattle.plain_records.proofs.StepLaws.{short_steps}
 use Rattle.plain_records.proofs.uses.element_at.Goals as goal
 

@@ -1,4 +1,4 @@
-use Rattle.std.proofs.Common.{arith}
+use Rattle.plain_records.proofs.Common.{arith}
 use Rattle.plain_records.proofs.UseLaws.{grid_lawful, few_elements}
 use Rattle.plain_records.proofs.uses.element_count.Goals as goal
 

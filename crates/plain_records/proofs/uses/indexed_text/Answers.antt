@@ -1,7 +1,6 @@
-use Rattle.std.proofs.Common.{◌≡◌, ℕ, ℤ, List, [], ◌∷◌, ◌++◌, to_z, of_z, w64, ap, ◌∙◌, arith, rules}
+use Rattle.plain_records.proofs.Common.{◌≡◌, ℕ, ℤ, List, [], ◌∷◌, ◌++◌, to_z, of_z, w64, ap, ◌∙◌, arith, rules, ints, to_z-of_z}
 use Rattle.std.specs.Int.{w128}
 use Rattle.std.specs.Int.RustNames.{FitsSigned}
-use Rattle.std.proofs.lemmas.Int.{ints, to_z-of_z}
 use Rattle.std.proofs.lemmas.List.{append_assoc}
 use Rattle.text_scan.specs.Decimal.{decimal}
 use Rattle.plain_records.proofs.uses.indexed_text.Goals as goal

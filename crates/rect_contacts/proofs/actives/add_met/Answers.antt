@@ -1,8 +1,4 @@
-use Rattle.std.proofs.Common.{◌≡◌, rules, arith, to_z, of_z}
-use Rattle.std.specs.Int.{w64}
-use Rattle.std.specs.Ordering.{int_cmp}
-use Rattle.std.specs.BTreeMap.{get}
-use Rattle.std.proofs.lemmas.Int.{ints, to_z-of_z}
+use Rattle.rect_contacts.proofs.Common.{◌≡◌, rules, arith, to_z, of_z, w64, int_cmp, get, ints, to_z-of_z}
 use Rattle.rect_contacts.proofs.RowLaws.{finds_next, finds_last, finds_all}
 use Rattle.rect_contacts.proofs.actives.add_met.Goals as goal
 

@@ -1,7 +1,4 @@
-use Rattle.std.specs.Ordering.{int_cmp}
-use Rattle.std.specs.BTreeMap.{get}
-use Rattle.geo_core.specs.FiniteSets.Range.{extent}
-use Rattle.geo_core.specs.Areas.{IsSmall}
+use Rattle.rect_contacts.proofs.Common.{int_cmp, get, extent, IsSmall}
 use Rattle.geo_core.specs.declared.limits.TheConstants.{PLANE_EDGE}
 use Rattle.rect_contacts.proofs.RowLaws.{FindsMet}
 use Rattle.rect_contacts.proofs.actives.add_met.Given as goal

@@ -1,7 +1,7 @@
-use Rattle.std.proofs.Common.{rules, ◌≡◌, pos, ◌+ℤ◌, ◌≤ℤ◌, arith, w64, to_z, of_z, refl, sym, subst}
+use Rattle.rect_contacts.proofs.Common.{rules, ◌≡◌, pos, ◌+ℤ◌, ◌≤ℤ◌, arith, to_z, of_z, refl, sym, subst, ints, to_z-of_z}
+use Rattle.std.proofs.Common.{w64}
 use Rattle.std.specs.Int.RustNames.{FitsSigned}
 use Rattle.std.specs.Option.{IsSome}
-use Rattle.std.proofs.lemmas.Int.{ints, to_z-of_z}
 use Rattle.geo_strips.proofs.RowLaws.{from_not_gt, not_gt}
 use Rattle.rect_contacts.proofs.actives.first_past.Goals as goal
 

@@ -1,11 +1,7 @@
 -- Where the sides meet, the rectangles touch.
-use Rattle.std.proofs.Common.{List, sym, subst}
+use Rattle.rect_contacts.proofs.Common.{List, sym, subst, Lists, Right, Left, Side, AreSidesOf, IsMeeting}
 use Rattle.std.proofs.lemmas.Result.{IfOk-weaker}
-use Rattle.geo_core.specs.FiniteSets.Lists.{Lists}
-use Rattle.rect_contacts.specs.declared.sides.Edge.TheVariants.{Right, Left}
-use Rattle.rect_contacts.specs.declared.sides.Side.{Side}
 use Rattle.rect_contacts.specs.Contacts.{shared_beside, shared_abreast, IsSharedEdgeBy}
-use Rattle.rect_contacts.specs.steps.Sides.{AreSidesOf, IsMeeting}
 use Rattle.rect_contacts.proofs.Touches.{beside_touches, sides_opposite, touches_from_meetings}
 use Rattle.rect_contacts.proofs.contacts.abreast.Goals as goal
 

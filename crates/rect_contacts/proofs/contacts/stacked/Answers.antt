@@ -1,11 +1,7 @@
 -- Where the sides meet, the rectangles touch.
-use Rattle.std.proofs.Common.{List, sym, subst}
+use Rattle.rect_contacts.proofs.Common.{List, sym, subst, Lists, Top, Bottom, Side, AreSidesOf, IsMeeting}
 use Rattle.std.proofs.lemmas.Result.{IfOk-weaker}
-use Rattle.geo_core.specs.FiniteSets.Lists.{Lists}
-use Rattle.rect_contacts.specs.declared.sides.Edge.TheVariants.{Top, Bottom}
-use Rattle.rect_contacts.specs.declared.sides.Side.{Side}
 use Rattle.rect_contacts.specs.Contacts.{shared_upon, shared_stacked, IsSharedEdgeBy}
-use Rattle.rect_contacts.specs.steps.Sides.{AreSidesOf, IsMeeting}
 use Rattle.rect_contacts.proofs.Touches.{upon_touches, sides_opposite, touches_from_meetings}
 use Rattle.rect_contacts.proofs.contacts.stacked.Goals as goal
 

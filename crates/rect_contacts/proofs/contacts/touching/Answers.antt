@@ -1,8 +1,5 @@
 -- The contacts of both kinds together are all contacts.
-use Rattle.std.proofs.Common.{List, ◌++◌, sym, ◌∙◌, ap, subst}
-use Rattle.geo_core.specs.FiniteSets.Lists.{Lists}
-use Rattle.rect_contacts.specs.declared.contacts.Contact.{Contact}
-use Rattle.rect_contacts.specs.Contacts.{IsSharedEdge}
+use Rattle.rect_contacts.proofs.Common.{List, ◌++◌, sym, ◌∙◌, ap, subst, Lists, Contact, IsSharedEdge}
 use Rattle.rect_contacts.proofs.Touches.{contacts_of_both}
 use Rattle.rect_contacts.proofs.contacts.touching.Goals as goal
 

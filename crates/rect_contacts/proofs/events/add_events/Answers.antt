@@ -1,10 +1,5 @@
-use Rattle.std.proofs.Common.{◌≡◌, List, ◌++◌, sym, ◌∙◌, ap, arith, rules, to_z, of_z}
-use Rattle.std.specs.Int.{w64}
-use Rattle.std.proofs.lemmas.Int.{to_z-of_z}
+use Rattle.rect_contacts.proofs.Common.{◌≡◌, List, ◌++◌, sym, ◌∙◌, ap, arith, rules, to_z, of_z, w64, to_z-of_z, Rect, rect_at, events_from}
 use Rattle.std.proofs.lemmas.List.{append-nil, drop_all}
-use Rattle.geo_core.specs.declared.squares.Rect.{Rect}
-use Rattle.rect_contacts.specs.Rects.{rect_at}
-use Rattle.rect_contacts.specs.steps.Events.{events_from}
 use Rattle.rect_contacts.proofs.EventOrder.{adds_more}
 use Rattle.rect_contacts.proofs.events.add_events.Goals as goal
 

@@ -1,5 +1,4 @@
-use Rattle.std.proofs.Common.{◌≡◌, ◌++◌, drop}
-use Rattle.rect_contacts.specs.steps.Events.{events_from}
+use Rattle.rect_contacts.proofs.Common.{◌≡◌, ◌++◌, drop, events_from}
 use Rattle.rect_contacts.proofs.events.add_events.Given as goal
 
 abbrev pub invariant-loop-owner : goal.invariant-loop-owner

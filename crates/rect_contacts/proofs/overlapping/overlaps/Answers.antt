@@ -1,11 +1,8 @@
 -- The sweep before the first event, one event more, and after the last.
-use Rattle.std.proofs.Common.{pos, false, List, take_all, get_or, sym, ap, subst}
-use Rattle.std.specs.Ordering.{int_cmp}
-use Rattle.std.specs.BTreeMap.{get, is_at}
+use Rattle.rect_contacts.proofs.Common.{pos, false, List, get_or, sym, ap, subst, int_cmp, get, In-get_or, Event, AreEvents}
+use Rattle.std.proofs.Common.{take_all}
+use Rattle.std.specs.BTreeMap.{is_at}
 use Rattle.std.specs.Map.{lookup}
-use Rattle.geo_core.proofs.FiniteSets.Members.{In-get_or}
-use Rattle.rect_contacts.specs.declared.events.Event.{Event}
-use Rattle.rect_contacts.specs.steps.Events.{AreEvents}
 use Rattle.rect_contacts.proofs.CommonSweep.{AreLists, Swept, lists_are, event_small, first_actives, second_actives, swept_first, swept_second, swept_none}
 use Rattle.rect_contacts.proofs.CommonSweep.{swept_all}
 use Rattle.rect_contacts.proofs.overlapping.overlaps.Goals as goal

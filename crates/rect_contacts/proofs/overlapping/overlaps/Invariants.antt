@@ -1,7 +1,4 @@
-use Rattle.std.proofs.Common.{take}
-use Rattle.std.specs.Ordering.{int_cmp}
-use Rattle.std.specs.BTreeMap.{get}
-use Rattle.rect_contacts.specs.steps.Events.{AreEvents}
+use Rattle.rect_contacts.proofs.Common.{take, int_cmp, get, AreEvents}
 use Rattle.rect_contacts.proofs.CommonSweep.{Swept}
 use Rattle.rect_contacts.proofs.overlapping.overlaps.Given as goal
 

@@ -1,6 +1,5 @@
 -- Each iteration is done with the first side left of one list.
-use Rattle.std.proofs.Common.{refl, arith}
-use Rattle.std.proofs.lemmas.Bool.{false≢true}
+use Rattle.rect_contacts.proofs.Common.{refl, arith, false≢true}
 use Rattle.rect_contacts.proofs.Sweep.{lower_turn, upper_turn}
 use Rattle.rect_contacts.proofs.sides.meetings.Goals as goal
 

@@ -1,4 +1,5 @@
-use Rattle.std.proofs.Common.{◌+◌, ◌-◌, length, drop}
+use Rattle.rect_contacts.proofs.Common.{◌+◌, length, drop}
+use Rattle.std.proofs.Common.{◌-◌}
 use Rattle.rect_contacts.proofs.Sweep.{Swept}
 use Rattle.rect_contacts.proofs.sides.meetings.Given as goal
 

@@ -1,11 +1,8 @@
 -- The interval that the code computes is what `overlap` says of the two sides.
-use Rattle.std.proofs.Common.{◌≡◌, ℕ, min, max, ℤ, pos, ◌≤ℤ◌, ◌<ℤ◌, ◌++◌, List, [], ◌∷◌, inl, inr, refl, ◌∙◌, ap, of_z, w64, arith}
-use Rattle.std.specs.Int.{int_max, int_min}
-use Rattle.std.proofs.lemmas.Int.{ints, clamps}
-use Rattle.rect_contacts.specs.declared.contacts.Contact.{Contact}
-use Rattle.rect_contacts.specs.declared.sides.Side.{Side}
+use Rattle.rect_contacts.proofs.Common.{◌≡◌, ℕ, min, max, ℤ, pos, ◌≤ℤ◌, ◌<ℤ◌, ◌++◌, List, [], ◌∷◌, inl, inr, refl, ◌∙◌, ap, of_z, arith, int_max}
+use Rattle.rect_contacts.proofs.Common.{int_min, ints, clamps, Contact, Side, contact_of}
+use Rattle.std.proofs.Common.{w64}
 use Rattle.rect_contacts.specs.Contacts.{overlap}
-use Rattle.rect_contacts.specs.steps.Sides.{contact_of}
 use Rattle.rect_contacts.proofs.Intervals.{overlap-positive, overlap-none}
 use Rattle.rect_contacts.proofs.sides.note_contact.Goals as goal
 use Rattle.rect_contacts.proofs.sides.note_contact.Goals.{else-lower-upper-via-then-lower-upper+else-from-to, else-lower-upper-via-else-lower-upper}

@@ -1,5 +1,5 @@
 -- What the loop wrote are the sides, and the sort puts them in order.
-use Rattle.std.proofs.Common.{arith}
+use Rattle.rect_contacts.proofs.Common.{arith}
 use Rattle.rect_contacts.proofs.Sorting.{no_side, sides_from_sort}
 use Rattle.rect_contacts.proofs.sides.sorted_sides.Goals as goal
 

@@ -1,6 +1,4 @@
-use Rattle.std.proofs.Common.{◌≡◌, ℕ, ◌<◌, length, get_or}
-use Rattle.rect_contacts.specs.Rects.{rect_at}
-use Rattle.rect_contacts.specs.steps.Sides.{side_of}
+use Rattle.rect_contacts.proofs.Common.{◌≡◌, ℕ, ◌<◌, length, get_or, rect_at, side_of}
 use Rattle.rect_contacts.proofs.Sorting.{no_side}
 use Rattle.rect_contacts.proofs.sides.sorted_sides.Given as goal
 

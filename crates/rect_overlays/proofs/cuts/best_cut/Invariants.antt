@@ -1,4 +1,4 @@
-use Rattle.rect_overlays.specs.steps.Cuts.{IsInside}
+use Rattle.rect_overlays.proofs.Common.{IsInside}
 use Rattle.rect_overlays.proofs.cuts.best_cut.Given as goal
 
 -- the best so far cuts the area

@@ -1,5 +1,4 @@
-use Rattle.std.proofs.Common.{arith, ◌<ℤ◌}
-use Rattle.std.proofs.lemmas.Int.{ints}
+use Rattle.rect_overlays.proofs.Common.{arith, ◌<ℤ◌, ints}
 use Rattle.rect_overlays.proofs.Halves.{begins_inside, ends_inside}
 use Rattle.rect_overlays.proofs.cuts.inner_side.Goals as goal
 

@@ -1,7 +1,6 @@
-use Rattle.std.proofs.Common.{◌∙◌, ◌<◌, length, not, sym, subst, rules}
+use Rattle.rect_overlays.proofs.Common.{◌∙◌, ◌<◌, length, sym, subst, Cut, goes_round_at, AllGoRound}
+use Rattle.std.proofs.Common.{not, rules}
 use Rattle.std.specs.Prelude.{Option, IfNone}
-use Rattle.rect_overlays.specs.declared.cuts.Cut.{Cut}
-use Rattle.rect_overlays.specs.steps.Regions.{goes_round_at, AllGoRound}
 use Rattle.rect_overlays.proofs.Lists.{all_go_round, found_below, found_meets, found_is_partial}
 use Rattle.rect_overlays.proofs.cuts.next_cut.Goals as goal
 

@@ -1,6 +1,5 @@
-use Rattle.std.proofs.Common.{◌∙◌, get_or, take, sym, subst}
-use Rattle.std.proofs.lemmas.List.{take_all, take_more}
-use Rattle.rect_overlays.specs.steps.Singles.{AreApart}
+use Rattle.rect_overlays.proofs.Common.{◌∙◌, get_or, take, sym, subst, take_more, AreApart}
+use Rattle.std.proofs.lemmas.List.{take_all}
 use Rattle.rect_overlays.proofs.Apart.{apart_more}
 use Rattle.rect_overlays.proofs.singles.lie_apart.Goals as goal
 

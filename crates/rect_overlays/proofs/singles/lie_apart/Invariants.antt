@@ -1,5 +1,4 @@
-use Rattle.std.proofs.Common.{take}
-use Rattle.rect_overlays.specs.steps.Singles.{AreApart}
+use Rattle.rect_overlays.proofs.Common.{take, AreApart}
 use Rattle.rect_overlays.proofs.singles.lie_apart.Given as goal
 
 -- the members so far lie apart

@@ -1,5 +1,4 @@
-use Rattle.std.proofs.Common.{take}
-use Rattle.rect_overlays.specs.steps.Singles.{AddsSingles}
+use Rattle.rect_overlays.proofs.Common.{take, AddsSingles}
 use Rattle.rect_overlays.proofs.singles.push_singles.Given as goal
 
 -- each member so far has a stack

@@ -1,5 +1,5 @@
 use Rattle.std.proofs.lemmas.Result.{on_ok_weaker}
-use Rattle.rect_overlays.specs.steps.Regions.{Region}
+use Rattle.rect_overlays.proofs.Common.{Region}
 use Rattle.rect_overlays.proofs.Held.{halves_are_added}
 use Rattle.rect_overlays.proofs.stacks.cut_in_two.Goals as goal
 

@@ -1,11 +1,6 @@
-use Rattle.std.proofs.Common.{◌≡◌, ◌+◌, ◌++◌, ◌∷◌, [], ℕ, List, Bool, true, cond, take, get_or, sym, ◌∙◌, ap, subst}
-use Rattle.std.proofs.lemmas.List.{take_more}
+use Rattle.rect_overlays.proofs.Common.{◌≡◌, ◌+◌, ◌++◌, ◌∷◌, [], ℕ, List, Bool, true, cond, take, get_or, sym, ◌∙◌, ap, subst, take_more, Rect}
+use Rattle.rect_overlays.proofs.Common.{joined_rect, IsProper, rect_at, meets, IsGathered}
 use Rattle.geo_core.proofs.FiniteSets.Members.{In-get_or}
-use Rattle.geo_core.specs.declared.squares.Rect.{Rect}
-use Rattle.geo_core.specs.Areas.{joined_rect}
-use Rattle.geo_core.specs.Covering.{IsProper}
-use Rattle.rect_contacts.specs.Rects.{rect_at}
-use Rattle.rect_overlays.specs.steps.Regions.{meets, IsGathered}
 use Rattle.rect_overlays.proofs.Halves.{low_is_proper, high_is_proper, past_low, past_high}
 use Rattle.rect_overlays.proofs.Parts.{gathers_none, gathers_more}
 use Rattle.rect_overlays.proofs.stacks.gather.Goals as goal

@@ -1,5 +1,4 @@
-use Rattle.std.proofs.Common.{take}
-use Rattle.rect_overlays.specs.steps.Regions.{IsGathered}
+use Rattle.rect_overlays.proofs.Common.{take, IsGathered}
 use Rattle.rect_overlays.proofs.stacks.gather.Given as goal
 
 -- what the members so far have of either half is gathered

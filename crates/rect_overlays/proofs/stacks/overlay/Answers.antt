@@ -1,8 +1,5 @@
-use Rattle.std.proofs.Common.{◌≡◌, ◌<◌, ℕ, List, [], length, refl, sym, ◌∙◌, subst}
-use Rattle.std.specs.Prelude.{All}
-use Rattle.rect_overlays.specs.steps.Regions.{Region, AllMeet, AllGoRound}
-use Rattle.rect_overlays.specs.steps.Singles.{AreApart, AddsSingles}
-use Rattle.rect_overlays.specs.steps.Splits.{CutsInTwo, IsMade, IsSplit, IsSplitWith}
+use Rattle.rect_overlays.proofs.Common.{◌≡◌, ◌<◌, ℕ, List, [], length, refl, sym, ◌∙◌, subst, All, Region, AllMeet, AllGoRound, AreApart}
+use Rattle.rect_overlays.proofs.Common.{AddsSingles, CutsInTwo, IsMade, IsSplit, IsSplitWith}
 use Rattle.rect_overlays.proofs.Lists.{none_left}
 use Rattle.rect_overlays.proofs.Held.{nothing_held}
 use Rattle.rect_overlays.proofs.Splitting.{split_begins, split_ends}

@@ -1,4 +1,4 @@
-use Rattle.rect_overlays.specs.steps.Splits.{IsSplitWith}
+use Rattle.rect_overlays.proofs.Common.{IsSplitWith}
 use Rattle.rect_overlays.proofs.Weights.{weights}
 use Rattle.rect_overlays.proofs.stacks.overlay.Given as goal
 

@@ -1,6 +1,5 @@
-use Rattle.std.proofs.Common.{◌≡◌, ℕ, ◌-◌, ◌/◌, List, ◌++◌, map, length, take, drop, ap, ◌∙◌, arith}
-use Rattle.rect_trees.specs.Positions.{position_of}
-use Rattle.rect_trees.specs.Nodes.{positions_of}
+use Rattle.rect_trees.proofs.Common.{◌≡◌, ℕ, List, ◌++◌, map, length, take, ap, ◌∙◌, arith, position_of, positions_of}
+use Rattle.std.proofs.Common.{◌-◌, ◌/◌, drop}
 use Rattle.rect_trees.proofs.PlaceLaws.{halves_joined}
 use Rattle.rect_trees.proofs.nodes.+grow.Goals as goal
 

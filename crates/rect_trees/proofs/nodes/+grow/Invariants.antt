@@ -1,4 +1,4 @@
-use Rattle.std.proofs.Common.{length}
+use Rattle.rect_trees.proofs.Common.{length}
 use Rattle.rect_trees.proofs.nodes.+grow.Given as goal
 
 abbrev pub decreases-grow : goal.decreases-grow

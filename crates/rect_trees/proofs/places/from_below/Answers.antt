@@ -1,4 +1,4 @@
-use Rattle.std.proofs.Common.{refl, sym, ◌∙◌}
+use Rattle.rect_trees.proofs.Common.{refl, sym, ◌∙◌}
 use Rattle.rect_trees.proofs.PlaceLaws.{early_more, early_same, early_all, places_moved}
 use Rattle.rect_trees.proofs.places.from_below.Goals as goal
 use Rattle.rect_trees.proofs.places.from_below.Goals.{then-has_square+in_ok-push, else-has_square}

@@ -1,7 +1,6 @@
-use Rattle.std.proofs.Common.{◌≡◌, pos, map, ◌∙◌, ap, rules}
+use Rattle.rect_trees.proofs.Common.{◌≡◌, map, ◌∙◌, ap, rules, Place, position_of}
+use Rattle.std.proofs.Common.{pos}
 use Rattle.std.proofs.lemmas.List.{take_all}
-use Rattle.rect_trees.specs.declared.places.Place.{Place}
-use Rattle.rect_trees.specs.Positions.{position_of}
 use Rattle.rect_trees.proofs.PlaceLaws.{places_within, places_same, places_moved}
 use Rattle.rect_trees.proofs.places.in_bands.Goals as goal
 

@@ -1,5 +1,4 @@
-use Rattle.std.proofs.Common.{◌≡◌, map, take}
-use Rattle.rect_trees.specs.Positions.{position_of}
+use Rattle.rect_trees.proofs.Common.{◌≡◌, map, take, position_of}
 use Rattle.rect_trees.proofs.places.in_bands.Given as goal
 
 abbrev pub invariant-loop-rank : goal.invariant-loop-rank

@@ -1,6 +1,4 @@
-use Rattle.std.proofs.Common.{◌≤ℤ◌, ◌<ℤ◌, ◌-ℤ◌, pos, take, drop, rules}
-use Rattle.std.specs.Prelude.{All}
-use Rattle.run_plane.specs.declared.rows.Row.{Row}
+use Rattle.run_plane.proofs.Common.{◌≤ℤ◌, ◌<ℤ◌, ◌-ℤ◌, pos, take, drop, rules, All, Row}
 use Rattle.run_plane.proofs.BandLaws.{band_found}
 use Rattle.run_plane.proofs.changes.band_of.Goals as goal
 

@@ -1,8 +1,4 @@
-use Rattle.std.proofs.Common.{ℤ, List, sym, subst}
-use Rattle.std.specs.Prelude.{All}
-use Rattle.geo_core.specs.Areas.{IsSmall}
-use Rattle.run_plane.specs.Rows.{edge}
-use Rattle.run_plane.specs.steps.Changes.{AreAbove, AreRowsFor}
+use Rattle.run_plane.proofs.Common.{ℤ, List, sym, subst, All, IsSmall, edge, AreAbove, AreRowsFor}
 use Rattle.run_plane.proofs.BandLaws.{heights_above, heights_small, rows_next, set_next}
 use Rattle.run_plane.proofs.changes.change_for.Goals as goal
 

@@ -1,9 +1,8 @@
-use Rattle.std.proofs.Common.{◌≡◌, ℤ, List, sym, subst}
+use Rattle.run_plane.proofs.Common.{◌≡◌, ℤ, List, sym, subst, AreHeights}
 use Rattle.std.specs.Prelude.{IsPermutation}
 use Rattle.std.specs.List.{dedup}
 use Rattle.std.specs.Ordering.{int_eq}
 use Rattle.std.proofs.lemmas.List.Filters.{dedup_is}
-use Rattle.run_plane.specs.steps.Changes.{AreHeights}
 use Rattle.run_plane.proofs.HeightLaws.{sorted_heights}
 use Rattle.run_plane.proofs.changes.heights.Goals as goal
 

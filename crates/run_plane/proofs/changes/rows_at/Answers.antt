@@ -1,8 +1,5 @@
-use Rattle.std.proofs.Common.{◌≡◌, ◌+◌, ℤ, pos, List, [], ◌∷◌, ◌++◌, take, get_or, refl, sym, subst, rules}
-use Rattle.std.proofs.lemmas.List.{take_more}
-use Rattle.run_plane.specs.declared.rows.Row.{Row}
-use Rattle.run_plane.specs.Rows.{runs_from}
-use Rattle.run_plane.specs.steps.Changes.{AreRowsFor}
+use Rattle.run_plane.proofs.Common.{◌≡◌, ◌+◌, ℤ, pos, List, [], ◌∷◌, ◌++◌, take, get_or, refl, sym, subst, rules, take_more, Row, runs_from}
+use Rattle.run_plane.proofs.Common.{AreRowsFor}
 use Rattle.run_plane.proofs.BandLaws.{rows_for_push}
 use Rattle.run_plane.proofs.SettingLaws.{plain_row}
 use Rattle.run_plane.proofs.changes.rows_at.Goals as goal

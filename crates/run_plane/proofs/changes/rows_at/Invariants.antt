@@ -1,6 +1,5 @@
 -- The rows are those at the heights so far.
-use Rattle.std.proofs.Common.{[], take}
-use Rattle.run_plane.specs.steps.Changes.{AreRowsFor}
+use Rattle.run_plane.proofs.Common.{[], take, AreRowsFor}
 use Rattle.run_plane.proofs.changes.rows_at.Given as goal
 
 abbrev pub invariant-loop-ylo : goal.invariant-loop-ylo

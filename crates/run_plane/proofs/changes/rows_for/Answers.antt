@@ -1,7 +1,4 @@
-use Rattle.std.proofs.Common.{take}
-use Rattle.finite_sets.proofs.Searches.{All-In}
-use Rattle.geo_core.specs.Areas.{IsSmall}
-use Rattle.run_plane.specs.Rows.{edge}
+use Rattle.run_plane.proofs.Common.{take, All-In, IsSmall, edge}
 use Rattle.run_plane.proofs.BandLaws.{rising_found}
 use Rattle.run_plane.proofs.SettingLaws.{rows_set}
 use Rattle.run_plane.proofs.changes.rows_for.Goals as goal

@@ -1,6 +1,5 @@
 -- In the rows the pieces so far are set.
-use Rattle.std.proofs.Common.{take}
-use Rattle.run_plane.specs.steps.Changes.{AreRowsFor}
+use Rattle.run_plane.proofs.Common.{take, AreRowsFor}
 use Rattle.run_plane.proofs.changes.rows_for.Given as goal
 
 abbrev pub invariant-loop-piece : goal.invariant-loop-piece

@@ -1,10 +1,5 @@
-use Rattle.std.proofs.Common.{◌≡◌, ◌<◌, ◌≤◌, ◌≤ℤ◌, ◌<ℤ◌, ◌-ℤ◌, pos, inr, List, length, get_or, take, drop, sym, ◌∙◌, ap, subst, arith, rules}
-use Rattle.std.specs.Prelude.{All}
-use Rattle.std.proofs.lemmas.List.{get_or_default}
-use Rattle.finite_sets.proofs.Members.{In-get_or}
-use Rattle.run_plane.specs.declared.rows.Row.{Row}
-use Rattle.run_plane.specs.Rows.{edge, AreRuns}
-use Rattle.run_plane.specs.steps.Listings.{no_row}
+use Rattle.run_plane.proofs.Common.{◌≡◌, ◌<◌, ◌≤◌, ◌≤ℤ◌, ◌<ℤ◌, ◌-ℤ◌, pos, inr, List, length, get_or, take, drop, sym, ◌∙◌, ap, subst, arith, rules}
+use Rattle.run_plane.proofs.Common.{All, get_or_default, In-get_or, Row, edge, AreRuns, no_row}
 use Rattle.run_plane.proofs.RowLaws.{row_facts}
 use Rattle.run_plane.proofs.SettingLaws.{set_all}
 use Rattle.run_plane.proofs.changes.set_piece.Goals as goal

@@ -1,10 +1,5 @@
-use Rattle.std.proofs.Common.{◌≡◌, ◌+◌, [], ◌∷◌, ◌++◌, take, get_or, ℕ, ℤ, sym, ◌∙◌, ap, subst, rules, Option, Some}
-use Rattle.std.specs.Prelude.{MatchOption}
-use Rattle.std.specs.Int.{int_min, int_max}
-use Rattle.std.specs.declared.ops.Range.{Range}
-use Rattle.std.proofs.lemmas.List.{take_more}
-use Rattle.run_plane.specs.steps.Changes.{Spans}
-use Rattle.geo_core.proofs.CornerLaws.{no_piece}
+use Rattle.run_plane.proofs.Common.{◌≡◌, ◌+◌, [], ◌∷◌, ◌++◌, take, get_or, ℕ, ℤ, sym, ◌∙◌, ap, subst, rules, Option, Some, MatchOption, int_min}
+use Rattle.run_plane.proofs.Common.{int_max, Range, take_more, Spans, no_piece}
 use Rattle.run_plane.proofs.SettingLaws.{spans_one, spans_more}
 use Rattle.run_plane.proofs.changes.span_of.Goals as goal
 use Rattle.run_plane.proofs.changes.span_of.Goals.{in-Some, in-None}

@@ -1,7 +1,5 @@
 -- The span is that of the pieces so far, and there is none before the first.
-use Rattle.std.proofs.Common.{◌≡◌, take}
-use Rattle.std.specs.Prelude.{MatchOption}
-use Rattle.run_plane.specs.steps.Changes.{Spans}
+use Rattle.run_plane.proofs.Common.{◌≡◌, take, MatchOption, Spans}
 use Rattle.run_plane.proofs.changes.span_of.Given as goal
 
 abbrev pub invariant-loop-piece : goal.invariant-loop-piece

@@ -1,11 +1,5 @@
-use Rattle.std.proofs.Common.{◌≡◌, ◌+◌, ◌<◌, ℕ, List, [], length, get_or, sym, ◌∙◌, ap, subst, arith, rules, Option, Some}
-use Rattle.std.proofs.lemmas.List.{get_or_default}
-use Rattle.geo_core.specs.declared.squares.Rect.{Rect}
-use Rattle.geo_core.specs.Areas.{joined_rect}
-use Rattle.run_plane.specs.declared.runs.Run.{Run}
-use Rattle.run_plane.specs.declared.rows.Row.{Row}
-use Rattle.run_plane.specs.Rows.{edge, AreRuns}
-use Rattle.run_plane.specs.steps.Listings.{no_row, IsRowBox}
+use Rattle.run_plane.proofs.Common.{◌≡◌, ◌+◌, ◌<◌, ℕ, List, [], length, get_or, sym, ◌∙◌, ap, subst, arith, rules, Option, Some, get_or_default}
+use Rattle.run_plane.proofs.Common.{Rect, joined_rect, Run, Row, edge, AreRuns, no_row, IsRowBox}
 use Rattle.run_plane.proofs.BoxLaws.{BoxUpTo, box_kept, box_begun, box_grown, box_whole, ordered}
 use Rattle.run_plane.proofs.listings.box_of.Goals as goal
 use Rattle.run_plane.proofs.listings.box_of.Goals.{in-Some+in-Some-found, in-Some+in-None, in_default}

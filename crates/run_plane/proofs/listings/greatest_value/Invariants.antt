@@ -1,7 +1,5 @@
 -- No piece so far passes the value.
-use Rattle.std.proofs.Common.{◌≤◌, take}
-use Rattle.std.specs.Prelude.{All}
-use Rattle.geo_core.specs.declared.squares.Piece.{Piece}
+use Rattle.run_plane.proofs.Common.{◌≤◌, take, All, Piece}
 use Rattle.run_plane.proofs.listings.greatest_value.Given as goal
 
 abbrev pub invariant-loop-piece : goal.invariant-loop-piece

@@ -1,14 +1,6 @@
-use Rattle.std.proofs.Common.{◌≡◌, ◌+◌, ◌≤◌, ◌<◌, ℤ, pos, ◌-ℤ◌, ◌≤ℤ◌, ◌<ℤ◌, List, [], ◌++◌, length}
-use Rattle.std.proofs.Common.{map, take, drop, get_or, sym, ◌∙◌, ap, subst, arith, rules, w64}
+use Rattle.run_plane.proofs.Common.{◌≡◌, ◌+◌, ◌≤◌, ◌<◌, ℤ, pos, ◌-ℤ◌, ◌≤ℤ◌, ◌<ℤ◌, List, [], ◌++◌, length, map, take, drop, get_or, sym, ◌∙◌, ap}
+use Rattle.run_plane.proofs.Common.{subst, arith, rules, w64, All, int_min, int_max, to_z-of_z, get_or_default, Piece, Run, Row, no_row, piece_of}
 use mir.Val.{to_z, of_z}
-use Rattle.std.specs.Prelude.{All}
-use Rattle.std.specs.Int.{int_min, int_max}
-use Rattle.std.proofs.lemmas.Int.{to_z-of_z}
-use Rattle.std.proofs.lemmas.List.{get_or_default}
-use Rattle.geo_core.specs.declared.squares.Piece.{Piece}
-use Rattle.run_plane.specs.declared.runs.Run.{Run}
-use Rattle.run_plane.specs.declared.rows.Row.{Row}
-use Rattle.run_plane.specs.steps.Listings.{no_row, piece_of}
 use Rattle.run_plane.proofs.PieceLaws.{AreCovered, covered_none, covered_more, covered_all}
 use Rattle.run_plane.proofs.listings.pieces_between.Goals as goal
 

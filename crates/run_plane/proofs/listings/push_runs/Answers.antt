@@ -1,10 +1,7 @@
-use Rattle.std.proofs.Common.{◌≡◌, ℤ, List, [], ◌∷◌, ◌++◌, map, take, get_or, append_assoc, sym, ◌∙◌, ap, rules, w64, pos}
+use Rattle.run_plane.proofs.Common.{◌≡◌, ℤ, List, [], ◌∷◌, ◌++◌, map, take, get_or, append_assoc, sym, ◌∙◌, ap, rules, w64, pos, to_z-of_z}
+use Rattle.run_plane.proofs.Common.{take_more, Piece, Run, piece_of}
 use mir.Val.{to_z, of_z}
-use Rattle.std.proofs.lemmas.Int.{to_z-of_z}
-use Rattle.std.proofs.lemmas.List.{take_more, take_all, map-append}
-use Rattle.geo_core.specs.declared.squares.Piece.{Piece}
-use Rattle.run_plane.specs.declared.runs.Run.{Run}
-use Rattle.run_plane.specs.steps.Listings.{piece_of}
+use Rattle.std.proofs.lemmas.List.{take_all, map-append}
 use Rattle.run_plane.proofs.listings.push_runs.Goals as goal
 
 abbrev no_run : Run

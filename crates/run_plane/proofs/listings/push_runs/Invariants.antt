@@ -1,6 +1,5 @@
 -- The runs so far are added.
-use Rattle.std.proofs.Common.{◌≡◌, ◌++◌, map, take}
-use Rattle.run_plane.specs.steps.Listings.{piece_of}
+use Rattle.run_plane.proofs.Common.{◌≡◌, ◌++◌, map, take, piece_of}
 use Rattle.run_plane.proofs.listings.push_runs.Given as goal
 
 abbrev pub invariant-loop-run : goal.invariant-loop-run

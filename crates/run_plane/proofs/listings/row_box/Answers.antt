@@ -1,7 +1,4 @@
-use Rattle.std.proofs.Common.{sym, subst, rules}
-use Rattle.geo_core.specs.declared.squares.Rect.{Rect}
-use Rattle.geo_core.proofs.SquareLaws.{rect_is}
-use Rattle.run_plane.specs.steps.Listings.{IsRowBox}
+use Rattle.run_plane.proofs.Common.{sym, subst, rules, Rect, rect_is, IsRowBox}
 use Rattle.run_plane.proofs.BoxLaws.{row_box_found}
 use Rattle.run_plane.proofs.listings.row_box.Goals as goal
 

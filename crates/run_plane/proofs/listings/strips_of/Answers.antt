@@ -1,10 +1,7 @@
-use Rattle.std.proofs.Common.{◌≡◌, List, ◌∙◌, subst}
+use Rattle.run_plane.proofs.Common.{◌≡◌, List, ◌∙◌, subst, Rect, IsStrips, IsInUnion, rects_with, IsInPieces}
 use Rattle.std.specs.Prelude.{Vec}
 use Rattle.std.specs.declared.alloc.Global.{Global}
 use Rattle.std.proofs.lemmas.Result.{IfOk-weaker}
-use Rattle.geo_core.specs.declared.squares.Rect.{Rect}
-use Rattle.geo_core.specs.Strips.{IsStrips, IsInUnion}
-use Rattle.run_plane.specs.steps.Listings.{rects_with, IsInPieces}
 use Rattle.run_plane.proofs.TileLaws.{strips_of_pieces}
 use Rattle.run_plane.proofs.listings.strips_of.Goals as goal
 

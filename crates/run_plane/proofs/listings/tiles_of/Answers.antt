@@ -1,10 +1,5 @@
-use Rattle.std.proofs.Common.{◌≡◌, ◌+◌, ◌≤◌, List, arith, ◌++◌, sym, subst, ◌∙◌, ap, rules}
-use Rattle.std.specs.Prelude.{All}
+use Rattle.run_plane.proofs.Common.{◌≡◌, ◌+◌, ◌≤◌, List, arith, ◌++◌, sym, subst, ◌∙◌, ap, rules, All, Rect, Piece, corner_key, parts_in}
 use Rattle.std.proofs.lemmas.List.Sorted.{answers_always}
-use Rattle.geo_core.specs.declared.squares.Rect.{Rect}
-use Rattle.geo_core.specs.declared.squares.Piece.{Piece}
-use Rattle.geo_core.proofs.CornerLaws.{corner_key}
-use Rattle.run_plane.specs.steps.Listings.{parts_in}
 use Rattle.run_plane.proofs.TileLaws.{AreTilesUpTo, no_tiles, more_tiles, sorted_tiles}
 use Rattle.run_plane.proofs.listings.tiles_of.Goals as goal
 

@@ -1,10 +1,5 @@
-use Rattle.std.proofs.Common.{◌≡◌, ◌+◌, ◌<◌, ◌≤ℤ◌, ◌<ℤ◌, true, false, sym, subst, length, get_or, arith, rules}
-use Rattle.std.specs.Prelude.{int_le}
-use Rattle.std.proofs.lemmas.Int.{ints}
-use Rattle.std.proofs.lemmas.List.{get_or-take, get_or-drop, length-take, length-drop}
-use Rattle.std.proofs.lemmas.List.Sorted.{IsPartitionPoint-from_clause}
-use Rattle.run_plane.specs.declared.rows.Row.{Row}
-use Rattle.run_plane.specs.Rows.{edge}
+use Rattle.run_plane.proofs.Common.{◌≡◌, ◌+◌, ◌<◌, ◌≤ℤ◌, ◌<ℤ◌, true, false, sym, subst, length, get_or, arith, rules, int_le, ints, get_or-take}
+use Rattle.run_plane.proofs.Common.{get_or-drop, length-take, length-drop, IsPartitionPoint-from_clause, Row, edge}
 use Rattle.run_plane.proofs.RowLaws.{rising_order}
 use Rattle.run_plane.proofs.rows.rows_up_to.Goals as goal
 

@@ -1,7 +1,4 @@
-use Rattle.std.proofs.Common.{◌≡◌, ◌-◌, suc, ◌<◌, ◌≤ℤ◌, ◌<ℤ◌, [], take, drop, length, sym, ◌∙◌, ap, arith, rules, ℕ}
-use Rattle.std.specs.Prelude.{All}
-use Rattle.run_plane.specs.declared.rows.Row.{Row}
-use Rattle.run_plane.specs.Rows.{top_runs}
+use Rattle.run_plane.proofs.Common.{◌≡◌, ◌-◌, suc, ◌<◌, ◌≤ℤ◌, ◌<ℤ◌, [], take, drop, length, sym, ◌∙◌, ap, arith, rules, ℕ, All, Row, top_runs}
 use Rattle.run_plane.proofs.RowLaws.{runs_at_count, top_at}
 use Rattle.run_plane.proofs.rows.runs_at.Goals as goal
 

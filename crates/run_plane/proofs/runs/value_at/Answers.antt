@@ -1,9 +1,5 @@
-use Rattle.std.proofs.Common.{◌≡◌, ◌<◌, ◌≤◌, ◌≤ℤ◌, ◌<ℤ◌, ℕ, true, false, length, get_or, sym, ◌∙◌, ap, subst, arith, rules, cond}
-use Rattle.std.specs.Prelude.{int_le}
-use Rattle.std.proofs.lemmas.Int.{ints}
-use Rattle.std.proofs.lemmas.List.Sorted.{IsPartitionPoint-from_clause}
-use Rattle.run_plane.specs.declared.runs.Run.{Run}
-use Rattle.run_plane.specs.Rows.{edge}
+use Rattle.run_plane.proofs.Common.{◌≡◌, ◌<◌, ◌≤◌, ◌≤ℤ◌, ◌<ℤ◌, ℕ, true, false, length, get_or, sym, ◌∙◌, ap, subst, arith, rules, cond, int_le, ints}
+use Rattle.run_plane.proofs.Common.{IsPartitionPoint-from_clause, Run, edge}
 use Rattle.run_plane.proofs.RunLaws.{run_ends_rise, value_found, value_none}
 use Rattle.run_plane.proofs.runs.value_at.Goals as goal
 

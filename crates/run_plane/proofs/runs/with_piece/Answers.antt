@@ -1,5 +1,4 @@
-use Rattle.std.proofs.Common.{◌≡◌, inl, inr, refl, sym, ◌∙◌, ap, subst, rules, List, [], ◌∷◌, ◌++◌}
-use Rattle.run_plane.specs.declared.runs.Run.{Run}
+use Rattle.run_plane.proofs.Common.{◌≡◌, inl, inr, refl, sym, ◌∙◌, ap, subst, rules, List, [], ◌∷◌, ◌++◌, Run}
 use Rattle.run_plane.specs.steps.Changes.{parts_before, parts_after, AreRunsWith}
 use Rattle.run_plane.proofs.RunLaws.{IsMiddle, set_runs}
 use Rattle.run_plane.proofs.runs.with_piece.Goals as goal

@@ -1,8 +1,5 @@
-use Rattle.std.proofs.Common.{◌≡◌, ◌≢◌, ◌∙◌, [], sym, drop, replicate, arith, Err}
-use Rattle.std.proofs.lemmas.Grind.{common_steps}
-use Rattle.text_scan.specs.Words.{words_of}
-use Rattle.script_lines.specs.declared.faults.LineFault.TheVariants.{BadForm}
-use Rattle.script_lines.specs.Arguments.{Number, read_words}
+use Rattle.script_lines.proofs.Common.{◌≡◌, ◌≢◌, ◌∙◌, [], sym, drop, replicate, arith, Err, common_steps, words_of, BadForm, Number}
+use Rattle.script_lines.specs.Arguments.{read_words}
 use Rattle.script_lines.proofs.ReadLaws.{read-numbers-bad, read-numbers-long, read-numbers-found, if-ok, if-err}
 use Rattle.script_lines.proofs.arguments.last_numbers.Goals as goal
 

@@ -1,8 +1,5 @@
-use Rattle.std.proofs.Common.{◌≡◌, ◌∙◌, ◌∷◌, [], ap, sym, drop, rules, false, arith}
-use Rattle.std.proofs.lemmas.Grind.{common_steps}
-use Rattle.text_scan.specs.Words.{words_of}
-use Rattle.script_lines.specs.Arguments.{behind_word}
-use Rattle.script_lines.specs.steps.NextWords.{begins_with_numbers}
+use Rattle.script_lines.proofs.Common.{◌≡◌, ◌∙◌, ◌∷◌, [], ap, sym, drop, rules, false, arith, common_steps, words_of, behind_word}
+use Rattle.script_lines.proofs.Common.{begins_with_numbers}
 use Rattle.script_lines.proofs.FrontLaws.{behind-next, drop-next, begins-next, begins-ends, begins-breaks, fit-some, fit-none, values-some}
 use Rattle.script_lines.proofs.arguments.next_numbers.Goals as goal
 use Rattle.script_lines.proofs.arguments.next_numbers.Goals.{in-Some, in-None}

@@ -1,8 +1,4 @@
-use Rattle.std.proofs.Common.{◌≡◌, length, take, drop, map, true}
-use Rattle.std.specs.List.{list_all}
-use Rattle.text_scan.specs.Words.{words_of}
-use Rattle.script_lines.specs.Arguments.{behind, number_in}
-use Rattle.script_lines.specs.steps.NextWords.{begins_with_numbers, is_fitting}
+use Rattle.script_lines.proofs.Common.{◌≡◌, length, take, drop, map, true, list_all, words_of, behind, number_in, begins_with_numbers, is_fitting}
 use Rattle.script_lines.proofs.arguments.next_numbers.Given as goal
 
 abbrev pub invariant-loop-place : goal.invariant-loop-place

@@ -1,8 +1,4 @@
-use Rattle.std.proofs.Common.{◌≡◌, sym, refl}
-use Rattle.std.proofs.lemmas.Grind.{common_steps}
-use Rattle.std.proofs.Common.{arith}
-use Rattle.text_scan.specs.declared.numeral.NumFault.TheVariants.{Empty, Digit}
-use Rattle.script_lines.specs.Arguments.{number_in}
+use Rattle.script_lines.proofs.Common.{◌≡◌, sym, refl, common_steps, arith, Empty, Digit, number_in}
 use Rattle.script_lines.proofs.NumberForms.{number_of-formed, number_of-value, number_of-range, number_of-other}
 use Rattle.script_lines.proofs.arguments.number_in.Goals as goal
 

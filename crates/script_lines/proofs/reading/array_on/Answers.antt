@@ -1,7 +1,6 @@
-use Rattle.std.proofs.Common.{◌∙◌, ap, ℤ, List, Ok}
+use Rattle.script_lines.proofs.Common.{◌∙◌, ap, ℤ, List, Ok, command_with, given_to}
 use Rattle.script_lines.specs.declared.commands.Command.TheVariants.{Array}
 use Rattle.script_lines.specs.declared.verbs.Verb.TheVariants as verb
-use Rattle.script_lines.specs.Commands.{command_with, given_to}
 use Rattle.script_lines.proofs.SixLaws.{six_at-array}
 use Rattle.script_lines.proofs.reading.array_on.Goals as goal
 

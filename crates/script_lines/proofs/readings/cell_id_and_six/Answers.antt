@@ -1,8 +1,6 @@
-use Rattle.std.proofs.Common.{rules, ◌≡◌, ◌≢◌, ◌∷◌, refl, map, arith, Ok, Err}
-use Rattle.std.proofs.lemmas.Grind.{common_steps}
-use Rattle.text_scan.specs.Words.{words_of}
-use Rattle.script_lines.specs.declared.faults.LineFault.TheVariants.{BadForm, Memory as OutOfMemory}
-use Rattle.script_lines.specs.Arguments.{Plain, UseId, Word, Value, read_words}
+use Rattle.script_lines.proofs.Common.{rules, ◌≡◌, ◌≢◌, ◌∷◌, refl, map, arith, Ok, Err, common_steps, words_of, BadForm, OutOfMemory, Plain, UseId}
+use Rattle.script_lines.proofs.Common.{Word, Value}
+use Rattle.script_lines.specs.Arguments.{read_words}
 use Rattle.script_lines.specs.Commands.{six_numbers}
 use Rattle.script_lines.proofs.ReadLaws.{read-front, read-front-err, read-front-bad}
 use Rattle.script_lines.proofs.readings.cell_id_and_six.Goals as goal

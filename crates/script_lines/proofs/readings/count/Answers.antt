@@ -1,7 +1,5 @@
-use Rattle.std.proofs.Common.{List, ℤ, ◌≡◌, ◌∷◌, [], ap, ◌∙◌, map, arith, Ok, Err}
-use Rattle.std.proofs.lemmas.Grind.{common_steps}
-use Rattle.text_scan.specs.Words.{words_of}
-use Rattle.script_lines.specs.Arguments.{Count, Value, read_words}
+use Rattle.script_lines.proofs.Common.{List, ℤ, ◌≡◌, ◌∷◌, [], ap, ◌∙◌, map, arith, Ok, Err, common_steps, words_of, Count, Value}
+use Rattle.script_lines.specs.Arguments.{read_words}
 use Rattle.script_lines.proofs.readings.count.Goals as goal
 use Rattle.script_lines.proofs.LabelLaws.{count-err, count-read, count-outside}
 

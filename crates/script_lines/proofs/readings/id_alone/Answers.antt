@@ -1,8 +1,5 @@
-use Rattle.std.proofs.Common.{◌≡◌, ◌∷◌, [], refl, arith, Ok, Err}
-use Rattle.std.proofs.lemmas.Grind.{common_steps}
-use Rattle.text_scan.specs.Words.{words_of}
-use Rattle.script_lines.specs.declared.faults.LineFault.TheVariants.{BadForm}
-use Rattle.script_lines.specs.Arguments.{UseId, Word, read_words}
+use Rattle.script_lines.proofs.Common.{◌≡◌, ◌∷◌, [], refl, arith, Ok, Err, common_steps, words_of, BadForm, UseId, Word}
+use Rattle.script_lines.specs.Arguments.{read_words}
 use Rattle.script_lines.proofs.ReadLaws.{read-front, read-front-err, read-front-bad, read-none, read-rest}
 use Rattle.script_lines.proofs.readings.id_alone.Goals as goal
 

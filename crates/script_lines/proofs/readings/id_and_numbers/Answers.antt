@@ -1,8 +1,5 @@
-use Rattle.std.proofs.Common.{◌≡◌, ◌∷◌, refl, map, replicate, arith, Ok, Err}
-use Rattle.std.proofs.lemmas.Grind.{common_steps}
-use Rattle.text_scan.specs.Words.{words_of}
-use Rattle.script_lines.specs.declared.faults.LineFault.TheVariants.{BadForm}
-use Rattle.script_lines.specs.Arguments.{UseId, Number, Word, Value, read_words}
+use Rattle.script_lines.proofs.Common.{◌≡◌, ◌∷◌, refl, map, replicate, arith, Ok, Err, common_steps, words_of, BadForm, UseId, Number, Word, Value}
+use Rattle.script_lines.specs.Arguments.{read_words}
 use Rattle.script_lines.proofs.ReadLaws.{read-front, read-front-err, read-front-bad}
 use Rattle.script_lines.proofs.readings.id_and_numbers.Goals as goal
 

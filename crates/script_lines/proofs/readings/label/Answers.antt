@@ -1,11 +1,7 @@
-use Rattle.std.proofs.Common.{◌≡◌, sym, ap, ◌∙◌, true, false, arith, Ok, Err, List, ℕ, ℤ, pos, to_z, of_z, w64, rules}
-use Rattle.std.proofs.lemmas.Grind.{common_steps}
-use Rattle.text_scan.specs.Words.{words_of}
-use Rattle.cell_bodies.specs.Words.{is_label_text, without_outer_blanks}
-use Rattle.script_lines.specs.declared.faults.LineFault.TheVariants.{BadForm}
-use Rattle.script_lines.specs.Arguments.{read_words, is_between, words_and_text, behind, label_given}
-use Rattle.cell_bodies.specs.declared.limits.TheConstants.{LAST_POSITION}
-use Rattle.script_lines.specs.Commands.{label_kinds}
+use Rattle.script_lines.proofs.Common.{◌≡◌, sym, ap, ◌∙◌, true, false, arith, Ok, Err, List, ℕ, ℤ, pos, rules, common_steps, words_of, is_label_text}
+use Rattle.script_lines.proofs.Common.{without_outer_blanks, BadForm, is_between, behind, label_given, LAST_POSITION, label_kinds}
+use Rattle.std.proofs.Common.{to_z, of_z, w64}
+use Rattle.script_lines.specs.Arguments.{read_words, words_and_text}
 use Rattle.script_lines.proofs.LabelLaws.{AreFound, label-none, label-bad, label-text-bad, label-outside, label-no-position, label-read}
 use Rattle.script_lines.proofs.readings.label.Goals as goal
 

@@ -1,10 +1,6 @@
-use Rattle.std.proofs.Common.{◌≡◌, ◌∷◌, refl, ap, map, arith, Ok, Err}
-use Rattle.std.proofs.lemmas.Grind.{common_steps}
-use Rattle.text_scan.specs.Words.{words_of}
-use Rattle.script_lines.specs.declared.faults.LineFault.TheVariants.{BadForm}
-use Rattle.script_lines.specs.Arguments.{Layer, Word, Value, read_words}
+use Rattle.script_lines.proofs.Common.{◌≡◌, ◌∷◌, refl, ap, map, arith, Ok, Err, common_steps, words_of, BadForm, Layer, Word, Value, begins_with}
+use Rattle.script_lines.specs.Arguments.{read_words}
 use Rattle.script_lines.specs.Commands.{four_numbers}
-use Rattle.script_lines.specs.steps.NextWords.{begins_with}
 use Rattle.script_lines.proofs.ReadLaws.{read-front, read-front-err, read-front-bad}
 use Rattle.script_lines.proofs.readings.layer_and_area.Goals as goal
 

@@ -1,7 +1,5 @@
-use Rattle.std.proofs.Common.{◌≡◌, ◌∙◌, [], ap, sym, Err}
+use Rattle.script_lines.proofs.Common.{◌≡◌, ◌∙◌, [], ap, sym, Err, words_of, LineFault}
 use Rattle.std.proofs.lemmas.Result.{IfErr-weaker, on_ok_weaker}
-use Rattle.text_scan.specs.Words.{words_of}
-use Rattle.script_lines.specs.declared.faults.LineFault.{LineFault}
 use Rattle.script_lines.proofs.ReadLaws.{read-none, read-rest}
 use Rattle.script_lines.proofs.readings.nothing.Goals as goal
 

@@ -1,8 +1,5 @@
-use Rattle.std.proofs.Common.{rules, ◌≡◌, ◌≢◌, ◌∷◌, [], refl, arith, Ok, Err}
-use Rattle.std.proofs.lemmas.Grind.{common_steps}
-use Rattle.text_scan.specs.Words.{words_of}
-use Rattle.script_lines.specs.declared.faults.LineFault.TheVariants.{BadForm, Memory as OutOfMemory}
-use Rattle.script_lines.specs.Arguments.{Plain, Word, read_words}
+use Rattle.script_lines.proofs.Common.{rules, ◌≡◌, ◌≢◌, ◌∷◌, [], refl, arith, Ok, Err, common_steps, words_of, BadForm, OutOfMemory, Plain, Word}
+use Rattle.script_lines.specs.Arguments.{read_words}
 use Rattle.script_lines.proofs.ReadLaws.{read-front, read-front-err, read-front-bad}
 use Rattle.script_lines.proofs.readings.plain_pair.Goals as goal
 

@@ -1,9 +1,7 @@
-use Rattle.std.proofs.Common.{◌≡◌, ◌∷◌, [], refl, true, false, arith, Ok}
-use Rattle.std.proofs.lemmas.Grind.{common_steps}
-use Rattle.script_lines.specs.Arguments.{Text, Word, read_words, words_and_text}
+use Rattle.script_lines.proofs.Common.{◌≡◌, ◌∷◌, [], refl, true, false, arith, Ok, common_steps, Text, Word, is_label_text, without_outer_blanks}
+use Rattle.script_lines.specs.Arguments.{read_words, words_and_text}
 use Rattle.script_lines.proofs.ReadLaws.{read-front, read-front-bad, read-none}
 use Rattle.script_lines.proofs.readings.text_alone.Goals as goal
-use Rattle.cell_bodies.specs.Words.{is_label_text, without_outer_blanks}
 
 pub returns-then-not-is_label_text-clause-refused : goal.returns-then-not-is_label_text-clause-refused
 returns-then-not-is_label_text-clause-refused c =

@@ -1,5 +1,4 @@
-use Rattle.std.proofs.Common.{◌≡◌, true}
-use Rattle.session_model.specs.Scripts.{stores_in}
+use Rattle.session_model.proofs.Common.{◌≡◌, true, stores_in}
 use Rattle.session_model.proofs.RerunLaws.{made_good}
 use Rattle.session_model.proofs.SessionLaws.{files_after_some}
 use Rattle.session_model.proofs.StoreLaws.{StoresSome-weaker}

@@ -1,4 +1,4 @@
-use Rattle.std.proofs.Common.{◌≡◌, true}
+use Rattle.session_model.proofs.Common.{◌≡◌, true}
 use Rattle.session_model.proofs.SessionLaws.{files_after_some, report_is_prefix}
 use Rattle.session_model.proofs.laws.what_is_cut_short_begins_the_whole.Goals as goal
 

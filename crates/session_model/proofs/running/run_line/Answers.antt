@@ -1,10 +1,6 @@
-use Rattle.std.proofs.Common.{◌≡◌, inl, inr, List, ℕ, [], append-nil, sym, ap, ◌∙◌, refl, subst, Some}
-use Rattle.std.specs.Prelude.{Bool, Err}
-use Rattle.outside_io.specs.Counts.{Rose}
-use Rattle.session_model.specs.Causes.{ComeFrom, StoreFailed, line_kinds}
-use Rattle.session_model.specs.Effects.{Effect, after_fetches}
-use Rattle.session_model.specs.Reports.{is_told}
-use Rattle.session_model.specs.declared.answer.Halt.TheVariants.{WriteFault}
+use Rattle.session_model.proofs.Common.{◌≡◌, inl, inr, List, ℕ, [], append-nil, sym, ap, ◌∙◌, refl, subst, Some, Err, Rose, ComeFrom, StoreFailed}
+use Rattle.session_model.proofs.Common.{line_kinds, Effect, after_fetches, is_told, WriteFault}
+use Rattle.std.specs.Prelude.{Bool}
 use Rattle.session_model.proofs.CauseLaws.{passed_on_as}
 use Rattle.session_model.proofs.ProgressLaws.{DoesPart-weaker, on_err-given}
 use Rattle.session_model.proofs.running.run_line.Goals as goal

@@ -1,14 +1,8 @@
-use Rattle.std.proofs.Common.{◌≡◌, ◌+◌, ◌∙◌, ap, subst, refl, sym, List, [], ◌∷◌, ◌++◌, ℕ, arith, length, zero-add}
-use Rattle.std.specs.Prelude.{Bool, Err, Ok}
-use Rattle.text_scan.specs.Lines.{lines_of}
-use Rattle.session_model.specs.declared.answer.Halt.TheVariants.{WriteFault}
-use Rattle.outside_io.specs.Counts.{Rose}
-use Rattle.session_model.specs.declared.report.ReportLine.{ReportLine}
-use Rattle.session_model.specs.Causes.{StoreFailed}
-use Rattle.session_model.specs.Counted.{AreCounted}
-use Rattle.session_model.specs.Effects.{Effect, with_stores}
-use Rattle.session_model.specs.Reports.{report_of}
-use Rattle.session_model.specs.Scripts.{Act, MeansInSound, acts_of, answers_in, lines_in, stores_in}
+use Rattle.session_model.proofs.Common.{◌≡◌, ◌+◌, ◌∙◌, ap, subst, refl, sym, List, [], ◌∷◌, ◌++◌, ℕ, arith, length, Err, Ok, lines_of, WriteFault}
+use Rattle.session_model.proofs.Common.{Rose, ReportLine, StoreFailed, AreCounted, Effect, with_stores, report_of, Act, MeansInSound, acts_of}
+use Rattle.session_model.proofs.Common.{answers_in, lines_in, stores_in}
+use Rattle.std.proofs.Common.{zero-add}
+use Rattle.std.specs.Prelude.{Bool}
 use Rattle.session_model.proofs.CauseLaws.{passed_on_as}
 use Rattle.session_model.proofs.ProgressLaws.{BeginsNext-weaker, under_way_start, under_way_next, done_at_end, progress_in_line, progress_at_end}
 use Rattle.session_model.proofs.CountedLaws.{none_counted, one_more_counted}

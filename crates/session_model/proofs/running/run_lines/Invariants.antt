@@ -1,8 +1,4 @@
-use Rattle.session_model.specs.Counted.{AreCounted}
-use Rattle.std.proofs.Common.{◌≡◌, ◌≤◌, ◌+◌, ℕ, List, Some, length}
-use Rattle.text_scan.specs.Lines.{lines_of}
-use Rattle.outside_io.specs.Files.{Files}
-use Rattle.session_model.specs.Scripts.{MeansInSound, acts_of, answers_in}
+use Rattle.session_model.proofs.Common.{AreCounted, ◌≡◌, ◌≤◌, ◌+◌, ℕ, List, Some, length, lines_of, Files, MeansInSound, acts_of, answers_in}
 use Rattle.session_model.proofs.ProgressLaws.{UnderWay}
 use Rattle.session_model.proofs.running.run_lines.Given as goal
 

@@ -1,11 +1,6 @@
-use Rattle.std.proofs.Common.{List, map, length, sym, ap, subst, arith}
-use Rattle.std.specs.Prelude.{All}
+use Rattle.sim_networks.proofs.Common.{List, map, length, sym, ap, subst, arith, All, SimFet, Switch, IsWithin, transistor_of, HasTerminals}
+use Rattle.sim_networks.proofs.Common.{names_with_nodes}
 use Rattle.std.proofs.lemmas.List.{length-map}
-use Rattle.sim_text.specs.declared.files.SimFet.{SimFet}
-use Rattle.switch_net.specs.declared.switches.Switch.{Switch}
-use Rattle.switch_net.specs.Network.{IsWithin}
-use Rattle.sim_networks.specs.SimNetworks.{transistor_of}
-use Rattle.sim_networks.specs.steps.Numbering.{HasTerminals, names_with_nodes}
 use Rattle.sim_networks.proofs.InputLaws.{node_below}
 use Rattle.sim_networks.proofs.SwitchLaws.{terminals_known, transistors_long, transistors_within}
 use Rattle.sim_networks.proofs.networks.built.Goals as goal

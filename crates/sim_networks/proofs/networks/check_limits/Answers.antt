@@ -1,7 +1,5 @@
-use Rattle.std.proofs.Common.{length, inl, inr, refl, ap, arith}
+use Rattle.sim_networks.proofs.Common.{length, inl, inr, refl, ap, arith, records_of, names_with_nodes}
 use Rattle.switch_net.specs.declared.limits.TheConstants.{MOST_NODES}
-use Rattle.sim_networks.specs.SimNetworks.{records_of}
-use Rattle.sim_networks.specs.steps.Numbering.{names_with_nodes}
 use Rattle.sim_networks.proofs.CountLaws.{few_nodes, many_nodes}
 use Rattle.sim_networks.proofs.networks.check_limits.Goals as goal
 

@@ -1,7 +1,4 @@
-use Rattle.std.proofs.Common.{arith}
-use Rattle.switch_net.specs.Net.{network_of}
-use Rattle.switch_net.proofs.Sound.{sound_of}
-use Rattle.sim_networks.specs.steps.Numbering.{names_with_nodes}
+use Rattle.sim_networks.proofs.Common.{arith, network_of, sound_of, names_with_nodes}
 use Rattle.sim_networks.proofs.InputLaws.{marks_none, marks_one, no_node, node_below, one_node}
 use Rattle.sim_networks.proofs.networks.mark_input.Goals as goal
 

@@ -1,5 +1,4 @@
-use Rattle.std.proofs.Common.{List, ℕ, sym, subst}
-use Rattle.switch_net.specs.Names.{NameNodesBelow, NameOneNodeEach}
+use Rattle.sim_networks.proofs.Common.{List, ℕ, sym, subst, NameNodesBelow, NameOneNodeEach}
 use Rattle.sim_networks.proofs.InputLaws.{one_node}
 use Rattle.sim_networks.proofs.networks.named_net.Goals as goal
 

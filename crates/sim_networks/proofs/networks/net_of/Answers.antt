@@ -1,7 +1,5 @@
-use Rattle.std.proofs.Common.{◌≡◌, sym, subst}
+use Rattle.sim_networks.proofs.Common.{◌≡◌, sym, subst, IsNumberedByCaps, records_of, names_with_nodes}
 use Rattle.std.proofs.lemmas.Result.{IfOk-weaker}
-use Rattle.sim_networks.specs.SimNetworks.{IsNumberedByCaps, records_of}
-use Rattle.sim_networks.specs.steps.Numbering.{names_with_nodes}
 use Rattle.sim_networks.proofs.networks.net_of.Goals as goal
 
 pub returns-clause-order : goal.returns-clause-order

@@ -1,6 +1,4 @@
-use Rattle.switch_net.specs.Net.{network_of}
-use Rattle.switch_net.proofs.Sound.{sound_of}
-use Rattle.sim_networks.specs.SimNetworks.{records_of}
+use Rattle.sim_networks.proofs.Common.{network_of, sound_of, records_of}
 use Rattle.sim_networks.proofs.InputLaws.{network_made}
 use Rattle.sim_networks.proofs.networks.powered.Goals as goal
 

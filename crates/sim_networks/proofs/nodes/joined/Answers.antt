@@ -1,5 +1,4 @@
-use Rattle.std.proofs.Common.{map, ◌∙◌, arith}
-use Rattle.sim_networks.specs.steps.Numbering.{numbers_in}
+use Rattle.sim_networks.proofs.Common.{map, ◌∙◌, arith, numbers_in}
 use Rattle.sim_networks.proofs.NumberLaws.{number_is}
 use Rattle.sim_networks.proofs.NodeLaws.{known_at, pairs_all, pairs_more}
 use Rattle.sim_networks.proofs.nodes.joined.Goals as goal

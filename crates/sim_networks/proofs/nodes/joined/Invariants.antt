@@ -1,6 +1,4 @@
-use Rattle.std.proofs.Common.{◌≡◌, length, map, take}
-use Rattle.partition.specs.Divides.{Divides, IsPair}
-use Rattle.sim_networks.specs.steps.Numbering.{numbers_in}
+use Rattle.sim_networks.proofs.Common.{◌≡◌, length, map, take, Divides, IsPair, numbers_in}
 use Rattle.sim_networks.proofs.nodes.joined.Given as goal
 
 abbrev pub invariant-loop-pair : goal.invariant-loop-pair

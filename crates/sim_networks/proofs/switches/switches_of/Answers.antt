@@ -1,7 +1,4 @@
-use Rattle.std.proofs.Common.{sym, subst}
-use Rattle.sim_text.specs.declared.files.SimFet.{SimFet}
-use Rattle.sim_networks.specs.SimNetworks.{transistor_of}
-use Rattle.sim_networks.specs.steps.Numbering.{HasTerminals, names_with_nodes}
+use Rattle.sim_networks.proofs.Common.{sym, subst, SimFet, transistor_of, HasTerminals, names_with_nodes}
 use Rattle.sim_networks.proofs.SwitchLaws.{switch_added}
 use Rattle.sim_networks.proofs.switches.switches_of.Goals as goal
 

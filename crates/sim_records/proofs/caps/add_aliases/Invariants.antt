@@ -1,4 +1,4 @@
-use Rattle.std.proofs.Common.{◌≡◌, ◌++◌, map, take}
+use Rattle.sim_records.proofs.Common.{◌≡◌, ◌++◌, map, take}
 use Rattle.sim_records.proofs.caps.add_aliases.Given as goal
 
 -- the aliases passed have been added

@@ -1,5 +1,4 @@
-use Rattle.std.proofs.Common.{◌++◌, ap, ◌∙◌}
-use Rattle.sim_records.specs.SimRecords.{aliases_of}
+use Rattle.sim_records.proofs.Common.{◌++◌, ap, ◌∙◌, aliases_of}
 use Rattle.sim_records.proofs.Additions.{add_images}
 use Rattle.sim_records.proofs.caps.all_aliases.Goals as goal
 

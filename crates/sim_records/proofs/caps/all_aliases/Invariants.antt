@@ -1,6 +1,4 @@
-use Rattle.std.proofs.Common.{◌≡◌, take}
-use Rattle.std.specs.List.{flat_map}
-use Rattle.sim_records.specs.SimRecords.{aliases_of}
+use Rattle.sim_records.proofs.Common.{◌≡◌, take, flat_map, aliases_of}
 use Rattle.sim_records.proofs.caps.all_aliases.Given as goal
 
 -- the aliases of the nodes passed have been added

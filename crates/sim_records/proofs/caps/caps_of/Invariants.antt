@@ -1,5 +1,4 @@
-use Rattle.std.proofs.Common.{◌≡◌, map, take}
-use Rattle.sim_records.specs.SimRecords.{cap_of}
+use Rattle.sim_records.proofs.Common.{◌≡◌, map, take, cap_of}
 use Rattle.sim_records.proofs.caps.caps_of.Given as goal
 
 abbrev pub invariant-loop-node : goal.invariant-loop-node

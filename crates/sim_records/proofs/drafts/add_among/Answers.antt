@@ -1,4 +1,4 @@
-use Rattle.std.proofs.Common.{arith, rules}
+use Rattle.sim_records.proofs.Common.{arith, rules}
 use Rattle.std.proofs.lemmas.List.{take_rest}
 use Rattle.sim_records.proofs.DraftLaws.{adds_all, adds_rest}
 use Rattle.sim_records.proofs.drafts.add_among.Goals as goal

@@ -1,7 +1,4 @@
-use Rattle.std.proofs.Common.{drop}
-use Rattle.sim_records.specs.declared.drafts.SimDraft.{SimDraft}
-use Rattle.sim_records.specs.Switches.{switches_among}
-use Rattle.sim_records.specs.Drafts.{AddsSwitches}
+use Rattle.sim_records.proofs.Common.{drop, SimDraft, switches_among, AddsSwitches}
 use Rattle.sim_records.proofs.drafts.add_among.Given as goal
 
 -- with the switches among the terminals left all have been added

@@ -1,9 +1,4 @@
-use Rattle.std.proofs.Common.{◌≡◌, ◌∙◌, ℤ, ◌+ℤ◌, [], ◌∷◌, subst, rules, to_z, of_z}
-use Rattle.std.specs.Int.{w128}
-use Rattle.std.proofs.lemmas.Int.{to_z-of_z}
-use Rattle.ext_model.specs.declared.records.TermRec.{TermRec}
-use Rattle.sim_records.specs.Switches.{switch_between}
-use Rattle.sim_records.specs.Drafts.{AddsSwitches}
+use Rattle.sim_records.proofs.Common.{◌≡◌, ◌∙◌, ℤ, ◌+ℤ◌, [], ◌∷◌, subst, rules, to_z, of_z, w128, to_z-of_z, TermRec, switch_between, AddsSwitches}
 use Rattle.sim_records.proofs.DraftLaws.{adds_one}
 use Rattle.sim_records.proofs.drafts.add_from.Goals as goal
 

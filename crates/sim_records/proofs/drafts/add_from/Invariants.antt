@@ -1,6 +1,4 @@
-use Rattle.std.proofs.Common.{take}
-use Rattle.sim_records.specs.Switches.{switches_from}
-use Rattle.sim_records.specs.Drafts.{AddsSwitches}
+use Rattle.sim_records.proofs.Common.{take, switches_from, AddsSwitches}
 use Rattle.sim_records.proofs.drafts.add_from.Given as goal
 
 -- the switches to the terminals passed have been added

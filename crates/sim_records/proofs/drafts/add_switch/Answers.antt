@@ -1,12 +1,7 @@
-use Rattle.std.proofs.Common.{◌≡◌, ℕ, ℤ, List, [], ◌∷◌, length, sym, subst, rules, to_z, of_z}
-use Rattle.std.proofs.Common.{length-append}
-use Rattle.std.specs.Int.{w128}
-use Rattle.std.proofs.lemmas.Int.{to_z-of_z}
+use Rattle.sim_records.proofs.Common.{◌≡◌, ℕ, ℤ, List, [], ◌∷◌, length, sym, subst, rules, to_z, of_z, length-append, w128, to_z-of_z}
+use Rattle.sim_records.proofs.Common.{whole_line_saying, switch_between, CountsAsFar, GoesOnBy, IsAsFar, switches_text}
 use Rattle.std.proofs.lemmas.Result.{on_ok_weaker}
 use Rattle.sim_text.specs.declared.files.SimLine.TheVariants.{Fet}
-use Rattle.sim_text.specs.WrittenTexts.{whole_line_saying}
-use Rattle.sim_records.specs.Switches.{switch_between}
-use Rattle.sim_records.specs.Drafts.{CountsAsFar, GoesOnBy, IsAsFar, switches_text}
 use Rattle.sim_records.proofs.DraftLaws.{one_line}
 use Rattle.sim_records.proofs.drafts.add_switch.Goals as goal
 

@@ -1,5 +1,4 @@
-use Rattle.std.proofs.Common.{take}
-use Rattle.sim_records.specs.Drafts.{GoesOnBy, aliases_text}
+use Rattle.sim_records.proofs.Common.{take, GoesOnBy, aliases_text}
 use Rattle.sim_records.proofs.drafts.write_aliases.Given as goal
 
 -- the text has gone on by the other names of the nodes passed

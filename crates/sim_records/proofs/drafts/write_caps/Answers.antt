@@ -1,6 +1,4 @@
-use Rattle.ext_model.specs.declared.records.NodeRec.{NodeRec}
-use Rattle.sim_text.specs.WrittenTexts.{saying_cap, whole_line_saying}
-use Rattle.sim_records.specs.SimRecords.{cap_of}
+use Rattle.sim_records.proofs.Common.{NodeRec, saying_cap, whole_line_saying, cap_of}
 use Rattle.sim_records.proofs.DraftLaws.{goes_nowhere, goes_on_one}
 use Rattle.sim_records.proofs.drafts.write_caps.Goals as goal
 

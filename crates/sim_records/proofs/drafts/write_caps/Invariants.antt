@@ -1,5 +1,4 @@
-use Rattle.std.proofs.Common.{take}
-use Rattle.sim_records.specs.Drafts.{GoesOnBy, caps_text}
+use Rattle.sim_records.proofs.Common.{take, GoesOnBy, caps_text}
 use Rattle.sim_records.proofs.drafts.write_caps.Given as goal
 
 -- the text has gone on by the capacitances of the nodes passed

@@ -1,6 +1,4 @@
-use Rattle.std.proofs.Common.{take}
-use Rattle.sim_text.specs.WrittenTexts.{lines_saying, saying_alias}
-use Rattle.sim_records.specs.Drafts.{GoesOnBy}
+use Rattle.sim_records.proofs.Common.{take, lines_saying, saying_alias, GoesOnBy}
 use Rattle.sim_records.proofs.drafts.write_node_aliases.Given as goal
 
 -- the text has gone on by the names passed

@@ -1,12 +1,9 @@
-use Rattle.std.proofs.Common.{◌≡◌, ◌⊎◌, ◌<◌, ◌++◌, List, length, get_or, sym, ap, subst, ◌∙◌, inl, inr}
+use Rattle.sim_records.proofs.Common.{◌≡◌, ◌<◌, ◌++◌, List, length, sym, ap, subst, ◌∙◌, FetRec, SimFet, MOST_SWITCHES, switches_of}
+use Rattle.std.proofs.Common.{◌⊎◌, get_or, inl, inr}
 use Rattle.std.specs.Prelude.{IfErr}
 use Rattle.std.proofs.lemmas.Result.{err_from_is_err_and}
-use Rattle.ext_model.specs.declared.records.FetRec.{FetRec}
-use Rattle.sim_text.specs.declared.files.SimFet.{SimFet}
 use Rattle.sim_text.specs.declared.faults.SimFault.{SimFault}
 use Rattle.sim_text.specs.declared.faults.SimFault.TheVariants.{Memory}
-use Rattle.sim_records.specs.declared.limits.TheConstants.{MOST_SWITCHES}
-use Rattle.sim_records.specs.Switches.{switches_of}
 use Rattle.sim_records.specs.SimRecords.{HasTooManySwitches}
 use Rattle.sim_records.proofs.Additions.{too_many_switches}
 use Rattle.sim_records.proofs.records.sim_of.Goals as goal

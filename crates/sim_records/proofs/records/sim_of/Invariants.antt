@@ -1,7 +1,4 @@
-use Rattle.std.proofs.Common.{◌≡◌, ◌≤◌, length, take}
-use Rattle.std.specs.List.{flat_map}
-use Rattle.sim_records.specs.declared.limits.TheConstants.{MOST_SWITCHES}
-use Rattle.sim_records.specs.Switches.{switches_of}
+use Rattle.sim_records.proofs.Common.{◌≡◌, ◌≤◌, length, take, flat_map, MOST_SWITCHES, switches_of}
 use Rattle.sim_records.proofs.records.sim_of.Given as goal
 
 -- the switches of the transistors passed have been added

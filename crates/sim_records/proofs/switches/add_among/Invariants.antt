@@ -1,6 +1,4 @@
-use Rattle.std.proofs.Common.{◌≡◌, ◌≤◌, ◌++◌, drop, length}
-use Rattle.sim_records.specs.declared.limits.TheConstants.{MOST_SWITCHES}
-use Rattle.sim_records.specs.Switches.{switches_among}
+use Rattle.sim_records.proofs.Common.{◌≡◌, ◌≤◌, ◌++◌, drop, length, MOST_SWITCHES, switches_among}
 use Rattle.sim_records.proofs.switches.add_among.Given as goal
 
 -- what stands and the switches among the terminals left are all

@@ -1,7 +1,4 @@
-use Rattle.std.proofs.Common.{◌++◌, ◌∷◌, [], List, ◌+ℤ◌, take, ap, ◌∙◌}
-use Rattle.ext_model.specs.declared.records.TermRec.{TermRec}
-use Rattle.sim_text.specs.declared.files.SimFet.{SimFet}
-use Rattle.sim_records.specs.Switches.{switch_between, switches_from}
+use Rattle.sim_records.proofs.Common.{◌++◌, ◌∷◌, [], List, ◌+ℤ◌, take, ap, ◌∙◌, TermRec, SimFet, switch_between, switches_from}
 use Rattle.sim_records.proofs.Additions.{add_image}
 use Rattle.sim_records.proofs.switches.add_from.Goals as goal
 

@@ -1,6 +1,4 @@
-use Rattle.std.proofs.Common.{◌≡◌, ◌≤◌, ◌++◌, length, take}
-use Rattle.sim_records.specs.declared.limits.TheConstants.{MOST_SWITCHES}
-use Rattle.sim_records.specs.Switches.{switches_from}
+use Rattle.sim_records.proofs.Common.{◌≡◌, ◌≤◌, ◌++◌, length, take, MOST_SWITCHES, switches_from}
 use Rattle.sim_records.proofs.switches.add_from.Given as goal
 
 -- the switches to the terminals passed have been added

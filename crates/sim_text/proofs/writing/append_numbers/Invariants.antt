@@ -1,5 +1,4 @@
-use Rattle.std.proofs.Common.{◌≡◌, ◌++◌, drop}
-use Rattle.sim_text.specs.WrittenTexts.{numbers_behind_blanks}
+use Rattle.sim_text.proofs.Common.{◌≡◌, ◌++◌, drop, numbers_behind_blanks}
 use Rattle.sim_text.proofs.writing.append_numbers.Given as goal
 
 abbrev pub invariant-loop-number : goal.invariant-loop-number

@@ -1,8 +1,5 @@
-use Rattle.std.proofs.Common.{ℕ, ℤ, List, ◌++◌, ◌∙◌, ap, subst}
+use Rattle.sim_text.proofs.Common.{ℕ, ℤ, List, ◌++◌, ◌∙◌, ap, subst, SimFet, Fet, saying_cap, saying_alias, lines_saying, IsTooLong}
 use Rattle.std.proofs.lemmas.Result.{err_from_is_err_and}
-use Rattle.sim_text.specs.declared.files.SimFet.{SimFet}
-use Rattle.sim_text.specs.declared.files.SimLine.TheVariants.{Fet}
-use Rattle.sim_text.specs.WrittenTexts.{saying_cap, saying_alias, lines_saying, IsTooLong}
 use Rattle.sim_text.proofs.AppendedText.{circuit_appended, fets_too_long, caps_too_long, aliases_too_long}
 use Rattle.sim_text.proofs.writing.write_circuit.Goals as goal
 

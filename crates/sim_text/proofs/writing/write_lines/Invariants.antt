@@ -1,5 +1,4 @@
-use Rattle.std.proofs.Common.{◌≡◌, ◌++◌, drop}
-use Rattle.sim_text.specs.WrittenTexts.{lines_saying}
+use Rattle.sim_text.proofs.Common.{◌≡◌, ◌++◌, drop, lines_saying}
 use Rattle.sim_text.proofs.writing.write_lines.Given as goal
 
 abbrev pub invariant-loop-item : goal.invariant-loop-item

@@ -1,12 +1,6 @@
 -- What is grown goes nowhere past the edge of planes; shrunk again it is what lies in no box outside the set.
-use Rattle.std.proofs.Common.{pos, ◌-ℤ◌, List, sym, subst}
-use Rattle.std.specs.Prelude.{All}
-use Rattle.std.proofs.lemmas.Result.{IfOk-weaker}
-use Rattle.geo_core.specs.declared.limits.TheConstants.{PLANE_EDGE}
-use Rattle.geo_core.specs.declared.squares.Rect.{Rect}
-use Rattle.geo_core.specs.Strips.{IsInUnion, IsStrips}
-use Rattle.square_sets.specs.Boxes.{IsOutside, LiesInNoBox}
-use Rattle.square_sets.specs.Reaches.{AreSameSquares, IsBounded, IsDilated}
+use Rattle.square_sets.proofs.Common.{pos, ◌-ℤ◌, List, sym, subst, All, IfOk-weaker, PLANE_EDGE, Rect, IsInUnion, IsStrips, IsOutside, LiesInNoBox}
+use Rattle.square_sets.proofs.Common.{AreSameSquares, IsBounded, IsDilated}
 use Rattle.square_sets.proofs.BoundLaws.{corner_reach}
 use Rattle.square_sets.proofs.BoxLaws.{closed, same_trans}
 use Rattle.square_sets.proofs.ErosionLaws.{strips_again, strips_cover, strips_of_same, strips_within}

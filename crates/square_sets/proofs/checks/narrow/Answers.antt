@@ -1,15 +1,7 @@
 -- What of a set lies in no box inside it is too narrow.
-use Rattle.std.proofs.Common.{◌≡◌, List, w64, to_z, of_z, sym, subst, rules}
-use Rattle.std.proofs.lemmas.Int.{to_z-of_z}
-use Rattle.std.specs.Prelude.{All}
-use Rattle.std.proofs.lemmas.Result.{IfOk-weaker}
-use Rattle.geo_core.specs.declared.squares.Rect.{Rect}
-use Rattle.geo_core.specs.Strips.{IsInUnion, IsStrips}
-use Rattle.geo_core.proofs.StripSets.{strips_same}
-use Rattle.square_sets.specs.declared.limits.TheConstants.{SET_EDGE}
-use Rattle.square_sets.specs.Boxes.{IsTooNarrow, LiesInBox}
-use Rattle.square_sets.specs.steps.Combined.{IsInFirstAlone}
-use Rattle.square_sets.specs.Reaches.{IsBounded}
+use Rattle.square_sets.proofs.Common.{◌≡◌, List, w64, to_z, of_z, sym, subst, rules, to_z-of_z, All, IfOk-weaker, Rect, IsInUnion, IsStrips}
+use Rattle.square_sets.proofs.Common.{strips_same, SET_EDGE, LiesInBox, IsInFirstAlone, IsBounded}
+use Rattle.square_sets.specs.Boxes.{IsTooNarrow}
 use Rattle.square_sets.proofs.BoxLaws.{narrow_same}
 use Rattle.square_sets.proofs.ErosionLaws.{strips_again, strips_cover, strips_within}
 use Rattle.square_sets.proofs.checks.narrow.Goals as goal

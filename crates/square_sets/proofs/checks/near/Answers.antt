@@ -1,12 +1,6 @@
 -- What the second set reaches on all sides is what is near it.
-use Rattle.std.proofs.Common.{◌≡◌, w64, to_z, of_z, rules}
-use Rattle.std.proofs.lemmas.Int.{to_z-of_z}
-use Rattle.std.proofs.lemmas.Result.{IfOk-weaker}
-use Rattle.geo_core.specs.declared.squares.Square.{Square}
-use Rattle.geo_core.specs.Strips.{IsInUnion, IsStrips}
-use Rattle.geo_core.proofs.StripSets.{strips_same}
+use Rattle.square_sets.proofs.Common.{◌≡◌, w64, to_z, of_z, rules, to_z-of_z, IfOk-weaker, Square, IsInUnion, IsStrips, strips_same, IsInBoth}
 use Rattle.square_sets.specs.Boxes.{IsNearBy, IsTooNear}
-use Rattle.square_sets.specs.steps.Combined.{IsInBoth}
 use Rattle.square_sets.proofs.BoxLaws.{around, same_trans}
 use Rattle.square_sets.proofs.ErosionLaws.{strips_cover}
 use Rattle.square_sets.proofs.checks.near.Goals as goal

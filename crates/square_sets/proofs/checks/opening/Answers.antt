@@ -1,12 +1,5 @@
 -- What is shrunk goes nowhere past the edge; grown again it is what lies in boxes.
-use Rattle.std.proofs.Common.{pos, ◌-ℤ◌, sym, subst, arith}
-use Rattle.std.specs.Prelude.{All}
-use Rattle.std.proofs.lemmas.Int.{ints}
-use Rattle.std.proofs.lemmas.Result.{IfOk-weaker}
-use Rattle.geo_core.specs.Strips.{IsInUnion, IsStrips}
-use Rattle.square_sets.specs.declared.limits.TheConstants.{SET_EDGE}
-use Rattle.square_sets.specs.Boxes.{LiesInBox}
-use Rattle.square_sets.specs.Reaches.{IsBounded}
+use Rattle.square_sets.proofs.Common.{pos, ◌-ℤ◌, sym, subst, arith, All, ints, IfOk-weaker, IsInUnion, IsStrips, SET_EDGE, LiesInBox, IsBounded}
 use Rattle.square_sets.proofs.BoundLaws.{corner_reach, union_within}
 use Rattle.square_sets.proofs.BoxLaws.{opened}
 use Rattle.square_sets.proofs.ErosionLaws.{eroded_within, strips_of_same}

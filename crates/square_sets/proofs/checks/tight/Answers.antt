@@ -1,11 +1,7 @@
 -- What of the squares in no box outside a set is not of the set is too tight.
-use Rattle.std.proofs.Common.{◌≡◌, w64, to_z, of_z, rules}
-use Rattle.std.proofs.lemmas.Int.{to_z-of_z}
-use Rattle.std.proofs.lemmas.Result.{IfOk-weaker}
-use Rattle.geo_core.specs.Strips.{IsInUnion, IsStrips}
-use Rattle.geo_core.proofs.StripSets.{strips_same}
-use Rattle.square_sets.specs.Boxes.{IsOutside, IsTooTight, LiesInNoBox}
-use Rattle.square_sets.specs.steps.Combined.{IsInFirstAlone}
+use Rattle.square_sets.proofs.Common.{◌≡◌, w64, to_z, of_z, rules, to_z-of_z, IfOk-weaker, IsInUnion, IsStrips, strips_same, IsOutside, LiesInNoBox}
+use Rattle.square_sets.proofs.Common.{IsInFirstAlone}
+use Rattle.square_sets.specs.Boxes.{IsTooTight}
 use Rattle.square_sets.proofs.ErosionLaws.{strips_cover}
 use Rattle.square_sets.proofs.checks.tight.Goals as goal
 

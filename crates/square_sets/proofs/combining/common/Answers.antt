@@ -1,7 +1,5 @@
 -- The stacks that have members of both lists have what both cover.
-use Rattle.std.proofs.lemmas.Result.{IfOk-weaker}
-use Rattle.geo_core.specs.Strips.{IsStrips}
-use Rattle.square_sets.specs.steps.Combined.{IsInBoth}
+use Rattle.square_sets.proofs.Common.{IfOk-weaker, IsStrips, IsInBoth}
 use Rattle.square_sets.proofs.CombinedLaws.{shared_same}
 use Rattle.square_sets.proofs.ErosionLaws.{strips_of_same}
 use Rattle.square_sets.proofs.combining.common.Goals as goal

@@ -1,7 +1,5 @@
 -- The stacks all of whose members are of the first list have what it covers alone.
-use Rattle.std.proofs.lemmas.Result.{IfOk-weaker}
-use Rattle.geo_core.specs.Strips.{IsStrips}
-use Rattle.square_sets.specs.steps.Combined.{IsInFirstAlone}
+use Rattle.square_sets.proofs.Common.{IfOk-weaker, IsStrips, IsInFirstAlone}
 use Rattle.square_sets.proofs.CombinedLaws.{lone_same}
 use Rattle.square_sets.proofs.ErosionLaws.{strips_of_same}
 use Rattle.square_sets.proofs.combining.difference.Goals as goal

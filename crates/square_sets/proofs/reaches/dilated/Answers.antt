@@ -1,12 +1,7 @@
 -- What is grown covers what is reached, has squares, and goes nowhere past the edge of planes.
-use Rattle.std.proofs.Common.{◌≡◌, map, w64, to_z, of_z, sym, ◌∙◌, ap, subst, rules}
-use Rattle.std.specs.Prelude.{All}
-use Rattle.std.proofs.lemmas.Int.{to_z-of_z}
+use Rattle.square_sets.proofs.Common.{◌≡◌, map, w64, to_z, of_z, sym, ◌∙◌, ap, subst, rules, All, to_z-of_z, PLANE_EDGE, IsProper, IsInUnion, grown}
+use Rattle.square_sets.proofs.Common.{AreSameSquares, IsBounded, IsDilated}
 use Rattle.std.proofs.lemmas.List.{take_all}
-use Rattle.geo_core.specs.declared.limits.TheConstants.{PLANE_EDGE}
-use Rattle.geo_core.specs.Covering.{IsProper}
-use Rattle.geo_core.specs.Strips.{IsInUnion}
-use Rattle.square_sets.specs.Reaches.{grown, AreSameSquares, IsBounded, IsDilated}
 use Rattle.square_sets.proofs.DilationLaws.{grown_bounded, grown_proper, grown_same}
 use Rattle.square_sets.proofs.reaches.dilated.Goals as goal
 

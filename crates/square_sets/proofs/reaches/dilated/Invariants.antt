@@ -1,5 +1,4 @@
-use Rattle.std.proofs.Common.{◌≡◌, take, map}
-use Rattle.square_sets.specs.Reaches.{grown}
+use Rattle.square_sets.proofs.Common.{◌≡◌, take, map, grown}
 use Rattle.square_sets.proofs.reaches.dilated.Given as goal
 
 -- the rectangles so far are grown

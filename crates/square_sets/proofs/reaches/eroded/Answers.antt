@@ -1,13 +1,6 @@
 -- The strips lose columns and are turned; so do the strips of what is left.
-use Rattle.std.proofs.Common.{◌≡◌, List, w64, to_z, of_z, sym, ◌∙◌, ap, subst, rules}
-use Rattle.std.specs.Prelude.{All}
-use Rattle.std.proofs.lemmas.Int.{to_z-of_z}
-use Rattle.std.proofs.lemmas.Result.{IfOk-weaker}
-use Rattle.geo_core.specs.declared.limits.TheConstants.{PLANE_EDGE}
-use Rattle.geo_core.specs.declared.squares.Rect.{Rect}
-use Rattle.geo_core.specs.Covering.{IsProper}
-use Rattle.geo_core.specs.Strips.{IsInUnion, IsStrips}
-use Rattle.square_sets.specs.Reaches.{AreSameSquares, IsBounded, IsEroded}
+use Rattle.square_sets.proofs.Common.{◌≡◌, List, w64, to_z, of_z, sym, ◌∙◌, ap, subst, rules, All, to_z-of_z, IfOk-weaker, PLANE_EDGE, Rect}
+use Rattle.square_sets.proofs.Common.{IsProper, IsInUnion, IsStrips, AreSameSquares, IsBounded, IsEroded}
 use Rattle.square_sets.proofs.ErosionLaws.{cores, cores_bounded, cores_proper, eroded_same, strips_cover, strips_within}
 use Rattle.square_sets.proofs.reaches.eroded.Goals as goal
 

@@ -1,5 +1,4 @@
-use Rattle.geo_core.proofs.SquareLaws.{rect_is}
-use Rattle.square_sets.specs.Reaches.{grown}
+use Rattle.square_sets.proofs.Common.{rect_is, grown}
 use Rattle.square_sets.proofs.BoundLaws.{bound_less, bound_more, bounds_held, within_plane}
 use Rattle.square_sets.proofs.reaches.grown.Goals as goal
 

@@ -1,5 +1,4 @@
-use Rattle.geo_core.proofs.SquareLaws.{rect_is}
-use Rattle.square_sets.specs.Reaches.{upright_core}
+use Rattle.square_sets.proofs.Common.{rect_is, upright_core}
 use Rattle.square_sets.proofs.BoundLaws.{bound_less, bound_more, bound_same, bounds_held}
 use Rattle.square_sets.proofs.reaches.upright_core.Goals as goal
 

@@ -1,9 +1,7 @@
 -- One rectangle more adds its core, unless that has no square.
-use Rattle.std.proofs.Common.{◌≡◌, List, [], ◌∷◌, ◌++◌, true, false, w64, to_z, of_z, sym, ◌∙◌, ap, rules}
-use Rattle.std.proofs.lemmas.Int.{to_z-of_z}
+use Rattle.square_sets.proofs.Common.{◌≡◌, List, w64, to_z, of_z, sym, ◌∙◌, ap, rules, to_z-of_z, Rect, has_square}
+use Rattle.std.proofs.Common.{[], ◌∷◌, ◌++◌, true, false}
 use Rattle.std.proofs.lemmas.List.{append-nil, take_all}
-use Rattle.geo_core.specs.declared.squares.Rect.{Rect}
-use Rattle.geo_core.specs.Areas.{has_square}
 use Rattle.square_sets.proofs.ErosionLaws.{cores, cores_more}
 use Rattle.square_sets.proofs.reaches.upright_cores.Goals as goal
 use Rattle.square_sets.proofs.reaches.upright_cores.Goals.{then-has_square+in_ok-push, else-has_square}

@@ -1,6 +1,5 @@
-use Rattle.std.proofs.Common.{◌≡◌, take, filter, map}
-use Rattle.geo_core.specs.Areas.{has_square}
-use Rattle.square_sets.specs.Reaches.{upright_core}
+use Rattle.square_sets.proofs.Common.{◌≡◌, take, map, has_square, upright_core}
+use Rattle.std.proofs.Common.{filter}
 use Rattle.square_sets.proofs.reaches.upright_cores.Given as goal
 
 -- what is left of the rectangles so far

@@ -1,5 +1,4 @@
-use Rattle.std.proofs.Common.{arith}
-use Rattle.steady_state.specs.steps.Wired.{sorted_at}
+use Rattle.steady_state.proofs.Common.{arith, sorted_at}
 use Rattle.steady_state.proofs.Wires.{sorted, run_is}
 use Rattle.steady_state.proofs.adjacent.switches_at.Goals as goal
 

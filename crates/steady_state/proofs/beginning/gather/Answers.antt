@@ -1,7 +1,6 @@
-use Rattle.steady_state.specs.steps.Wired.{network_in}
+use Rattle.steady_state.proofs.Common.{network_in, Left}
 use Rattle.steady_state.proofs.Collecting.{adds_then, covered_grown}
 use Rattle.steady_state.proofs.Gathering.{gathered_of}
-use Rattle.switch_net.specs.declared.terminals.Side.TheVariants.{Left}
 use Rattle.steady_state.proofs.beginning.gather.Goals as goal
 
 pub returns-clause-gathered : goal.returns-clause-gathered

@@ -1,6 +1,4 @@
-use Rattle.std.proofs.Common.{◌≡◌, true}
-use Rattle.switch_net.specs.Path.{is_closed_or_unknown}
-use Rattle.steady_state.specs.steps.Wired.{network_in}
+use Rattle.steady_state.proofs.Common.{◌≡◌, true, is_closed_or_unknown, network_in}
 use Rattle.steady_state.proofs.Collecting.{reached_more}
 use Rattle.steady_state.proofs.beginning.look.Goals as goal
 

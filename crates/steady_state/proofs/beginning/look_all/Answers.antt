@@ -1,10 +1,4 @@
-use Rattle.std.proofs.Common.{arith, slice_index, slice_index_or}
-use Rattle.switch_net.specs.declared.switches.Switch.{Switch}
-use Rattle.switch_net.specs.declared.terminals.Terminal.TheVariants.{End}
-use Rattle.switch_net.proofs.Counting.{no_switch}
-use Rattle.steady_state.specs.steps.Gathering.{BringAtMost}
-use Rattle.steady_state.specs.Marked.{LeadsInside}
-use Rattle.steady_state.specs.steps.Wired.{network_in}
+use Rattle.steady_state.proofs.Common.{arith, slice_index, slice_index_or, Switch, End, no_switch, BringAtMost, LeadsInside, network_in}
 use Rattle.steady_state.proofs.Collecting.{adds_none, adds_then, leads_grown}
 use Rattle.steady_state.proofs.Gathering.{bring_up, more_then, none_more, pulled_of}
 use Rattle.steady_state.proofs.Wires.{switch_at, each_at, next_at}

@@ -1,9 +1,5 @@
-use Rattle.std.proofs.Common.{◌<◌, ℕ, List, slice_index, slice_index_or}
-use Rattle.switch_net.specs.declared.switches.Switch.{Switch}
-use Rattle.switch_net.specs.Vicinity.{IsReached}
-use Rattle.steady_state.specs.steps.Gathering.{AreGathering, AreMore, BringAtMost}
-use Rattle.steady_state.specs.Marked.{AreMarked, AddsMarks, AreReached, LeadsInside}
-use Rattle.steady_state.specs.steps.Wired.{network_in}
+use Rattle.steady_state.proofs.Common.{◌<◌, ℕ, List, slice_index, slice_index_or, Switch, IsReached, AreGathering, AreMore, BringAtMost, AreMarked}
+use Rattle.steady_state.proofs.Common.{AddsMarks, AreReached, LeadsInside, network_in}
 use Rattle.steady_state.proofs.beginning.look_all.Given as goal
 
 abbrev pub invariant-switches : goal.invariant-switches

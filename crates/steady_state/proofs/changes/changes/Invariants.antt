@@ -1,6 +1,4 @@
-use Rattle.std.proofs.Common.{◌≢◌, ◌<◌, ◌≤◌, ℕ, length, slice_index}
-use Rattle.switch_net.specs.Path.{state_of}
-use Rattle.switch_net.specs.Sets.{IsAmong}
+use Rattle.steady_state.proofs.Common.{◌≢◌, ◌<◌, ◌≤◌, ℕ, length, slice_index, state_of, IsAmong}
 use Rattle.steady_state.proofs.changes.changes.Given as goal
 
 abbrev pub invariant-loop-node : goal.invariant-loop-node

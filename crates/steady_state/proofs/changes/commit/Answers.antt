@@ -1,4 +1,4 @@
-use Rattle.std.proofs.Common.{arith}
+use Rattle.steady_state.proofs.Common.{arith}
 use Rattle.steady_state.proofs.Moving.{same_states}
 use Rattle.steady_state.proofs.changes.commit.Goals as goal
 

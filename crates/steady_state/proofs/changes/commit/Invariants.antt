@@ -1,5 +1,4 @@
-use Rattle.std.proofs.Common.{◌≡◌, ◌≢◌, ◌<◌, ◌≤◌, ℕ, length, slice_index}
-use Rattle.switch_net.specs.Path.{state_of}
+use Rattle.steady_state.proofs.Common.{◌≡◌, ◌≢◌, ◌<◌, ◌≤◌, ℕ, length, slice_index, state_of}
 use Rattle.steady_state.proofs.changes.commit.Given as goal
 
 abbrev pub invariant-loop-node : goal.invariant-loop-node

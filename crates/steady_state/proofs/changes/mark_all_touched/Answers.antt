@@ -1,6 +1,4 @@
-use Rattle.std.proofs.Common.{ℕ, slice_index}
-use Rattle.steady_state.specs.Marked.{IsTouched}
-use Rattle.steady_state.specs.steps.Wired.{network_in}
+use Rattle.steady_state.proofs.Common.{ℕ, slice_index, IsTouched, network_in}
 use Rattle.steady_state.proofs.Moving.{below_one}
 use Rattle.steady_state.proofs.Resting.{touched_grown}
 use Rattle.steady_state.proofs.changes.mark_all_touched.Goals as goal

@@ -1,6 +1,4 @@
-use Rattle.std.proofs.Common.{◌<◌, ℕ, slice_index}
-use Rattle.steady_state.specs.Marked.{AreMarked, IsTouched}
-use Rattle.steady_state.specs.steps.Wired.{network_in}
+use Rattle.steady_state.proofs.Common.{◌<◌, ℕ, slice_index, AreMarked, IsTouched, network_in}
 use Rattle.steady_state.proofs.changes.mark_all_touched.Given as goal
 
 abbrev pub invariant-nodes : goal.invariant-nodes

@@ -1,7 +1,4 @@
-use Rattle.std.proofs.Common.{arith, slice_index, slice_index_or}
-use Rattle.switch_net.proofs.Counting.{no_switch}
-use Rattle.steady_state.specs.Marked.{EndsInside}
-use Rattle.steady_state.specs.steps.Wired.{network_in}
+use Rattle.steady_state.proofs.Common.{arith, slice_index, slice_index_or, no_switch, EndsInside, network_in}
 use Rattle.steady_state.proofs.Moving.{ends_grown}
 use Rattle.steady_state.proofs.Wires.{switch_at, each_at, next_at}
 use Rattle.steady_state.proofs.changes.mark_at.Goals as goal

@@ -1,8 +1,4 @@
-use Rattle.std.proofs.Common.{◌<◌, ℕ, slice_index, slice_index_or}
-use Rattle.switch_net.specs.declared.switches.Switch.{Switch}
-use Rattle.switch_net.specs.Sets.{IsInside}
-use Rattle.steady_state.specs.Marked.{AreMarked, EndsInside}
-use Rattle.steady_state.specs.steps.Wired.{network_in}
+use Rattle.steady_state.proofs.Common.{◌<◌, ℕ, slice_index, slice_index_or, Switch, IsInside, AreMarked, EndsInside, network_in}
 use Rattle.steady_state.proofs.changes.mark_at.Given as goal
 
 abbrev pub invariant-switches : goal.invariant-switches

@@ -1,8 +1,4 @@
-use Rattle.std.proofs.Common.{ℕ, slice_index}
-use Rattle.switch_net.specs.Vicinity.{IsStorage}
-use Rattle.switch_net.specs.Sets.{IsInside}
-use Rattle.steady_state.specs.Marked.{IsGated}
-use Rattle.steady_state.specs.steps.Wired.{network_in}
+use Rattle.steady_state.proofs.Common.{ℕ, slice_index, IsStorage, IsInside, IsGated, network_in}
 use Rattle.steady_state.proofs.Moving.{gated_grown, below_one}
 use Rattle.steady_state.proofs.changes.mark_changed.Goals as goal
 

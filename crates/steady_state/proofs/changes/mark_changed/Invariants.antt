@@ -1,8 +1,4 @@
-use Rattle.std.proofs.Common.{◌<◌, ℕ, slice_index}
-use Rattle.switch_net.specs.Vicinity.{IsStorage}
-use Rattle.switch_net.specs.Sets.{IsInside}
-use Rattle.steady_state.specs.Marked.{AreMarked, IsGated}
-use Rattle.steady_state.specs.steps.Wired.{network_in}
+use Rattle.steady_state.proofs.Common.{◌<◌, ℕ, slice_index, IsStorage, IsInside, AreMarked, IsGated, network_in}
 use Rattle.steady_state.proofs.changes.mark_changed.Given as goal
 
 abbrev pub invariant-changed : goal.invariant-changed

@@ -1,4 +1,4 @@
-use Rattle.steady_state.specs.steps.Wired.{network_in}
+use Rattle.steady_state.proofs.Common.{network_in}
 use Rattle.steady_state.proofs.Resting.{touched_from}
 use Rattle.steady_state.proofs.changes.mark_touched.Goals as goal
 

@@ -1,6 +1,4 @@
-use Rattle.std.proofs.Common.{ℕ, arith, slice_index}
-use Rattle.switch_net.specs.declared.terminals.Side.TheVariants.{Left, Right}
-use Rattle.steady_state.specs.steps.Wired.{network_in}
+use Rattle.steady_state.proofs.Common.{ℕ, arith, slice_index, Left, Right, network_in}
 use Rattle.steady_state.proofs.Collecting.{adds_then, covered_late}
 use Rattle.steady_state.proofs.Gathering.{gathered_more}
 use Rattle.steady_state.proofs.exploring.explore.Goals as goal

@@ -1,10 +1,5 @@
-use Rattle.std.proofs.Common.{◌<◌, ◌≤◌, ◌-◌, ℕ, List, slice_index}
-use Rattle.switch_net.specs.declared.terminals.Side.TheVariants.{Left, Right}
-use Rattle.switch_net.specs.Sets.{IsInside}
-use Rattle.switch_net.specs.Vicinity.{IsReached, IsStorage}
-use Rattle.steady_state.specs.steps.Gathering.{AreGatheredAt}
-use Rattle.steady_state.specs.Marked.{AddsMarks, AreMarked, AreReached, IsCovered}
-use Rattle.steady_state.specs.steps.Wired.{network_in}
+use Rattle.steady_state.proofs.Common.{◌<◌, ◌≤◌, ◌-◌, ℕ, List, slice_index, Left, Right, IsInside, IsReached, IsStorage, AreGatheredAt, AddsMarks}
+use Rattle.steady_state.proofs.Common.{AreMarked, AreReached, IsCovered, network_in}
 use Rattle.steady_state.proofs.exploring.explore.Given as goal
 
 abbrev pub invariant-nodes : goal.invariant-nodes

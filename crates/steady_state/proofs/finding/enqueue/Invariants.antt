@@ -1,5 +1,4 @@
-use Rattle.std.proofs.Common.{◌≡◌, ◌<◌, ℕ, length, slice_index}
-use Rattle.switch_net.specs.Sets.{IsInside, IsAmong}
+use Rattle.steady_state.proofs.Common.{◌≡◌, ◌<◌, ℕ, length, slice_index, IsInside, IsAmong}
 use Rattle.steady_state.proofs.finding.enqueue.Given as goal
 
 abbrev pub invariant-nodes : goal.invariant-nodes

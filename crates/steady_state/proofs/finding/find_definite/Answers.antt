@@ -1,9 +1,4 @@
-use Rattle.std.proofs.Common.{[], arith, inl, inr, refl, length, slice_index}
-use Rattle.std.proofs.lemmas.Bool.{cases_lt}
-use Rattle.switch_net.specs.Terminals.{near_end}
-use Rattle.steady_state.specs.declared.kinds.PathKind.TheVariants.{Definite}
-use Rattle.steady_state.specs.steps.Parts.{IsInPart}
-use Rattle.steady_state.specs.steps.Wired.{network_in}
+use Rattle.steady_state.proofs.Common.{[], arith, inl, inr, refl, length, slice_index, cases_lt, near_end, Definite, IsInPart, network_in}
 use Rattle.steady_state.proofs.Gathering.{first_above, least_definite, relaxed_alone, relaxed_least}
 use Rattle.steady_state.proofs.Passes.{begun_working, found, order_below}
 use Rattle.steady_state.proofs.Wires.{sound_of}

@@ -1,11 +1,5 @@
-use Rattle.std.proofs.Common.{◌≡◌, ℕ, arith, inl, inr, length, slice_index}
-use Rattle.std.proofs.lemmas.Bool.{cases_lt}
-use Rattle.switch_net.specs.Terminals.{near_end}
-use Rattle.steady_state.specs.declared.kinds.PathKind.TheVariants.{FromOther}
-use Rattle.steady_state.specs.steps.Kinds.{IsFloor}
-use Rattle.steady_state.specs.steps.Parts.{IsInPart}
-use Rattle.steady_state.specs.steps.Spreading.{IsFirstStrength}
-use Rattle.steady_state.specs.steps.Wired.{network_in}
+use Rattle.steady_state.proofs.Common.{◌≡◌, ℕ, arith, inl, inr, length, slice_index, cases_lt, near_end, FromOther, IsFloor, IsInPart}
+use Rattle.steady_state.proofs.Common.{IsFirstStrength, network_in}
 use Rattle.steady_state.proofs.Gathering.{first_above, first_below, relaxed_alone, relaxed_least}
 use Rattle.steady_state.proofs.Passes.{begun_working, definite_of, found, order_below}
 use Rattle.steady_state.proofs.Wires.{sound_of}

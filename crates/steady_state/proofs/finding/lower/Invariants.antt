@@ -1,4 +1,4 @@
-use Rattle.std.proofs.Common.{◌≡◌, length}
+use Rattle.steady_state.proofs.Common.{◌≡◌, length}
 use Rattle.steady_state.specs.steps.Lowering.{IsLowered}
 use Rattle.steady_state.proofs.finding.lower.Given as goal
 

@@ -1,5 +1,4 @@
-use Rattle.std.proofs.Common.{arith, inl, inr, ℕ, refl, sym, slice_index}
-use Rattle.switch_net.specs.Sets.{IsInside}
+use Rattle.steady_state.proofs.Common.{arith, inl, inr, ℕ, refl, sym, slice_index, IsInside}
 use Rattle.steady_state.proofs.Collecting.{adds_none, adds_then}
 use Rattle.steady_state.proofs.Rounds.{made_more, made_none}
 use Rattle.steady_state.proofs.Moving.{below_one}

@@ -1,7 +1,4 @@
-use Rattle.std.proofs.Common.{◌≡◌, ◌<◌, ◌⊎◌, ℕ, length, slice_index}
-use Rattle.switch_net.specs.Sets.{IsAmong, IsInside}
-use Rattle.steady_state.specs.steps.Rounds.{AreMadeX}
-use Rattle.steady_state.specs.Marked.{AddsMarks}
+use Rattle.steady_state.proofs.Common.{◌≡◌, ◌<◌, ◌⊎◌, ℕ, length, slice_index, IsAmong, IsInside, AreMadeX, AddsMarks}
 use Rattle.steady_state.proofs.forcing.force.Given as goal
 
 abbrev pub invariant-nodes : goal.invariant-nodes

@@ -1,10 +1,5 @@
-use Rattle.std.proofs.Common.{◌≡◌, ◌≢◌, ◌∙◌, add-one, arith, length, refl, take, drop, ℕ}
-use Rattle.switch_net.specs.declared.switches.Level.TheVariants.{X}
-use Rattle.switch_net.specs.Path.{state_of}
-use Rattle.switch_net.specs.Sets.{IsInside}
+use Rattle.steady_state.proofs.Common.{◌≡◌, ◌≢◌, ◌∙◌, add-one, arith, length, refl, take, drop, ℕ, X, state_of, IsInside, known, network_in}
 use Rattle.switch_net.proofs.Forcing.{forced_is_x}
-use Rattle.switch_net.proofs.Listing.{known}
-use Rattle.steady_state.specs.steps.Wired.{network_in}
 use Rattle.steady_state.proofs.Collecting.{marked-le, none_marked}
 use Rattle.steady_state.proofs.Moving.{all_changed, below_take, waiting_take}
 use Rattle.steady_state.proofs.Rounds.{IsForcing, added_listed, added_within, are_over, differ_take, due_first, due_next, few_storage, forced_storage}

@@ -1,9 +1,4 @@
-use Rattle.std.proofs.Common.{◌≤◌, ◌-◌, false, replicate}
-use Rattle.switch_net.specs.Phase.{Rounds}
-use Rattle.steady_state.specs.steps.Rounds.{IsRoundDue}
-use Rattle.steady_state.specs.Levels.{AreReadyFor}
-use Rattle.steady_state.specs.Marked.{AreMarked}
-use Rattle.steady_state.specs.steps.Wired.{network_in}
+use Rattle.steady_state.proofs.Common.{◌≤◌, ◌-◌, false, replicate, Rounds, IsRoundDue, AreReadyFor, AreMarked, network_in}
 use Rattle.steady_state.proofs.forcing.force_all.Given as goal
 
 abbrev pub invariant-rounds : goal.invariant-rounds

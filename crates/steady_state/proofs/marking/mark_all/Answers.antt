@@ -1,6 +1,4 @@
-use Rattle.switch_net.specs.Vicinity.{IsStorage}
-use Rattle.switch_net.specs.Sets.{IsInside}
-use Rattle.steady_state.specs.steps.Wired.{network_in}
+use Rattle.steady_state.proofs.Common.{IsStorage, IsInside, network_in}
 use Rattle.steady_state.proofs.Moving.{below_one}
 use Rattle.steady_state.proofs.marking.mark_all.Goals as goal
 

@@ -1,8 +1,4 @@
-use Rattle.std.proofs.Common.{◌<◌, ℕ}
-use Rattle.switch_net.specs.Vicinity.{IsStorage}
-use Rattle.switch_net.specs.Sets.{IsInside}
-use Rattle.steady_state.specs.Marked.{AreMarked}
-use Rattle.steady_state.specs.steps.Wired.{network_in}
+use Rattle.steady_state.proofs.Common.{◌<◌, ℕ, IsStorage, IsInside, AreMarked, network_in}
 use Rattle.steady_state.proofs.marking.mark_all.Given as goal
 
 abbrev pub invariant-every : goal.invariant-every

@@ -1,6 +1,4 @@
-use Rattle.std.proofs.Common.{arith, slice_index}
-use Rattle.std.proofs.lemmas.List.Elements.{Contains-get_or}
-use Rattle.steady_state.specs.steps.Wired.{network_in}
+use Rattle.steady_state.proofs.Common.{arith, slice_index, Contains-get_or, network_in}
 use Rattle.steady_state.proofs.Collecting.{none_reached, seed_reached, seeded_more}
 use Rattle.steady_state.proofs.marking.mark_seeds.Goals as goal
 

@@ -1,8 +1,5 @@
-use Rattle.std.proofs.Common.{◌<◌, ℕ, slice_index_or}
-use Rattle.switch_net.specs.Vicinity.{IsStorage}
-use Rattle.switch_net.specs.Sets.{IsInside}
-use Rattle.steady_state.specs.Marked.{AreMarked, AreReached, States}
-use Rattle.steady_state.specs.steps.Wired.{network_in}
+use Rattle.steady_state.proofs.Common.{◌<◌, ℕ, slice_index_or, IsStorage, IsInside, AreMarked, AreReached, network_in}
+use Rattle.steady_state.specs.Marked.{States}
 use Rattle.steady_state.proofs.marking.mark_seeds.Given as goal
 
 abbrev pub invariant-seeds : goal.invariant-seeds

@@ -1,4 +1,4 @@
-use Rattle.std.proofs.Common.{drop, ap}
+use Rattle.steady_state.proofs.Common.{drop, ap}
 use Rattle.steady_state.proofs.Rounds.{slice_from}
 use Rattle.steady_state.proofs.Vicinity.{among_late, late_among}
 use Rattle.steady_state.proofs.marking.marked_behind.Goals as goal

@@ -1,7 +1,5 @@
-use Rattle.std.proofs.Common.{ℕ, List, Option, Bor, subst}
-use Rattle.std.specs.Prelude.{IfSome}
-use Rattle.steady_state.specs.Marked.{IsRestedBut}
-use Rattle.steady_state.specs.steps.Wired.{network_in}
+use Rattle.steady_state.proofs.Common.{ℕ, List, subst, IfSome, IsRestedBut, network_in}
+use Rattle.std.proofs.Common.{Option, Bor}
 use Rattle.steady_state.proofs.Resting.{all_touched}
 use Rattle.steady_state.proofs.settling.mark_first.Goals as goal
 

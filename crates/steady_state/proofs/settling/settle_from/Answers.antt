@@ -1,10 +1,7 @@
-use Rattle.std.proofs.Common.{◌≡◌, sym, subst}
-use Rattle.std.specs.Prelude.{IfSome}
+use Rattle.steady_state.proofs.Common.{◌≡◌, sym, subst, IfSome, Network, IsRestedBut}
 use Rattle.switch_net.specs.Net.{network_of}
-use Rattle.switch_net.specs.Network.{Network}
 use Rattle.switch_net.specs.Phase.{AreSteadyOrX}
 use Rattle.switch_net.proofs.Forcing.{steady_or_x}
-use Rattle.steady_state.specs.Marked.{IsRestedBut}
 use Rattle.steady_state.proofs.settling.settle_from.Goals as goal
 
 pub take_steps-requires-clause-quiet : goal.take_steps-requires-clause-quiet

@@ -1,4 +1,4 @@
-use Rattle.std.proofs.Common.{◌≡◌, ◌++◌, length, take, drop, ap, ◌∙◌, sym}
+use Rattle.steady_state.proofs.Common.{◌≡◌, ◌++◌, length, take, drop, ap, ◌∙◌, sym}
 use Rattle.switch_net.proofs.Lent.{refilled}
 use Rattle.steady_state.proofs.settling.step.Goals as goal
 

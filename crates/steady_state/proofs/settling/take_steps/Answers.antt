@@ -1,12 +1,6 @@
-use Rattle.std.proofs.Common.{◌≡◌, ◌≢◌, ℕ, suc, arith, length, List, subst, sym, add-one, ap, ◌∙◌, slice_index}
-use Rattle.switch_net.specs.declared.switches.Level.{Level}
-use Rattle.switch_net.specs.Path.{state_of}
-use Rattle.switch_net.specs.Phase.{NoneRests}
-use Rattle.switch_net.specs.Steady.{IsStep}
-use Rattle.switch_net.proofs.Listing.{known}
+use Rattle.steady_state.proofs.Common.{◌≡◌, ◌≢◌, ℕ, suc, arith, length, List, subst, sym, add-one, ap, ◌∙◌, slice_index, Level, state_of, NoneRests}
+use Rattle.steady_state.proofs.Common.{IsStep, known, IsAmong, network_in}
 use Rattle.switch_net.proofs.Phases.{none_more}
-use Rattle.switch_net.specs.Sets.{IsAmong}
-use Rattle.steady_state.specs.steps.Wired.{network_in}
 use Rattle.steady_state.proofs.Collecting.{marked-le, none_marked}
 use Rattle.steady_state.proofs.Moving.{waiting_take, below_take, all_changed, steps_more, same_states, quiet_next}
 use Rattle.steady_state.proofs.Wires.{sound_of}

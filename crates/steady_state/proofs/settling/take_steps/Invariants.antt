@@ -1,8 +1,4 @@
-use Rattle.std.proofs.Common.{◌≡◌, ◌≤◌, ◌-◌}
-use Rattle.switch_net.specs.Phase.{Steps, NoneRests}
-use Rattle.steady_state.specs.Levels.{AreReadyFor}
-use Rattle.steady_state.specs.Marked.{AreMarked, IsQuiet}
-use Rattle.steady_state.specs.steps.Wired.{network_in}
+use Rattle.steady_state.proofs.Common.{◌≡◌, ◌≤◌, ◌-◌, Steps, NoneRests, AreReadyFor, AreMarked, IsQuiet, network_in}
 use Rattle.steady_state.proofs.settling.take_steps.Given as goal
 
 abbrev pub invariant-steps : goal.invariant-steps

@@ -1,8 +1,4 @@
-use Rattle.std.proofs.Common.{arith, slice_index_or}
-use Rattle.switch_net.specs.declared.terminals.Side.TheVariants.{Left}
-use Rattle.steady_state.specs.steps.Parts.{floors_in}
-use Rattle.steady_state.specs.steps.Passing.{IsOver}
-use Rattle.steady_state.specs.steps.Wired.{network_in}
+use Rattle.steady_state.proofs.Common.{arith, slice_index_or, Left, floors_in, IsOver, network_in}
 use Rattle.steady_state.proofs.UnderWay.{total-le, take, finish, relaxed_up}
 use Rattle.steady_state.proofs.spreading.drain.Goals as goal
 

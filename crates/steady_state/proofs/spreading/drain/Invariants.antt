@@ -1,8 +1,4 @@
-use Rattle.std.proofs.Common.{◌≡◌, ◌≤◌, ◌+◌, ◌-◌, ◌*◌, ℕ, [], length, slice_index}
-use Rattle.steady_state.specs.steps.Parts.{floors_in}
-use Rattle.steady_state.specs.steps.Passing.{IsOver}
-use Rattle.steady_state.specs.steps.Wired.{network_in}
-use Rattle.steady_state.specs.steps.Spreading.{IsWorking, total}
+use Rattle.steady_state.proofs.Common.{◌≡◌, ◌≤◌, ◌+◌, ◌-◌, ◌*◌, ℕ, [], length, slice_index, floors_in, IsOver, network_in, IsWorking, total}
 use Rattle.steady_state.proofs.spreading.drain.Given as goal
 
 abbrev pub invariant-nodes : goal.invariant-nodes

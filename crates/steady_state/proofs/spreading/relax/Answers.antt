@@ -1,10 +1,4 @@
-use Rattle.std.proofs.Common.{◌≡◌, ◌∷◌, [], true, arith}
-use Rattle.switch_net.specs.Terminals.{near_end, far_end}
-use Rattle.switch_net.specs.Vicinity.{IsStorage}
-use Rattle.steady_state.specs.steps.Kinds.{goes_through}
-use Rattle.steady_state.specs.steps.Parts.{floors_in}
-use Rattle.steady_state.specs.steps.Passing.{IsOver}
-use Rattle.steady_state.specs.steps.Wired.{network_in}
+use Rattle.steady_state.proofs.Common.{◌≡◌, ◌∷◌, [], true, arith, near_end, far_end, IsStorage, goes_through, floors_in, IsOver, network_in}
 use Rattle.steady_state.proofs.UnderWay.{conducts, rise_by_lift, raised_more, far_below}
 use Rattle.steady_state.proofs.spreading.relax.Goals as goal
 

@@ -1,9 +1,4 @@
-use Rattle.std.proofs.Common.{◌≡◌, ◌∙◌, arith, refl, slice_index, slice_index_or}
-use Rattle.switch_net.specs.declared.terminals.Terminal.TheVariants.{End}
-use Rattle.switch_net.proofs.Counting.{no_switch}
-use Rattle.steady_state.specs.steps.Parts.{floors_in}
-use Rattle.steady_state.specs.steps.Passing.{IsOver}
-use Rattle.steady_state.specs.steps.Spreading.{IsRelaxed}
+use Rattle.steady_state.proofs.Common.{◌≡◌, ◌∙◌, arith, refl, slice_index, slice_index_or, End, no_switch, floors_in, IsOver, IsRelaxed}
 use Rattle.steady_state.proofs.UnderWay.{raised_same, raised_then, relaxed_up}
 use Rattle.steady_state.proofs.Wires.{switch_at, each_at, next_at}
 use Rattle.steady_state.proofs.spreading.visit.Goals as goal

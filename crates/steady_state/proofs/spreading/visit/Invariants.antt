@@ -1,9 +1,5 @@
-use Rattle.std.proofs.Common.{◌≡◌, ◌<◌, ℕ, [], ◌∷◌, length, slice_index, slice_index_or}
-use Rattle.switch_net.specs.declared.switches.Switch.{Switch}
-use Rattle.steady_state.specs.steps.Parts.{floors_in}
-use Rattle.steady_state.specs.steps.Passing.{IsOver}
-use Rattle.steady_state.specs.steps.Wired.{network_in}
-use Rattle.steady_state.specs.steps.Spreading.{IsRelaxed, IsWorking, IsRaised}
+use Rattle.steady_state.proofs.Common.{◌≡◌, ◌<◌, ℕ, [], ◌∷◌, length, slice_index, slice_index_or, Switch, floors_in, IsOver, network_in, IsRelaxed}
+use Rattle.steady_state.proofs.Common.{IsWorking, IsRaised}
 use Rattle.steady_state.proofs.spreading.visit.Given as goal
 
 abbrev pub invariant-switches : goal.invariant-switches

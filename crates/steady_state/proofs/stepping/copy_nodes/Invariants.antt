@@ -1,4 +1,4 @@
-use Rattle.std.proofs.Common.{◌≡◌, ◌<◌, ℕ, slice_index}
+use Rattle.steady_state.proofs.Common.{◌≡◌, ◌<◌, ℕ, slice_index}
 use Rattle.steady_state.proofs.stepping.copy_nodes.Given as goal
 
 abbrev pub invariant-nodes : goal.invariant-nodes

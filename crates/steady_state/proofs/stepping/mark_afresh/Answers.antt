@@ -1,5 +1,4 @@
-use Rattle.std.proofs.Common.{◌∙◌}
-use Rattle.steady_state.specs.steps.Wired.{network_in}
+use Rattle.steady_state.proofs.Common.{◌∙◌, network_in}
 use Rattle.steady_state.proofs.Collecting.{none_marked}
 use Rattle.steady_state.proofs.Moving.{all_quiet}
 use Rattle.steady_state.proofs.stepping.mark_afresh.Goals as goal

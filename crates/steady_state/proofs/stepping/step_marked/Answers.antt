@@ -1,6 +1,4 @@
-use Rattle.std.proofs.Common.{arith, length, ap, ◌∙◌}
-use Rattle.switch_net.specs.Path.{state_of}
-use Rattle.steady_state.specs.steps.Wired.{network_in}
+use Rattle.steady_state.proofs.Common.{arith, length, ap, ◌∙◌, state_of, network_in}
 use Rattle.steady_state.proofs.Collecting.{chain_inside}
 use Rattle.steady_state.proofs.Moving.{part_steps}
 use Rattle.steady_state.proofs.Wires.{sound_of}

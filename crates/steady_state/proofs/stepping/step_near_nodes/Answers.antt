@@ -1,9 +1,6 @@
-use Rattle.std.proofs.Common.{ℕ, List, Bool, slice_index, slice_index_or, ◌∙◌}
-use Rattle.std.specs.Prelude.{Option, Some, None, IfSome}
-use Rattle.switch_net.specs.Network.{Network}
-use Rattle.switch_net.specs.Sets.{IsInside}
+use Rattle.steady_state.proofs.Common.{ℕ, List, Bool, slice_index, slice_index_or, ◌∙◌, IfSome, Network, IsInside, network_in}
+use Rattle.std.specs.Prelude.{Option, Some, None}
 use Rattle.steady_state.specs.Marked.{AreEndsMarked}
-use Rattle.steady_state.specs.steps.Wired.{network_in}
 use Rattle.steady_state.proofs.Collecting.{chain_inside, none_marked}
 use Rattle.steady_state.proofs.Moving.{ends_grown, gated_grown}
 use Rattle.steady_state.proofs.stepping.step_near_nodes.Goals as goal

@@ -1,7 +1,4 @@
-use Rattle.std.proofs.Common.{slice_index}
-use Rattle.switch_net.specs.Path.{state_of}
-use Rattle.steady_state.specs.Levels.{IsLevelOf}
-use Rattle.steady_state.specs.steps.Wired.{network_in}
+use Rattle.steady_state.proofs.Common.{slice_index, state_of, IsLevelOf, network_in}
 use Rattle.steady_state.proofs.Passes.{order_below, steady_of}
 use Rattle.steady_state.proofs.Wires.{sound_of}
 use Rattle.steady_state.proofs.stepping.step_over.Goals as goal

@@ -1,6 +1,4 @@
-use Rattle.std.proofs.Common.{◌∙◌, false, inl, inr, slice_index_or}
-use Rattle.std.proofs.lemmas.Bool.{cases_Bool}
-use Rattle.steady_state.specs.steps.Wired.{network_in}
+use Rattle.steady_state.proofs.Common.{◌∙◌, false, inl, inr, slice_index_or, cases_Bool, network_in}
 use Rattle.steady_state.proofs.Collecting.{none_marked, reached_inside}
 use Rattle.steady_state.proofs.stepping.step_seeds.Goals as goal
 

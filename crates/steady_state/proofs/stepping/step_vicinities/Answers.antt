@@ -1,9 +1,5 @@
-use Rattle.std.proofs.Common.{◌≡◌, ◌∙◌, ◌<◌, ◌≤◌, ℕ, false, arith, subst, slice_index, slice_index_or, inl, inr, refl, length, get_or-take}
-use Rattle.std.proofs.lemmas.Bool.{cases_Bool}
-use Rattle.std.proofs.lemmas.List.{length-take-le}
-use Rattle.switch_net.specs.Sets.{IsInside}
-use Rattle.switch_net.proofs.Listing.{count-le, known, none_inside}
-use Rattle.steady_state.specs.steps.Wired.{network_in}
+use Rattle.steady_state.proofs.Common.{◌≡◌, ◌∙◌, ◌<◌, ◌≤◌, ℕ, false, arith, subst, slice_index, slice_index_or, inl, inr, refl, length, get_or-take}
+use Rattle.steady_state.proofs.Common.{cases_Bool, length-take-le, IsInside, count-le, known, none_inside, network_in}
 use Rattle.steady_state.proofs.Collecting.{none_marked}
 use Rattle.steady_state.proofs.Moving.{below_one}
 use Rattle.steady_state.proofs.stepping.step_vicinities.Goals as goal

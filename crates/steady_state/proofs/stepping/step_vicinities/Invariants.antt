@@ -1,8 +1,5 @@
-use Rattle.std.proofs.Common.{◌<◌, ℕ, List, slice_index}
-use Rattle.switch_net.specs.Sets.{IsInside}
-use Rattle.steady_state.specs.Levels.{AreReadyFor, AreSteady, KeepsOthers}
-use Rattle.steady_state.specs.Marked.{AreClosed, AreMarked, AreReached}
-use Rattle.steady_state.specs.steps.Wired.{network_in}
+use Rattle.steady_state.proofs.Common.{◌<◌, ℕ, List, slice_index, IsInside, AreReadyFor, AreSteady, KeepsOthers, AreMarked, AreReached, network_in}
+use Rattle.steady_state.specs.Marked.{AreClosed}
 use Rattle.steady_state.proofs.stepping.step_vicinities.Given as goal
 
 abbrev pub invariant-seeds : goal.invariant-seeds

@@ -1,5 +1,4 @@
-use Rattle.std.proofs.Common.{refl}
-use Rattle.steady_state.specs.steps.Wired.{network_in}
+use Rattle.steady_state.proofs.Common.{refl, network_in}
 use Rattle.steady_state.proofs.Vicinity.{apart, closed_again, late, late_inside, part_of}
 use Rattle.steady_state.proofs.stepping.step_vicinity.Goals as goal
 

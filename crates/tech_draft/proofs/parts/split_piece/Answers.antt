@@ -1,7 +1,6 @@
-use Rattle.std.proofs.Common.{◌≡◌, Some, arith}
-use Rattle.std.specs.Prelude.{position}
+use Rattle.tech_draft.proofs.Common.{◌≡◌, arith, position, is_comma}
+use Rattle.std.proofs.Common.{Some}
 use Rattle.std.proofs.lemmas.Grind.{common_steps}
-use Rattle.tech_draft.specs.Words.{is_comma}
 use Rattle.tech_draft.proofs.WordLaws.{pieces-at, pieces-one}
 use Rattle.tech_draft.proofs.parts.split_piece.Goals as goal
 

@@ -1,4 +1,4 @@
-use Rattle.std.proofs.Common.{sym, ◌∙◌, ◌<◌, ap, ℕ, arith, length, rules}
+use Rattle.tech_draft.proofs.Common.{sym, ◌∙◌, ◌<◌, ap, ℕ, arith, length, rules}
 use Rattle.std.specs.Prelude.{◌==◌}
 use borrow.Author.Tests.{ltb-true}
 use Rattle.tech_draft.proofs.WordLaws.{ends_in_hash-last}

@@ -1,7 +1,4 @@
-use Rattle.std.proofs.Common.{◌≡◌, ◌+◌, length}
-use Rattle.text_scan.specs.Lines.{lines_of}
-use Rattle.tech_file.specs.Outlines.{headings_of, headings_from, place_after}
-use Rattle.tech_file.specs.declared.places.Place.TheVariants.{Between}
+use Rattle.tech_file.proofs.Common.{◌≡◌, ◌+◌, length, lines_of, headings_of, headings_from, place_after, Between}
 use Rattle.tech_file.proofs.outline.outline_of.Given as goal
 
 abbrev pub invariant-loop-line : goal.invariant-loop-line

@@ -1,5 +1,5 @@
 -- Where no section is missing, there is a name.
-use Rattle.std.proofs.Common.{◌∙◌}
+use Rattle.tech_file.proofs.Common.{◌∙◌}
 use Rattle.tech_file.proofs.WholeLaws.{none_is}
 use Rattle.tech_file.proofs.whole.check_raw.Goals as goal
 

@@ -1,5 +1,5 @@
 -- The lists of a sound draft with a name fit together.
-use Rattle.std.proofs.Common.{◌∙◌, ap}
+use Rattle.tech_file.proofs.Common.{◌∙◌, ap}
 use Rattle.tech_file.proofs.WholeLaws.{finished_name, plain_if_some}
 use Rattle.tech_file.proofs.whole.check_whole.Goals as goal
 

@@ -1,5 +1,5 @@
 -- The draft of a text without a faulty line is sound.
-use Rattle.text_scan.specs.Lines.{lines_of}
+use Rattle.tech_file.proofs.Common.{lines_of}
 use Rattle.tech_file.proofs.SoundReading.{EndsWell-sound}
 use Rattle.tech_file.proofs.whole.read_tech.Goals as goal
 

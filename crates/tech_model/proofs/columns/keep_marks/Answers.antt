@@ -1,9 +1,5 @@
-use Rattle.std.proofs.Common.{◌≡◌, ◌<◌, ◌∙◌, List, length, take, get_or, ap, subst, sym}
+use Rattle.tech_model.proofs.Common.{◌≡◌, ◌<◌, ◌∙◌, List, length, take, get_or, ap, subst, sym, fold_more, LayerRec, TypeId, layer_mark_kept}
 use Rattle.std.specs.Prelude.{fold}
-use Rattle.std.proofs.lemmas.List.Sums.{fold_more}
-use Rattle.tech_model.specs.declared.raw.LayerRec.{LayerRec}
-use Rattle.tech_model.specs.declared.raw.TypeId.{TypeId}
-use Rattle.tech_model.specs.Columns.{layer_mark_kept}
 use Rattle.tech_model.proofs.columns.keep_marks.Goals as goal
 
 pub loop-layer-preserved : goal.loop-layer-preserved

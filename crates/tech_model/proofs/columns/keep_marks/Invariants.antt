@@ -1,6 +1,5 @@
-use Rattle.std.proofs.Common.{◌≡◌, take}
+use Rattle.tech_model.proofs.Common.{◌≡◌, take, layer_mark_kept}
 use Rattle.std.specs.Prelude.{fold}
-use Rattle.tech_model.specs.Columns.{layer_mark_kept}
 use Rattle.tech_model.proofs.columns.keep_marks.Given as goal
 
 abbrev pub invariant-loop-layer : goal.invariant-loop-layer

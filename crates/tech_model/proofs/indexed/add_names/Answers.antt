@@ -1,7 +1,4 @@
-use Rattle.std.proofs.Common.{◌≡◌, ℕ, List, false, ap, sym, ◌∙◌, get_or, arith}
-use Rattle.std.specs.Prelude.{None, is_none}
-use Rattle.std.proofs.lemmas.Grind.{common_steps}
-use Rattle.tech_model.specs.LayerWords.{layer_in}
+use Rattle.tech_model.proofs.Common.{◌≡◌, ℕ, List, false, ap, sym, ◌∙◌, get_or, arith, None, is_none, common_steps, layer_in}
 use Rattle.tech_model.proofs.LayerWordLaws.{name_added, name_kept}
 use Rattle.tech_model.proofs.indexed.add_names.Goals as goal
 use Rattle.tech_model.proofs.indexed.add_names.Goals.{then-is_none+in_ok-add, else-is_none}

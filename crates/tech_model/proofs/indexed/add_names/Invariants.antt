@@ -1,7 +1,4 @@
-use Rattle.std.proofs.Common.{◌≡◌, ℕ, List, take}
-use Rattle.std.specs.List.{list_any}
-use Rattle.std.specs.Str.{bytes_eq}
-use Rattle.tech_model.specs.LayerWords.{layer_in}
+use Rattle.tech_model.proofs.Common.{◌≡◌, ℕ, List, take, list_any, bytes_eq, layer_in}
 use Rattle.tech_model.proofs.LayerWordLaws.{layer_or}
 use Rattle.tech_model.proofs.indexed.add_names.Given as goal
 

@@ -1,8 +1,4 @@
-use Rattle.std.proofs.Common.{ℕ, List, ap, ◌∙◌}
-use Rattle.std.specs.List.{list_any}
-use Rattle.std.specs.Str.{bytes_eq}
-use Rattle.tech_model.specs.LayerWords.{layer_in}
-use Rattle.tech_model.specs.Types.{has_name}
+use Rattle.tech_model.proofs.Common.{ℕ, List, ap, ◌∙◌, list_any, bytes_eq, layer_in, has_name}
 use Rattle.tech_model.proofs.LayerWordLaws.{layer_or, layer_added}
 use Rattle.tech_model.proofs.indexed.index_words.Goals as goal
 

@@ -1,7 +1,4 @@
-use Rattle.std.proofs.Common.{◌≡◌, ℕ, List, take}
-use Rattle.std.specs.List.{position_from}
-use Rattle.tech_model.specs.LayerWords.{layer_in}
-use Rattle.tech_model.specs.Types.{has_name}
+use Rattle.tech_model.proofs.Common.{◌≡◌, ℕ, List, take, position_from, layer_in, has_name}
 use Rattle.tech_model.proofs.indexed.index_words.Given as goal
 
 abbrev pub invariant-loop-place : goal.invariant-loop-place

@@ -1,5 +1,4 @@
-use Rattle.std.proofs.Common.{ap, ◌∙◌}
-use Rattle.tech_model.specs.Types.{parts_of, without}
+use Rattle.tech_model.proofs.Common.{ap, ◌∙◌, parts_of, without}
 use Rattle.tech_model.proofs.MarkLaws.{mark_of-contact, residue_set}
 use Rattle.tech_model.proofs.laws.marks_are_bits.Goals as goal
 

@@ -1,7 +1,4 @@
-use Rattle.std.proofs.Common.{◌∙◌, ◌+◌, ◌-◌, ◌++◌, ℕ, List, map, filter, ap, sym, arith}
-use Rattle.std.specs.List.{range_with_len}
-use Rattle.geo_core.proofs.FiniteSets.Searches.{range_split}
-use Rattle.tech_model.specs.Rules.{are_within}
+use Rattle.tech_model.proofs.Common.{◌∙◌, ◌+◌, ◌-◌, ◌++◌, ℕ, List, map, filter, ap, sym, arith, range_with_len, range_split, are_within}
 use Rattle.tech_model.proofs.PairSearch.{filter_here, filter_rest}
 use Rattle.tech_model.proofs.rules.add_widenings.Goals as goal
 use Rattle.tech_model.proofs.rules.add_widenings.Goals.{then-within+in_ok-push, else-within}

@@ -1,6 +1,4 @@
-use Rattle.std.proofs.Common.{◌≡◌, ◌-◌, ◌++◌, map, filter}
-use Rattle.std.specs.List.{range_with_len}
-use Rattle.tech_model.specs.Rules.{types_of, are_within}
+use Rattle.tech_model.proofs.Common.{◌≡◌, ◌-◌, ◌++◌, map, filter, range_with_len, types_of, are_within}
 use Rattle.tech_model.proofs.rules.add_widenings.Given as goal
 
 abbrev pub invariant-loop-t : goal.invariant-loop-t

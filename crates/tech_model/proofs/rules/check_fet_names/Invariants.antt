@@ -1,6 +1,4 @@
-use Rattle.std.proofs.Common.{◌≡◌, drop}
-use Rattle.std.specs.Prelude.{find, not}
-use Rattle.tech_model.specs.Forms.{is_fet_name}
+use Rattle.tech_model.proofs.Common.{◌≡◌, drop, find, not, is_fet_name}
 use Rattle.tech_model.proofs.rules.check_fet_names.Given as goal
 
 abbrev pub invariant-loop-fet : goal.invariant-loop-fet

@@ -1,4 +1,4 @@
-use Rattle.std.proofs.Common.{◌∙◌, sym}
+use Rattle.tech_model.proofs.Common.{◌∙◌, sym}
 use Rattle.tech_model.proofs.RuleLaws.{break_types}
 use Rattle.tech_model.proofs.rules.check_law.Goals as goal
 

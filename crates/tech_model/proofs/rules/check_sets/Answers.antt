@@ -1,5 +1,4 @@
-use Rattle.std.proofs.Common.{◌∙◌, sym}
-use Rattle.geo_core.proofs.FiniteSets.Searches.{find-In}
+use Rattle.tech_model.proofs.Common.{◌∙◌, sym, find-In}
 use Rattle.tech_model.proofs.RuleLaws.{pair_types}
 use Rattle.tech_model.proofs.rules.check_sets.Goals as goal
 

@@ -1,7 +1,5 @@
-use Rattle.std.proofs.Common.{◌∙◌, sym, get_or}
+use Rattle.tech_model.proofs.Common.{◌∙◌, sym, get_or, drop_split, breaks_law}
 use Rattle.std.proofs.lemmas.List.{get_or_default}
-use Rattle.geo_core.proofs.FiniteSets.Searches.{drop_split}
-use Rattle.tech_model.specs.Rules.{breaks_law}
 use Rattle.tech_model.proofs.PairSearch.{pairs_rest, pairs_here}
 use Rattle.tech_model.proofs.rules.first_break.Goals as goal
 

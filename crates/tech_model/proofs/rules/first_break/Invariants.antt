@@ -1,7 +1,4 @@
-use Rattle.std.proofs.Common.{◌≡◌, drop}
-use Rattle.std.specs.Prelude.{find}
-use Rattle.geo_core.specs.FiniteSets.Range.{pairs_of}
-use Rattle.tech_model.specs.Rules.{breaks_law}
+use Rattle.tech_model.proofs.Common.{◌≡◌, drop, find, pairs_of, breaks_law}
 use Rattle.tech_model.proofs.rules.first_break.Given as goal
 
 abbrev pub invariant-loop-s : goal.invariant-loop-s

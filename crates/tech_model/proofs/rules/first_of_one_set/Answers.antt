@@ -1,6 +1,4 @@
-use Rattle.std.proofs.Common.{◌∙◌, ◌+◌, ◌-◌, sym, arith}
-use Rattle.geo_core.proofs.FiniteSets.Searches.{range_split}
-use Rattle.tech_model.specs.Rules.{types_of, have_one_set}
+use Rattle.tech_model.proofs.Common.{◌∙◌, ◌+◌, ◌-◌, sym, arith, range_split, types_of, have_one_set}
 use Rattle.tech_model.proofs.PairSearch.{pairs_rest, pairs_here}
 use Rattle.tech_model.proofs.rules.first_of_one_set.Goals as goal
 

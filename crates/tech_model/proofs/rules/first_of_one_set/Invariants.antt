@@ -1,8 +1,4 @@
-use Rattle.std.proofs.Common.{◌≡◌, ◌-◌}
-use Rattle.std.specs.Prelude.{find}
-use Rattle.std.specs.List.{range_with_len}
-use Rattle.geo_core.specs.FiniteSets.Range.{pairs_of}
-use Rattle.tech_model.specs.Rules.{types_of, have_one_set}
+use Rattle.tech_model.proofs.Common.{◌≡◌, ◌-◌, find, range_with_len, pairs_of, types_of, have_one_set}
 use Rattle.tech_model.proofs.rules.first_of_one_set.Given as goal
 
 abbrev pub invariant-loop-s : goal.invariant-loop-s

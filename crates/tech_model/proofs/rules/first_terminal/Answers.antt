@@ -1,7 +1,4 @@
-use Rattle.std.proofs.Common.{◌∙◌, sym, get_or, subst, ap, ◌<◌, length, List}
-use Rattle.geo_core.proofs.FiniteSets.Searches.{find-In, drop_split}
-use Rattle.tech_model.specs.declared.raw.FetRule.{FetRule}
-use Rattle.tech_model.specs.Rules.{is_bad_terminal}
+use Rattle.tech_model.proofs.Common.{◌∙◌, sym, get_or, subst, ap, ◌<◌, length, List, find-In, drop_split, FetRule, is_bad_terminal}
 use Rattle.tech_model.proofs.PairSearch.{each_rest, each_here}
 use Rattle.tech_model.proofs.RuleLaws.{terminal_types}
 use Rattle.tech_model.proofs.rules.first_terminal.Goals as goal

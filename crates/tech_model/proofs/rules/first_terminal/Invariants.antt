@@ -1,7 +1,5 @@
-use Rattle.std.proofs.Common.{◌≡◌, drop, map}
-use Rattle.std.specs.Prelude.{find}
-use Rattle.std.specs.List.{flat_map}
-use Rattle.tech_model.specs.Rules.{is_bad_terminal, fet_terminals}
+use Rattle.tech_model.proofs.Common.{◌≡◌, drop, map, find, flat_map, is_bad_terminal}
+use Rattle.tech_model.specs.Rules.{fet_terminals}
 use Rattle.tech_model.proofs.rules.first_terminal.Given as goal
 
 abbrev pub invariant-loop-fet : goal.invariant-loop-fet

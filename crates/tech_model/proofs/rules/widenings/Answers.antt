@@ -1,8 +1,5 @@
-use Rattle.std.proofs.Common.{◌∙◌, ◌+◌, ◌-◌, ◌++◌, ℕ, List, filter, ap, sym, arith}
-use Rattle.std.specs.List.{range_with_len}
-use Rattle.geo_core.specs.FiniteSets.Range.{pairs_of}
-use Rattle.geo_core.proofs.FiniteSets.Searches.{range_split}
-use Rattle.tech_model.specs.Rules.{are_within, types_of}
+use Rattle.tech_model.proofs.Common.{◌∙◌, ◌+◌, ◌-◌, ◌++◌, ℕ, List, filter, ap, sym, arith, range_with_len, pairs_of, range_split, are_within}
+use Rattle.tech_model.proofs.Common.{types_of}
 use Rattle.tech_model.proofs.PairSearch.{filter_pairs}
 use Rattle.tech_model.proofs.rules.widenings.Goals as goal
 

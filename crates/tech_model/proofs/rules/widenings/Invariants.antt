@@ -1,7 +1,4 @@
-use Rattle.std.proofs.Common.{◌≡◌, ◌-◌, ◌++◌, filter}
-use Rattle.std.specs.List.{range_with_len}
-use Rattle.geo_core.specs.FiniteSets.Range.{pairs_of}
-use Rattle.tech_model.specs.Rules.{types_of, are_within, widenings}
+use Rattle.tech_model.proofs.Common.{◌≡◌, ◌-◌, ◌++◌, filter, range_with_len, pairs_of, types_of, are_within, widenings}
 use Rattle.tech_model.proofs.rules.widenings.Given as goal
 
 abbrev pub invariant-loop-s : goal.invariant-loop-s

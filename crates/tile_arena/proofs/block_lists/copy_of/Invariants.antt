@@ -1,4 +1,4 @@
-use Rattle.std.proofs.Common.{◌≡◌, ◌≤◌, length, take, vec_capacity}
+use Rattle.tile_arena.proofs.Common.{◌≡◌, ◌≤◌, length, take, vec_capacity}
 use Rattle.tile_arena.proofs.block_lists.copy_of.Given as goal
 
 abbrev pub invariant-loop-block : goal.invariant-loop-block

@@ -36,16 +36,12 @@ use denote.Triple.Entry.{on_entry}
 use denote.Triple.Spec.{Meets, triple_of}
 use denote.Triple.Table.{entered}
 use denote.Triple.Walked.{says, needs, Stays, stay_dropped, walk_of, ends_at, Goes-dropped, walk_Meets}
-use Rattle.std.proofs.VecSteps.Shapes.{after}
-use Rattle.std.proofs.RcSteps.{Good, word, word-Good}
+use Rattle.tile_arena.proofs.Common.{after, Good, word, word-Good, None, El, R, elτ, row_of}
 use lib.ListN.{length}
 use types.Kit.{flt_l, flt_i}
 use types.Run.{bin}
 use denote.Builtin.{usize}
-use Rattle.std.specs.Prelude.{None}
-use Rattle.std.proofs.mem.Param.{El, R, elτ}
 use Rattle.std.proofs.RawLayout.{as_written}
-use Rattle.tile_arena.specs.PlaceOwnership.{row_of}
 use Rattle.tile_arena.proofs.PlaceSteps.{PlacesRow, StartRow, Mark, size, mark, mark_made, start_made}
 use base.Fml.{Incl-trans}
 use lib.ListN.{replicate, length-replicate}

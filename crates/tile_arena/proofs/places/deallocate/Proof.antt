@@ -33,14 +33,11 @@ use denote.Triple.Spec.{Meets, triple_of}
 use denote.Triple.Table.{entered}
 use denote.Triple.Walked.{needs, Stays, stay_dropped, walk_of, ends_at, Goes-dropped, walk_Meets}
 use Rattle.std.proofs.alloc.Calls.{Goes-blank}
-use Rattle.std.proofs.VecSteps.Shapes.{after}
-use Rattle.std.proofs.RcSteps.{word, word-Good}
+use Rattle.tile_arena.proofs.Common.{after, word, word-Good, El, R, elτ, places_own}
 use types.Kit.{flt_l}
 use types.Run.{bin}
 use denote.Builtin.{usize}
-use Rattle.std.proofs.mem.Param.{El, R, elτ}
 use Rattle.std.proofs.RawLayout.{as_raw}
-use Rattle.tile_arena.specs.PlaceOwnership.{places_own}
 use Rattle.tile_arena.proofs.PlaceSteps.{PlacesRow, StartRow, size, mark, mark_had, start_had}
 use base.Fml.{Incl-trans}
 use lib.Dec.{T}

@@ -1,8 +1,5 @@
-use Rattle.std.proofs.Common.{◌≡◌, ℕ, List, Option, Some, cond, ap, ◌∙◌}
-use Rattle.std.specs.HashMap.{get_by}
-use Rattle.std.specs.Map.{lookup}
-use Rattle.std.specs.Str.{bytes_eq}
-use Rattle.ext_model.specs.Plain.{raised}
+use Rattle.tile_members.proofs.Common.{◌≡◌, ℕ, List, Some, cond, ap, ◌∙◌, get_by, lookup, bytes_eq, raised}
+use Rattle.std.proofs.Common.{Option}
 use Rattle.tile_members.proofs.MergeFinds.{TableEntry, early_next, found_then, has_early, is_key_of}
 use Rattle.tile_members.proofs.groups.add_row.Goals as goal
 

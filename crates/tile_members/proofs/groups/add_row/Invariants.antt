@@ -1,6 +1,4 @@
-use Rattle.std.proofs.Common.{◌≡◌, ℕ, List, Some, cond}
-use Rattle.std.specs.HashMap.{get_by}
-use Rattle.std.specs.Str.{bytes_eq}
+use Rattle.tile_members.proofs.Common.{◌≡◌, ℕ, List, Some, cond, get_by, bytes_eq}
 use Rattle.tile_members.proofs.MergeFinds.{has_early}
 use Rattle.tile_members.proofs.groups.add_row.Given as goal
 

@@ -1,10 +1,6 @@
-use Rattle.std.proofs.Common.{◌≡◌, ◌+◌, ℕ, List, length, refl, sym, subst, arith}
-use Rattle.std.proofs.lemmas.Option.{slice_get-get_or}
-use Rattle.finite_sets.specs.Lists.{Distinct}
-use Rattle.element_paths.specs.CellLibrary.Libraries.{seen}
+use Rattle.tile_members.proofs.Common.{◌≡◌, ◌+◌, ℕ, List, length, refl, sym, subst, arith, slice_get-get_or, Distinct, seen, HasMembers}
+use Rattle.tile_members.proofs.Common.{AreTileMembers}
 use Rattle.element_paths.specs.LibraryTrees.NamedCells.{named_tree_at}
-use Rattle.tile_members.specs.steps.Finding.{HasMembers}
-use Rattle.tile_members.specs.TileMembers.{AreTileMembers}
 use Rattle.tile_members.proofs.FinderLaws.{finder_members, finder_tile, finding_more, finding_none}
 use Rattle.tile_members.proofs.FoundTiles.{found_all}
 use Rattle.tile_members.proofs.members.tile_members.Goals as goal

@@ -1,4 +1,4 @@
-use Rattle.std.proofs.Common.{◌+◌, ◌≤◌}
+use Rattle.tile_members.proofs.Common.{◌+◌, ◌≤◌}
 use Rattle.tile_members.proofs.FinderLaws.{IsFinding}
 use Rattle.tile_members.proofs.members.tile_members.Given as goal
 

@@ -1,5 +1,4 @@
-use Rattle.std.proofs.Common.{sym, subst}
-use Rattle.geo_core.specs.Reach.{MovesInReach}
+use Rattle.tile_members.proofs.Common.{sym, subst, MovesInReach}
 use Rattle.element_paths.proofs.CellLibrary.RowSpots.{inverted_in_reach}
 use Rattle.tile_members.proofs.opened_cells.own_corner.Goals as goal
 

@@ -1,9 +1,6 @@
-use Rattle.std.proofs.Common.{◌≡◌, ℤ, pos, ◌-ℤ◌, ◌<ℤ◌, w64, to_z, of_z, subst, arith}
-use Rattle.std.proofs.lemmas.Int.{ints, to_z-of_z}
-use Rattle.tile_plane.specs.Tiles.{tile_at, Leads}
-use Rattle.tile_plane.specs.Walks.{square_at}
-use Rattle.tile_plane.specs.steps.Cuts.{low_of, high_of}
-use Rattle.tile_plane.specs.steps.Mends.{Side}
+use Rattle.tile_plane.proofs.Common.{◌≡◌, ℤ, pos, ◌-ℤ◌, ◌<ℤ◌, w64, to_z, of_z, subst, arith, ints, to_z-of_z, tile_at, Leads, square_at, low_of}
+use Rattle.tile_plane.proofs.Common.{Side}
+use Rattle.tile_plane.specs.steps.Cuts.{high_of}
 use Rattle.tile_plane.proofs.cuts.beside_cut.Goals as goal
 
 pub overflow_sub-at-in-Left : goal.overflow_sub-at-in-Left

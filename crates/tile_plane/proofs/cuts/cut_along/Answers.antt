@@ -1,8 +1,5 @@
-use Rattle.std.proofs.Common.{◌≡◌, ℤ, w64, to_z, of_z, refl, sym, ◌∙◌, ap, subst, arith, rules}
-use Rattle.std.proofs.lemmas.Int.{ints, to_z-of_z}
-use Rattle.tile_plane.specs.declared.tiles.Tile.{Tile}
-use Rattle.tile_plane.specs.Tiles.{tile_at, Owns}
-use Rattle.tile_plane.specs.Walks.{square_at}
+use Rattle.tile_plane.proofs.Common.{◌≡◌, ℤ, w64, to_z, of_z, refl, sym, ◌∙◌, ap, subst, arith, rules, ints, to_z-of_z, Tile, tile_at, Owns}
+use Rattle.tile_plane.proofs.Common.{square_at}
 use Rattle.tile_plane.proofs.TileLaws.{owner_taken}
 use Rattle.tile_plane.proofs.WalkLaws.{extent_falls}
 use Rattle.tile_plane.proofs.RowCuts.{IsSamePlane}

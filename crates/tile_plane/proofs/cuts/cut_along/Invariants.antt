@@ -1,5 +1,5 @@
 -- Nothing else has been cut, and the tiles of the column begin with it as far as the walk has come.
-use Rattle.geo_core.specs.FiniteSets.Range.{extent}
+use Rattle.tile_plane.proofs.Common.{extent}
 use Rattle.tile_plane.proofs.RowCuts.{IsSamePlane}
 use Rattle.tile_plane.proofs.ColumnCuts.{AreCuttingAlong, IsColumnWalk}
 use Rattle.tile_plane.proofs.cuts.cut_along.Given as goal

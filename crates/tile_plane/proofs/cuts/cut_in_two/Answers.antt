@@ -1,6 +1,4 @@
-use Rattle.std.proofs.Common.{◌≡◌, ℤ, w64, to_z, of_z, subst, arith}
-use Rattle.std.proofs.lemmas.Int.{ints, to_z-of_z}
-use Rattle.tile_plane.specs.steps.Cuts.{IsCutAcross}
+use Rattle.tile_plane.proofs.Common.{◌≡◌, ℤ, w64, to_z, of_z, subst, arith, ints, to_z-of_z, IsCutAcross}
 use Rattle.tile_plane.proofs.cuts.cut_in_two.Goals as goal
 
 pub overflow_sub-below : goal.overflow_sub-below

@@ -1,6 +1,4 @@
-use Rattle.std.proofs.Common.{◌≡◌, inl, inr, ℤ, w64, to_z, of_z, refl, ap, subst, arith}
-use Rattle.std.proofs.lemmas.Int.{ints, to_z-of_z}
-use Rattle.tile_plane.specs.declared.tiles.Tile.{Tile}
+use Rattle.tile_plane.proofs.Common.{◌≡◌, inl, inr, ℤ, w64, to_z, of_z, refl, ap, subst, arith, ints, to_z-of_z, Tile}
 use Rattle.tile_plane.specs.steps.Cuts.{IsCutAlong}
 use Rattle.tile_plane.proofs.cuts.part_after.Goals as goal
 

@@ -1,7 +1,4 @@
-use Rattle.std.proofs.Common.{◌≡◌, inl, inr, ℤ, w64, to_z, of_z, refl, ap, subst, arith}
-use Rattle.std.proofs.lemmas.Int.{ints, to_z-of_z}
-use Rattle.tile_plane.specs.declared.tiles.Tile.{Tile}
-use Rattle.tile_plane.specs.steps.Cuts.{IsCutAcross}
+use Rattle.tile_plane.proofs.Common.{◌≡◌, inl, inr, ℤ, w64, to_z, of_z, refl, ap, subst, arith, ints, to_z-of_z, Tile, IsCutAcross}
 use Rattle.tile_plane.proofs.cuts.part_from.Goals as goal
 
 pub returns-then-get-y-clause-part : goal.returns-then-get-y-clause-part

@@ -1,8 +1,4 @@
-use Rattle.std.proofs.Common.{◌≡◌, ℤ, w64, to_z, of_z, ◌∙◌, ap, subst}
-use Rattle.std.proofs.lemmas.Int.{to_z-of_z}
-use Rattle.tile_plane.specs.Tiles.{tile_at, Leads}
-use Rattle.tile_plane.specs.steps.Cuts.{opposite, square_at_cut, part_at}
-use Rattle.tile_plane.specs.steps.Mends.{Side}
+use Rattle.tile_plane.proofs.Common.{◌≡◌, ℤ, w64, to_z, of_z, ◌∙◌, ap, subst, to_z-of_z, tile_at, Leads, opposite, square_at_cut, part_at, Side}
 use Rattle.tile_plane.proofs.SplitLaws.{put_keeps, IsCutting, low_back, high_back, part_proper, part_within, cutting_partition, cutting_end, cutting_same, cutting_cut}
 use Rattle.tile_plane.proofs.cuts.split_off.Goals as goal
 use Rattle.tile_plane.proofs.cuts.split_off.Goals.{After-put}

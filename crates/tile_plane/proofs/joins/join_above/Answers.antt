@@ -1,8 +1,4 @@
-use Rattle.std.proofs.Common.{◌≡◌, pos, ◌-ℤ◌, ◌<ℤ◌, w64, to_z, of_z, refl, ap, arith}
-use Rattle.std.proofs.lemmas.Int.{ints, to_z-of_z}
-use Rattle.geo_core.specs.Planes.{plane_range}
-use Rattle.tile_plane.specs.declared.tiles.Tile.{Tile}
-use Rattle.tile_plane.specs.Tiles.{tile_at}
+use Rattle.tile_plane.proofs.Common.{◌≡◌, pos, ◌-ℤ◌, ◌<ℤ◌, w64, to_z, of_z, refl, ap, arith, ints, to_z-of_z, plane_range, Tile, tile_at}
 use Rattle.tile_plane.proofs.KeepLaws.{grown_self, tall_upon}
 use Rattle.tile_plane.proofs.StackLaws.{IsUpon, AreJoinable, joinable_as_read, unlike_as_read, owner_above, stands_upon, joined_grow, joined_taken, joined_tall}
 use Rattle.tile_plane.proofs.joins.join_above.Goals as goal

@@ -1,7 +1,4 @@
-use Rattle.std.proofs.Common.{sym, subst, arith}
-use Rattle.std.proofs.lemmas.Int.{ints}
-use Rattle.geo_core.specs.Covering.{IsProper}
-use Rattle.tile_plane.specs.declared.tiles.Tile.{Tile}
+use Rattle.tile_plane.proofs.Common.{sym, subst, arith, ints, IsProper, Tile}
 use Rattle.tile_plane.proofs.JoinLaws.{IsJoining, whole_partition, whole_same, whole_proper, join_two, join_round, join_end, join_joined}
 use Rattle.tile_plane.proofs.joins.join_at.Goals as goal
 use Rattle.tile_plane.proofs.joins.join_at.Goals.{After-remove}

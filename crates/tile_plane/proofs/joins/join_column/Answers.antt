@@ -1,10 +1,5 @@
-use Rattle.std.proofs.Common.{◌≡◌, ℤ, pos, ◌+ℤ◌, ◌-ℤ◌, w64, to_z, of_z, refl, ◌∙◌, ap, subst, arith}
-use Rattle.std.proofs.lemmas.Int.{ints, by_lt_z, to_z-of_z}
-use Rattle.geo_core.specs.declared.squares.Rect.{Rect}
-use Rattle.tile_plane.specs.declared.tiles.Tile.{Tile}
-use Rattle.tile_plane.specs.Tiles.{tile_at, Owns}
-use Rattle.tile_plane.specs.Walks.{square_at}
-use Rattle.tile_plane.specs.Tall.{IsTallAt, AreJoining}
+use Rattle.tile_plane.proofs.Common.{◌≡◌, ℤ, pos, ◌+ℤ◌, ◌-ℤ◌, w64, to_z, of_z, refl, ◌∙◌, ap, subst, arith, ints, by_lt_z, to_z-of_z, Rect, Tile}
+use Rattle.tile_plane.proofs.Common.{tile_at, Owns, square_at, IsTallAt, AreJoining}
 use Rattle.tile_plane.proofs.TileLaws.{owner_taken}
 use Rattle.tile_plane.proofs.SideLaws.{beside_above}
 use Rattle.tile_plane.proofs.WalkLaws.{extent_falls}

@@ -1,8 +1,5 @@
 -- The tiles have only grown, and the column is tall below the tile at which the walk is.
-use Rattle.std.proofs.Common.{pos, ◌-ℤ◌}
-use Rattle.geo_core.specs.FiniteSets.Range.{extent}
-use Rattle.tile_plane.specs.Tiles.{tile_at}
-use Rattle.tile_plane.specs.Tall.{AreJoining}
+use Rattle.tile_plane.proofs.Common.{pos, ◌-ℤ◌, extent, tile_at, AreJoining}
 use Rattle.tile_plane.proofs.KeepLaws.{IsTallBelow}
 use Rattle.tile_plane.proofs.joins.join_column.Given as goal
 

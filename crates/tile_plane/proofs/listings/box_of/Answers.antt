@@ -1,12 +1,5 @@
-use Rattle.std.proofs.Common.{◌≡◌, ◌≢◌, ℕ, Option, Some, None, sym, ◌∙◌, ap, subst}
-use Rattle.std.specs.Prelude.{IfSome, MatchOption}
-use Rattle.geo_core.specs.declared.squares.Square.{Square}
-use Rattle.geo_core.specs.declared.squares.Rect.{Rect}
-use Rattle.geo_core.specs.Areas.{IsNear, joined_rect}
-use Rattle.geo_core.specs.Planes.{IsBox}
-use Rattle.tile_plane.specs.declared.tiles.Tile.{Tile}
-use Rattle.tile_plane.specs.Tiles.{Tiles, tile_at, IsNextTile, value_at}
-use Rattle.tile_plane.specs.Contents.{IsPlane}
+use Rattle.tile_plane.proofs.Common.{◌≡◌, ◌≢◌, ℕ, Option, Some, None, sym, ◌∙◌, ap, subst, IfSome, MatchOption, Square, Rect, IsNear, joined_rect}
+use Rattle.tile_plane.proofs.Common.{IsBox, Tile, Tiles, tile_at, IsNextTile, value_at, IsPlane}
 use Rattle.tile_plane.proofs.WholeLaws.{BoxSoFar, IsBoxSoFar, box_begins, box_grows, box_passes, no_box, box_found, box_near}
 use Rattle.tile_plane.proofs.listings.box_of.Goals as goal
 

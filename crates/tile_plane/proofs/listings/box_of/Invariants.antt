@@ -1,5 +1,5 @@
 -- The rectangle is that of the tiles that are passed.
-use Rattle.std.proofs.Common.{◌-◌, ◌^◌}
+use Rattle.tile_plane.proofs.Common.{◌-◌, ◌^◌}
 use Rattle.tile_plane.proofs.WholeLaws.{BoxSoFar, passed_numbers}
 use Rattle.tile_plane.proofs.listings.box_of.Given as goal
 

@@ -1,9 +1,5 @@
-use Rattle.std.proofs.Common.{ℕ, ◌++◌, ◌∷◌, [], List, Option, w64, sym, ◌∙◌, ap, subst, arith, rules}
-use Rattle.std.specs.Option.{unwrap_or}
-use Rattle.std.proofs.lemmas.Int.{ints, to_z-of_z}
-use Rattle.tile_plane.specs.declared.tiles.Tile.{Tile}
-use Rattle.tile_plane.specs.Tiles.{tile_at, IsTaken, Owns}
-use Rattle.tile_plane.specs.Walks.{square_at}
+use Rattle.tile_plane.proofs.Common.{ℕ, ◌++◌, ◌∷◌, [], List, Option, w64, sym, ◌∙◌, ap, subst, arith, rules, unwrap_or, ints, to_z-of_z, Tile}
+use Rattle.tile_plane.proofs.Common.{tile_at, IsTaken, Owns, square_at}
 use Rattle.tile_plane.proofs.TileLaws.{owner_taken}
 use Rattle.tile_plane.proofs.WalkLaws.{extent_falls}
 use Rattle.tile_plane.proofs.FollowerLaws.{IsSideUpTo, hint_taken, side_begins, side_goes_on, side_ends, side_inside}

@@ -1,6 +1,5 @@
 -- The tiles of the side up to the last one are listed.
-use Rattle.geo_core.specs.FiniteSets.Range.{extent}
-use Rattle.tile_plane.specs.Tiles.{tile_at}
+use Rattle.tile_plane.proofs.Common.{extent, tile_at}
 use Rattle.tile_plane.proofs.FollowerLaws.{IsSideUpTo}
 use Rattle.tile_plane.proofs.listings.left_side.Given as goal
 

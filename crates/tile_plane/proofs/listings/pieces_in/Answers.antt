@@ -1,9 +1,4 @@
-use Rattle.std.proofs.Common.{sym, subst, arith, rules}
-use Rattle.std.specs.Prelude.{All}
-use Rattle.std.proofs.lemmas.List.{get_or_default}
-use Rattle.geo_core.specs.Covering.{Covers}
-use Rattle.geo_core.specs.Planes.{plane_range}
-use Rattle.tile_plane.specs.Tiles.{value_at, IsTaken}
+use Rattle.tile_plane.proofs.Common.{sym, subst, arith, rules, All, get_or_default, Covers, plane_range, value_at, IsTaken}
 use Rattle.tile_plane.proofs.TileLaws.{owner_taken}
 use Rattle.tile_plane.proofs.PartLaws.{corner_in_plane, pieces_go_on, pieces_end}
 use Rattle.tile_plane.proofs.listings.pieces_in.Goals as goal

@@ -1,7 +1,5 @@
 -- The areas before the index have their pieces, and the hints are tiles.
-use Rattle.std.proofs.Common.{take}
-use Rattle.std.specs.Prelude.{All}
-use Rattle.tile_plane.specs.Tiles.{value_at, IsTaken}
+use Rattle.tile_plane.proofs.Common.{take, All, value_at, IsTaken}
 use Rattle.tile_plane.proofs.PartLaws.{ArePiecesSoFar}
 use Rattle.tile_plane.proofs.listings.pieces_in.Given as goal
 

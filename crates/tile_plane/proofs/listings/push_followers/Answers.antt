@@ -1,13 +1,8 @@
-use Rattle.std.proofs.Common.{◌≡◌, true, false, ℕ, Option, ℤ, ◌≤ℤ◌, ◌<ℤ◌, FitsSigned, w64, to_z, of_z, [], refl, sym, ◌∙◌, ap, subst, arith, rules}
+use Rattle.tile_plane.proofs.Common.{◌≡◌, true, false, ℕ, Option, ℤ, ◌≤ℤ◌, ◌<ℤ◌, FitsSigned, w64, to_z, of_z, [], refl, sym, ◌∙◌, ap, subst, arith}
+use Rattle.tile_plane.proofs.Common.{rules, unwrap_or, ints, clamps, to_z-of_z, append-nil, Tile, tile_at, IsTaken, low_row}
 use Rattle.std.specs.Int.{int_max, int_min}
-use Rattle.std.specs.Option.{unwrap_or}
 use lib.Signed.{lt_z, le_z}
-use Rattle.std.proofs.lemmas.Int.{ints, clamps, to_z-of_z}
-use Rattle.std.proofs.lemmas.List.{append-nil}
-use Rattle.tile_plane.specs.declared.tiles.Tile.{Tile}
-use Rattle.tile_plane.specs.Tiles.{tile_at, IsTaken}
 use Rattle.tile_plane.proofs.TileLaws.{owner_taken}
-use Rattle.tile_plane.specs.Listings.{low_row}
 use Rattle.tile_plane.proofs.FollowerLaws.{hint_taken, next_taken, no_followers, adding_begins, adding_goes_on, adding_passes, adding_falls, adding_ends}
 use Rattle.tile_plane.proofs.listings.push_followers.Goals as goal
 use Rattle.tile_plane.proofs.listings.push_followers.Goals.{

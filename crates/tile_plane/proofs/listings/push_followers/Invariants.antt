@@ -1,6 +1,5 @@
 -- The followers from y on are added, and the next one stands below.
-use Rattle.geo_core.specs.FiniteSets.Range.{extent}
-use Rattle.tile_plane.specs.Listings.{low_row}
+use Rattle.tile_plane.proofs.Common.{extent, low_row}
 use Rattle.tile_plane.proofs.FollowerLaws.{AddsFrom}
 use Rattle.tile_plane.proofs.listings.push_followers.Given as goal
 

@@ -1,14 +1,5 @@
-use Rattle.std.proofs.Common.{◌≡◌, ℕ, ◌++◌, ◌∷◌, [], List, map, take, get_or, w64, to_z, of_z, ◌∙◌, ap, subst, arith, rules}
-use Rattle.std.proofs.lemmas.Int.{ints, to_z-of_z}
-use Rattle.std.proofs.lemmas.List.{take_all}
-use Rattle.geo_core.specs.FiniteSets.Lists.{In}
-use Rattle.geo_core.proofs.FiniteSets.Members.{In-get_or}
-use Rattle.geo_core.proofs.FiniteSets.Searches.{All-from_In}
-use Rattle.geo_core.specs.Areas.{corner_of}
-use Rattle.geo_core.specs.declared.squares.Piece.{Piece}
-use Rattle.tile_plane.specs.declared.tiles.Tile.{Tile}
-use Rattle.tile_plane.specs.Listings.{part_in}
-use Rattle.tile_plane.specs.Tiles.{tile_at, IsTaken}
+use Rattle.tile_plane.proofs.Common.{◌≡◌, ℕ, ◌++◌, ◌∷◌, [], List, map, take, get_or, w64, to_z, of_z, ◌∙◌, ap, subst, arith, rules, ints, to_z-of_z}
+use Rattle.tile_plane.proofs.Common.{take_all, In, In-get_or, All-from_In, corner_of, Piece, Tile, part_in, tile_at, IsTaken}
 use Rattle.tile_plane.proofs.TileLaws.{owner_taken}
 use Rattle.tile_plane.proofs.PartLaws.{alone_listed, one_more_part}
 use Rattle.tile_plane.proofs.listings.push_parts.Goals as goal

@@ -1,6 +1,5 @@
 -- The parts of the tiles before the index are added.
-use Rattle.std.proofs.Common.{◌≡◌, ◌++◌, map, take}
-use Rattle.tile_plane.specs.Listings.{part_in}
+use Rattle.tile_plane.proofs.Common.{◌≡◌, ◌++◌, map, take, part_in}
 use Rattle.tile_plane.proofs.listings.push_parts.Given as goal
 
 abbrev pub invariant-loop-id : goal.invariant-loop-id

@@ -1,8 +1,4 @@
-use Rattle.std.proofs.Common.{◌≡◌, ℤ, pos, ◌-ℤ◌, w64, to_z, of_z, ap, subst, arith}
-use Rattle.std.proofs.lemmas.Int.{ints, to_z-of_z}
-use Rattle.tile_plane.specs.declared.tiles.Tile.{Tile}
-use Rattle.tile_plane.specs.Tiles.{tile_at, Owns}
-use Rattle.tile_plane.specs.Walks.{square_at}
+use Rattle.tile_plane.proofs.Common.{◌≡◌, ℤ, pos, ◌-ℤ◌, w64, to_z, of_z, ap, subst, arith, ints, to_z-of_z, Tile, tile_at, Owns, square_at}
 use Rattle.tile_plane.proofs.BesideLaws.{next_right}
 use Rattle.tile_plane.proofs.listings.right_below.Goals as goal
 

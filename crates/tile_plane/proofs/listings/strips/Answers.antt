@@ -1,7 +1,4 @@
-use Rattle.std.proofs.Common.{◌++◌, ◌∷◌, [], Some, None, sym, ◌∙◌, ap, subst, rules}
-use Rattle.std.proofs.lemmas.List.Sorted.{answers_always}
-use Rattle.tile_plane.specs.declared.tiles.Tile.{Tile}
-use Rattle.tile_plane.specs.Tiles.{IsNextTile}
+use Rattle.tile_plane.proofs.Common.{◌++◌, ◌∷◌, [], Some, None, sym, ◌∙◌, ap, subst, rules, answers_always, Tile, IsNextTile}
 use Rattle.tile_plane.proofs.WholeLaws.{rect_key, AreTilesOf, tiles_go_on, tiles_pass, strips_listed, strips_near}
 use Rattle.tile_plane.proofs.listings.strips.Goals as goal
 

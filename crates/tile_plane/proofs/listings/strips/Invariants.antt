@@ -1,5 +1,5 @@
 -- The tiles of the value that are passed are found.
-use Rattle.std.proofs.Common.{◌-◌, ◌^◌}
+use Rattle.tile_plane.proofs.Common.{◌-◌, ◌^◌}
 use Rattle.tile_plane.proofs.WholeLaws.{AreTilesOf, passed_numbers}
 use Rattle.tile_plane.proofs.listings.strips.Given as goal
 

@@ -1,13 +1,7 @@
-use Rattle.std.proofs.Common.{◌≡◌, ◌≢◌, Bool, true, not, ◌==◌, List, ◌++◌, map, filter, sym, ◌∙◌, ap, subst, arith, rules}
-use Rattle.std.specs.Prelude.{All, IsPermutation}
+use Rattle.tile_plane.proofs.Common.{◌≡◌, ◌≢◌, Bool, true, List, ◌++◌, map, filter, sym, ◌∙◌, ap, subst, arith, rules, All, IsPermutation}
+use Rattle.tile_plane.proofs.Common.{answers_always, Piece, Covers, plane_range, corner_key, part_in, IsTaken}
+use Rattle.std.proofs.Common.{not, ◌==◌}
 use Rattle.std.proofs.lemmas.List.Elements.{filter_from_retain}
-use Rattle.std.proofs.lemmas.List.Sorted.{answers_always}
-use Rattle.geo_core.specs.declared.squares.Piece.{Piece}
-use Rattle.geo_core.specs.Covering.{Covers}
-use Rattle.geo_core.specs.Planes.{plane_range}
-use Rattle.geo_core.proofs.CornerLaws.{corner_key}
-use Rattle.tile_plane.specs.Listings.{part_in}
-use Rattle.tile_plane.specs.Tiles.{IsTaken}
 use Rattle.tile_plane.proofs.PartLaws.{corner_in_plane, tiles_listed}
 use Rattle.tile_plane.proofs.listings.tiles_in.Goals as goal
 

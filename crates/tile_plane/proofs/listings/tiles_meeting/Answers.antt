@@ -1,6 +1,4 @@
-use Rattle.std.proofs.Common.{ℕ, ◌+◌, ◌<◌, List, length, sym, subst, arith}
-use Rattle.geo_core.specs.FiniteSets.Lists.{In}
-use Rattle.geo_core.proofs.FiniteSets.Members.{In-get_or}
+use Rattle.tile_plane.proofs.Common.{ℕ, ◌+◌, ◌<◌, List, length, sym, subst, arith, In, In-get_or}
 use Rattle.tile_plane.proofs.QueueLaws.{IsQueue, queue_begins, queue_goes_on, queue_ends}
 use Rattle.tile_plane.proofs.FollowerLaws.{near_within}
 use Rattle.tile_plane.proofs.listings.tiles_meeting.Goals as goal

@@ -1,5 +1,5 @@
 -- The followers of the tiles before the index are listed.
-use Rattle.std.proofs.Common.{◌-◌, ◌^◌}
+use Rattle.tile_plane.proofs.Common.{◌-◌, ◌^◌}
 use Rattle.tile_plane.proofs.QueueLaws.{IsQueue}
 use Rattle.tile_plane.proofs.listings.tiles_meeting.Given as goal
 

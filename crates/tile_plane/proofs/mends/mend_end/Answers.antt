@@ -1,7 +1,4 @@
-use Rattle.std.proofs.Common.{◌∙◌, ap, subst}
-use Rattle.tile_plane.specs.steps.Cuts.{opposite}
-use Rattle.tile_plane.specs.steps.Mends.{Side, LeadTo}
-use Rattle.tile_plane.specs.steps.Sides.{along}
+use Rattle.tile_plane.proofs.Common.{◌∙◌, ap, subst, opposite, Side, LeadTo, along}
 use Rattle.tile_plane.proofs.MendedLaws.{near_partition, near_side, far_partition, far_side, end_redirected}
 use Rattle.tile_plane.proofs.mends.mend_end.Goals as goal
 use Rattle.tile_plane.proofs.mends.mend_end.Goals.{After-mend_side-2}

@@ -1,9 +1,5 @@
-use Rattle.std.proofs.Common.{◌≡◌, true≢false, FitsSigned, w64, to_z, of_z, refl, sym, ◌∙◌, ap, subst, rules}
-use Rattle.std.proofs.lemmas.Int.{to_z-of_z}
-use Rattle.tile_plane.specs.Tiles.{tile_at, IsPut}
-use Rattle.tile_plane.specs.steps.Cuts.{opposite}
-use Rattle.tile_plane.specs.steps.Mends.{Side, with_stitch}
-use Rattle.tile_plane.specs.steps.Sides.{along, end_of}
+use Rattle.tile_plane.proofs.Common.{◌≡◌, true≢false, FitsSigned, w64, to_z, of_z, refl, sym, ◌∙◌, ap, subst, rules, to_z-of_z, tile_at, IsPut}
+use Rattle.tile_plane.proofs.Common.{opposite, Side, with_stitch, along, end_of}
 use Rattle.tile_plane.proofs.WalkLaws.{goes_on_or_last}
 use Rattle.tile_plane.proofs.MendLaws.{mend_none, mend_begins, mend_taken, mend_ends, mend_falls, mend_last, mend_goes_on}
 use Rattle.tile_plane.proofs.mends.mend_side.Goals as goal

@@ -1,4 +1,4 @@
-use Rattle.tile_plane.specs.steps.Sides.{along, end_of}
+use Rattle.tile_plane.proofs.Common.{along, end_of}
 use Rattle.tile_plane.proofs.MendLaws.{IsMending, way_left}
 use Rattle.tile_plane.proofs.mends.mend_side.Given as goal
 

@@ -1,8 +1,5 @@
-use Rattle.std.proofs.Common.{◌≡◌, ℤ, pos, ◌-ℤ◌, ◌≤ℤ◌, ◌<ℤ◌, w64, to_z, of_z, sym, ◌∙◌, ap, subst, arith, rules}
-use Rattle.std.proofs.lemmas.Int.{ints, to_z-of_z}
-use Rattle.tile_plane.specs.declared.tiles.Tile.{Tile}
-use Rattle.tile_plane.specs.Tiles.{tile_at, Owns}
-use Rattle.tile_plane.specs.Walks.{square_at}
+use Rattle.tile_plane.proofs.Common.{◌≡◌, ℤ, pos, ◌-ℤ◌, ◌≤ℤ◌, ◌<ℤ◌, w64, to_z, of_z, sym, ◌∙◌, ap, subst, arith, rules, ints, to_z-of_z, Tile}
+use Rattle.tile_plane.proofs.Common.{tile_at, Owns, square_at}
 use Rattle.tile_plane.proofs.TileLaws.{owner_taken}
 use Rattle.tile_plane.proofs.SideLaws.{beside_left}
 use Rattle.tile_plane.proofs.TopLaws.{IsTopWalk, IsLowered, top_begins, top_on, top_nearer, top_ends}

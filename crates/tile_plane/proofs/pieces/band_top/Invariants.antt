@@ -1,7 +1,5 @@
 -- The walk has a tile of the row, and the tiles of the row as far as it reaches go on up to the top so far.
-use Rattle.std.proofs.Common.{pos, ◌+ℤ◌}
-use Rattle.geo_core.specs.FiniteSets.Range.{extent}
-use Rattle.tile_plane.specs.Tiles.{tile_at}
+use Rattle.tile_plane.proofs.Common.{pos, ◌+ℤ◌, extent, tile_at}
 use Rattle.tile_plane.proofs.TopLaws.{IsTopWalk}
 use Rattle.tile_plane.proofs.pieces.band_top.Given as goal
 

@@ -1,6 +1,5 @@
-use Rattle.std.proofs.Common.{◌≡◌, ◌∙◌, ℤ, w64, to_z, of_z, subst, arith, rules}
-use Rattle.std.proofs.lemmas.Int.{ints, to_z-of_z}
-use Rattle.tile_plane.specs.Tall.{AreCutAt, NothingElseIsCut, AreCutAlongAt, NothingElseIsCutAlong}
+use Rattle.tile_plane.proofs.Common.{◌≡◌, ◌∙◌, ℤ, w64, to_z, of_z, subst, arith, rules, ints, to_z-of_z, AreCutAt, NothingElseIsCut, AreCutAlongAt}
+use Rattle.tile_plane.proofs.Common.{NothingElseIsCutAlong}
 use Rattle.tile_plane.proofs.KeptLaws.{kept_then}
 use Rattle.tile_plane.proofs.PieceLaws.{across_wide, across_kept, across_at, along_kept, opened}
 use Rattle.tile_plane.proofs.pieces.cut_around.Goals as goal

@@ -1,7 +1,4 @@
-use Rattle.std.proofs.Common.{◌≡◌, ℤ, w64, to_z, of_z, ap, subst, arith}
-use Rattle.std.proofs.lemmas.Int.{ints, to_z-of_z}
-use Rattle.tile_plane.specs.declared.tiles.Tile.{Tile}
-use Rattle.tile_plane.specs.steps.Cuts.{IsCutAcross}
+use Rattle.tile_plane.proofs.Common.{◌≡◌, ℤ, w64, to_z, of_z, ap, subst, arith, ints, to_z-of_z, Tile, IsCutAcross}
 use Rattle.tile_plane.proofs.LaidLaws.{cut_one}
 use Rattle.tile_plane.proofs.pieces.cut_top.Goals as goal
 

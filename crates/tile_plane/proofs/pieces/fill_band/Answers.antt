@@ -1,7 +1,4 @@
-use Rattle.std.proofs.Common.{◌≤ℤ◌, ◌<ℤ◌, ap, arith}
-use Rattle.std.proofs.lemmas.Int.{ints}
-use Rattle.tile_plane.specs.declared.tiles.Tile.{Tile}
-use Rattle.tile_plane.specs.Tiles.{tile_at}
+use Rattle.tile_plane.proofs.Common.{◌≤ℤ◌, ◌<ℤ◌, ap, arith, ints, Tile, tile_at}
 use Rattle.tile_plane.proofs.FillLaws.{fill_reach, fill_next, fill_on, fill_nearer, fill_ends}
 use Rattle.tile_plane.proofs.pieces.fill_band.Goals as goal
 

@@ -1,6 +1,5 @@
 -- The band is laid as far as its tile reaches.
-use Rattle.geo_core.specs.FiniteSets.Range.{extent}
-use Rattle.tile_plane.specs.Tiles.{tile_at}
+use Rattle.tile_plane.proofs.Common.{extent, tile_at}
 use Rattle.tile_plane.proofs.FillLaws.{IsFilling}
 use Rattle.tile_plane.proofs.pieces.fill_band.Given as goal
 

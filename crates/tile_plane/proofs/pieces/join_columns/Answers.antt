@@ -1,6 +1,4 @@
-use Rattle.std.proofs.Common.{◌≡◌, ℤ, pos, ◌-ℤ◌, w64, to_z, of_z, subst, arith, rules}
-use Rattle.std.proofs.lemmas.Int.{ints, to_z-of_z}
-use Rattle.tile_plane.specs.Tall.{IsTallAt}
+use Rattle.tile_plane.proofs.Common.{◌≡◌, ℤ, pos, ◌-ℤ◌, w64, to_z, of_z, subst, arith, rules, ints, to_z-of_z, IsTallAt}
 use Rattle.tile_plane.proofs.KeepLaws.{grown_then}
 use Rattle.tile_plane.proofs.PieceLaws.{columns_tall}
 use Rattle.tile_plane.proofs.pieces.join_columns.Goals as goal

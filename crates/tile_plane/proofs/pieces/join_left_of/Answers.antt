@@ -1,8 +1,4 @@
-use Rattle.std.proofs.Common.{inr, ℕ, refl, sym, ◌∙◌, ap, subst, arith}
-use Rattle.std.proofs.lemmas.Int.{ints}
-use Rattle.tile_plane.specs.declared.tiles.Tile.{Tile}
-use Rattle.tile_plane.specs.Tiles.{tile_at}
-use Rattle.tile_plane.specs.steps.Bands.{IsLaidLeft}
+use Rattle.tile_plane.proofs.Common.{inr, ℕ, refl, sym, ◌∙◌, ap, subst, arith, ints, Tile, tile_at, IsLaidLeft}
 use Rattle.tile_plane.proofs.TileLaws.{owner_taken}
 use Rattle.tile_plane.proofs.FillLaws.{none_left, to_join_left, taken_left}
 use Rattle.tile_plane.proofs.pieces.join_left_of.Goals as goal

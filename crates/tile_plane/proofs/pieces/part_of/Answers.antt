@@ -1,8 +1,4 @@
-use Rattle.std.proofs.Common.{◌≡◌, ℤ, w64, to_z, of_z, subst, arith, rules}
-use Rattle.std.proofs.lemmas.Int.{ints, to_z-of_z}
-use Rattle.tile_plane.specs.Tiles.{tile_at}
-use Rattle.tile_plane.specs.steps.Cuts.{IsPartFrom}
-use Rattle.tile_plane.specs.steps.Bands.{IsTileCut}
+use Rattle.tile_plane.proofs.Common.{◌≡◌, ℤ, w64, to_z, of_z, subst, arith, rules, ints, to_z-of_z, tile_at, IsPartFrom, IsTileCut}
 use Rattle.tile_plane.proofs.LaidLaws.{IsCutFrom, cut_from, laid_cut}
 use Rattle.tile_plane.proofs.pieces.part_of.Goals as goal
 

@@ -1,7 +1,4 @@
-use Rattle.std.proofs.Common.{subst, arith}
-use Rattle.std.proofs.lemmas.Int.{ints}
-use Rattle.geo_core.specs.declared.squares.Square.{Square}
-use Rattle.tile_plane.specs.Tiles.{tile_at, IsTaken, Owns}
+use Rattle.tile_plane.proofs.Common.{subst, arith, ints, Square, tile_at, IsTaken, Owns}
 use Rattle.tile_plane.proofs.TileLaws.{owner_taken}
 use Rattle.tile_plane.proofs.PieceLaws.{IsAtBand, walk_starts, walk_near, walk_owns, walk_begins, walk_band_near, walk_band_owns, walk_band_free, walk_whole, walk_taken, walk_on, walk_ends}
 use Rattle.tile_plane.proofs.pieces.set_bands.Goals as goal

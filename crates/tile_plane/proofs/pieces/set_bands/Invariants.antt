@@ -1,5 +1,5 @@
 -- The bands of the piece below what is left are set, and the tile of the lowest square of that is at hand.
-use Rattle.geo_core.specs.FiniteSets.Range.{extent}
+use Rattle.tile_plane.proofs.Common.{extent}
 use Rattle.tile_plane.proofs.PieceLaws.{IsBandWalk}
 use Rattle.tile_plane.proofs.pieces.set_bands.Given as goal
 

@@ -1,6 +1,4 @@
-use Rattle.geo_core.specs.declared.squares.Rect.{Rect}
-use Rattle.geo_core.specs.Covering.{IsProper}
-use Rattle.tile_plane.specs.Tiles.{tile_at, IsTaken}
+use Rattle.tile_plane.proofs.Common.{Rect, IsProper, tile_at, IsTaken}
 use Rattle.tile_plane.proofs.LaidLaws.{value_partition, value_stitches, laid_value}
 use Rattle.tile_plane.proofs.FillLaws.{laid_taken, laid_then_value}
 use Rattle.tile_plane.proofs.pieces.set_part.Goals as goal

@@ -1,9 +1,4 @@
-use Rattle.std.proofs.Common.{arith}
-use Rattle.std.proofs.lemmas.Int.{ints}
-use Rattle.geo_core.specs.Areas.{LiesWithin}
-use Rattle.geo_core.specs.Planes.{plane_range}
-use Rattle.tile_plane.specs.Tiles.{value_at}
-use Rattle.tile_plane.specs.steps.Bands.{IsBanded}
+use Rattle.tile_plane.proofs.Common.{arith, ints, LiesWithin, plane_range, value_at, IsBanded}
 use Rattle.tile_plane.proofs.AgainLaws.{strips_again}
 use Rattle.tile_plane.proofs.PieceLaws.{banded_after, set_before}
 use Rattle.tile_plane.proofs.pieces.set_piece.Goals as goal

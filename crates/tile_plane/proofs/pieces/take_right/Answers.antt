@@ -1,7 +1,4 @@
-use Rattle.std.proofs.Common.{ℕ, subst, arith}
-use Rattle.std.proofs.lemmas.Int.{ints}
-use Rattle.tile_plane.specs.Tiles.{tile_at}
-use Rattle.tile_plane.specs.steps.Bands.{IsLaid}
+use Rattle.tile_plane.proofs.Common.{ℕ, subst, arith, ints, tile_at, IsLaid}
 use Rattle.tile_plane.proofs.TileLaws.{owner_taken}
 use Rattle.tile_plane.proofs.FillLaws.{to_join_right, taken_right}
 use Rattle.tile_plane.proofs.pieces.take_right.Goals as goal

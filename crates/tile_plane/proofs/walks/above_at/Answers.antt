@@ -1,4 +1,4 @@
-use Rattle.tile_plane.specs.steps.Mends.{Above}
+use Rattle.tile_plane.proofs.Common.{Above}
 use Rattle.tile_plane.proofs.WalkLaws.{leads_at}
 use Rattle.tile_plane.proofs.walks.above_at.Goals as goal
 

@@ -1,7 +1,4 @@
-use Rattle.std.proofs.Common.{◌≡◌, pos, ◌-ℤ◌, w64, to_z, of_z, ap, arith}
-use Rattle.std.proofs.lemmas.Int.{ints, to_z-of_z}
-use Rattle.tile_plane.specs.declared.tiles.Tile.{Tile}
-use Rattle.tile_plane.specs.Tiles.{tile_at}
+use Rattle.tile_plane.proofs.Common.{◌≡◌, pos, ◌-ℤ◌, w64, to_z, of_z, ap, arith, ints, to_z-of_z, Tile, tile_at}
 use Rattle.tile_plane.proofs.BesideLaws.{next_above}
 use Rattle.tile_plane.proofs.walks.above_near.Goals as goal
 

@@ -1,4 +1,4 @@
-use Rattle.tile_plane.specs.steps.Mends.{Below}
+use Rattle.tile_plane.proofs.Common.{Below}
 use Rattle.tile_plane.proofs.WalkLaws.{leads_at}
 use Rattle.tile_plane.proofs.walks.below_at.Goals as goal
 

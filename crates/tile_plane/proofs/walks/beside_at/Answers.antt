@@ -1,8 +1,5 @@
-use Rattle.std.proofs.Common.{◌≡◌, true≢false, ℤ, w64, to_z, of_z, refl, sym, ◌∙◌, ap, subst}
-use Rattle.std.proofs.lemmas.Int.{to_z-of_z}
-use Rattle.tile_plane.specs.declared.tiles.Tile.{Tile}
-use Rattle.tile_plane.specs.Tiles.{tile_at, Owns}
-use Rattle.tile_plane.specs.steps.Sides.{IsLast, IsShort, square_beside}
+use Rattle.tile_plane.proofs.Common.{◌≡◌, true≢false, ℤ, w64, to_z, of_z, refl, sym, ◌∙◌, ap, subst, to_z-of_z, Tile, tile_at, Owns, IsLast, IsShort}
+use Rattle.tile_plane.proofs.Common.{square_beside}
 use Rattle.tile_plane.proofs.WalkLaws.{HasBeside, goes_on_or_last, last_off, walk_begins, walk_inside, walk_ends, walk_goes_on, walk_nearer}
 use Rattle.tile_plane.proofs.walks.beside_at.Goals as goal
 use Rattle.tile_plane.proofs.walks.beside_at.Goals.{Else-is_last, In-along}

@@ -1,4 +1,4 @@
-use Rattle.tile_plane.specs.Tiles.{tile_at, IsTaken}
+use Rattle.tile_plane.proofs.Common.{tile_at, IsTaken}
 use Rattle.tile_plane.proofs.WalkLaws.{IsWalk, way_to}
 use Rattle.tile_plane.proofs.walks.beside_at.Given as goal
 

@@ -1,8 +1,4 @@
-use Rattle.std.proofs.Common.{◌≡◌, pos, ◌+ℤ◌, ◌-ℤ◌, w64, to_z, of_z, ap, arith, rules}
-use Rattle.std.proofs.lemmas.Int.{ints, to_z-of_z}
-use Rattle.tile_plane.specs.declared.tiles.Tile.{Tile}
-use Rattle.tile_plane.specs.Tiles.{tile_at, Owns}
-use Rattle.tile_plane.specs.Walks.{square_at}
+use Rattle.tile_plane.proofs.Common.{◌≡◌, pos, ◌+ℤ◌, ◌-ℤ◌, w64, to_z, of_z, ap, arith, rules, ints, to_z-of_z, Tile, tile_at, Owns, square_at}
 use Rattle.tile_plane.proofs.TileLaws.{owner_taken}
 use Rattle.tile_plane.proofs.WalkLaws.{extent_falls, extent_falls_down}
 use Rattle.tile_plane.proofs.walks.find.Goals as goal

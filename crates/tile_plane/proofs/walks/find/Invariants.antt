@@ -1,7 +1,5 @@
 -- The tile has squares in the row of the square, and once it does not end left of the square it never does again.
-use Rattle.std.proofs.Common.{pos, ◌+ℤ◌, ◌≤ℤ◌, ◌<ℤ◌}
-use Rattle.geo_core.specs.FiniteSets.Range.{extent}
-use Rattle.tile_plane.specs.Tiles.{tile_at, IsTaken}
+use Rattle.tile_plane.proofs.Common.{pos, ◌+ℤ◌, ◌≤ℤ◌, ◌<ℤ◌, extent, tile_at, IsTaken}
 use Rattle.tile_plane.proofs.walks.find.Given as goal
 
 abbrev pub invariant-rightward : goal.invariant-rightward

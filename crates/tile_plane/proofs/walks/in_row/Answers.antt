@@ -1,7 +1,4 @@
-use Rattle.std.proofs.Common.{pos, ◌+ℤ◌, ◌≡◌, w64, to_z, of_z, ap, arith, rules}
-use Rattle.std.proofs.lemmas.Int.{ints, to_z-of_z}
-use Rattle.tile_plane.specs.declared.tiles.Tile.{Tile}
-use Rattle.tile_plane.specs.Tiles.{tile_at}
+use Rattle.tile_plane.proofs.Common.{pos, ◌+ℤ◌, ◌≡◌, w64, to_z, of_z, ap, arith, rules, ints, to_z-of_z, Tile, tile_at}
 use Rattle.tile_plane.proofs.TileLaws.{owner_taken}
 use Rattle.tile_plane.proofs.WalkLaws.{extent_falls, extent_falls_down}
 use Rattle.tile_plane.proofs.walks.in_row.Goals as goal

@@ -1,7 +1,5 @@
 -- The tile is one of the plane, and once it does not end under y it never does again.
-use Rattle.std.proofs.Common.{pos, ◌+ℤ◌, ◌<ℤ◌}
-use Rattle.geo_core.specs.FiniteSets.Range.{extent}
-use Rattle.tile_plane.specs.Tiles.{tile_at, IsTaken}
+use Rattle.tile_plane.proofs.Common.{pos, ◌+ℤ◌, ◌<ℤ◌, extent, tile_at, IsTaken}
 use Rattle.tile_plane.proofs.walks.in_row.Given as goal
 
 abbrev pub invariant-upward : goal.invariant-upward

@@ -1,4 +1,4 @@
-use Rattle.tile_plane.specs.steps.Mends.{Left}
+use Rattle.tile_plane.proofs.Common.{Left}
 use Rattle.tile_plane.proofs.WalkLaws.{leads_at}
 use Rattle.tile_plane.proofs.walks.left_at.Goals as goal
 

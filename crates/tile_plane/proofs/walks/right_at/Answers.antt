@@ -1,4 +1,4 @@
-use Rattle.tile_plane.specs.steps.Mends.{Right}
+use Rattle.tile_plane.proofs.Common.{Right}
 use Rattle.tile_plane.proofs.WalkLaws.{leads_at}
 use Rattle.tile_plane.proofs.walks.right_at.Goals as goal
 

@@ -1,7 +1,4 @@
-use Rattle.std.proofs.Common.{ap, arith}
-use Rattle.std.proofs.lemmas.Int.{ints}
-use Rattle.tile_plane.specs.declared.tiles.Tile.{Tile}
-use Rattle.tile_plane.specs.steps.Mends.{Above, Right, Below, Left}
+use Rattle.tile_plane.proofs.Common.{ap, arith, ints, Tile, Above, Right, Below, Left}
 use Rattle.tile_plane.proofs.BesideLaws.{stitch_taken}
 use Rattle.tile_plane.proofs.walks.step_across.Goals as goal
 

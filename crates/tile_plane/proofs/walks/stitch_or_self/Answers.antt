@@ -1,4 +1,4 @@
-use Rattle.std.proofs.Common.{true≢false, sym}
+use Rattle.tile_plane.proofs.Common.{true≢false, sym}
 use Rattle.tile_plane.proofs.BesideLaws.{stitch_taken}
 use Rattle.tile_plane.proofs.WalkLaws.{goes_on_or_last}
 use Rattle.tile_plane.proofs.walks.stitch_or_self.Goals as goal

@@ -1,7 +1,4 @@
-use Rattle.std.proofs.Common.{ℕ, List, map, subst, arith}
-use Rattle.std.proofs.lemmas.List.{take_all}
-use Rattle.std.specs.Prelude.{slice_index}
-use Rattle.tree_merges.specs.steps.MemberPairs.{AddsPairs}
+use Rattle.tree_merges.proofs.Common.{ℕ, List, map, subst, arith, take_all, slice_index, AddsPairs}
 use Rattle.tree_merges.proofs.JoinLaws.{Pair, adds_next}
 use Rattle.tree_merges.proofs.marking.join_members.Goals as goal
 

@@ -1,5 +1,5 @@
-use Rattle.std.proofs.Common.{◌≡◌, map, length, take, slice_index}
-use Rattle.tree_merges.specs.steps.MemberPairs.{AddsPairs}
+use Rattle.tree_merges.proofs.Common.{◌≡◌, map, length, take, AddsPairs}
+use Rattle.std.proofs.Common.{slice_index}
 use Rattle.tree_merges.proofs.marking.join_members.Given as goal
 
 abbrev pub invariant-loop-tile : goal.invariant-loop-tile

@@ -1,13 +1,5 @@
-use Rattle.std.proofs.Common.{◌≡◌, ◌<◌, ◌+◌, ℕ, List, length, get_or, map, ap, subst, refl, sym, ◌∙◌, arith}
-use Rattle.std.specs.Prelude.{slice_index}
-use Rattle.std.proofs.lemmas.List.{take_all}
-use Rattle.partition.specs.Divides.{Divides, IsPair}
-use Rattle.layout_model.specs.declared.region_tiles.RegionTile.{RegionTile}
-use Rattle.layout_model.specs.RegionTiles.{regions_of}
-use Rattle.flood_nodes.specs.TileShares.{no_tile}
-use Rattle.offences.specs.declared.plane_stacks.PlaneStack.{PlaneStack}
-use Rattle.piece_groups.specs.MemberMarks.{region_position}
-use Rattle.tree_merges.specs.steps.MemberPairs.{AddsPairs, pairs_from}
+use Rattle.tree_merges.proofs.Common.{◌≡◌, ◌<◌, ◌+◌, ℕ, List, length, get_or, map, ap, subst, refl, sym, ◌∙◌, arith, slice_index, take_all, Divides}
+use Rattle.tree_merges.proofs.Common.{IsPair, RegionTile, regions_of, no_tile, PlaneStack, region_position, AddsPairs, pairs_from}
 use Rattle.tree_merges.proofs.JoinLaws.{Pair, joined_pairs, joins_next}
 use Rattle.tree_merges.proofs.PieceMarks.{region_at}
 use Rattle.tree_merges.proofs.marking.marks_of.Goals as goal

@@ -1,7 +1,4 @@
-use Rattle.std.proofs.Common.{◌≡◌, ◌+◌, length, map, take}
-use Rattle.partition.specs.Divides.{Divides, IsPair}
-use Rattle.piece_groups.specs.MemberMarks.{region_position}
-use Rattle.tree_merges.specs.steps.MemberPairs.{pairs_from}
+use Rattle.tree_merges.proofs.Common.{◌≡◌, ◌+◌, length, map, take, Divides, IsPair, region_position, pairs_from}
 use Rattle.tree_merges.proofs.JoinLaws.{Pair}
 use Rattle.tree_merges.proofs.marking.marks_of.Given as goal
 

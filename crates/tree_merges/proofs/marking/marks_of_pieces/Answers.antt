@@ -1,7 +1,4 @@
-use Rattle.std.proofs.Common.{◌≡◌, ◌≤◌, ◌+◌, length, map, ap, ◌∙◌, arith}
-use Rattle.std.specs.Prelude.{slice_index}
-use Rattle.std.proofs.lemmas.List.{take_all}
-use Rattle.layout_model.specs.declared.region_tiles.RegionTile.{RegionTile}
+use Rattle.tree_merges.proofs.Common.{◌≡◌, ◌≤◌, ◌+◌, length, map, ap, ◌∙◌, arith, slice_index, take_all, RegionTile}
 use Rattle.tree_merges.proofs.PieceMarks.{marks_by_index}
 use Rattle.tree_merges.proofs.marking.marks_of_pieces.Goals as goal
 

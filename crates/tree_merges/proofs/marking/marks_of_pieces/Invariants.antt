@@ -1,5 +1,4 @@
-use Rattle.std.proofs.Common.{◌≡◌, ◌+◌, map, take}
-use Rattle.std.specs.Prelude.{slice_index}
+use Rattle.tree_merges.proofs.Common.{◌≡◌, ◌+◌, map, take, slice_index}
 use Rattle.tree_merges.proofs.marking.marks_of_pieces.Given as goal
 
 abbrev pub invariant-loop-tile : goal.invariant-loop-tile

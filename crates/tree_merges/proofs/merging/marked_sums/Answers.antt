@@ -1,20 +1,7 @@
-use Rattle.std.proofs.Common.{◌≡◌, ◌<◌, ℕ, List, length, map, sym, ap, subst, ◌∙◌, arith}
-use Rattle.std.specs.Prelude.{All}
-use Rattle.std.specs.List.{range_with_len}
+use Rattle.tree_merges.proofs.Common.{◌≡◌, ◌<◌, ℕ, List, length, map, sym, ap, subst, ◌∙◌, arith, All, range_with_len, Lists, AreSpread}
+use Rattle.tree_merges.proofs.Common.{IsTileContact, PlaneStack, SetLayout, ArePlaneStacks, AreByPart, MOST_PARTS, tiles_of, AreMeetingSums}
+use Rattle.tree_merges.proofs.Common.{AreMemberMarks, mark_at, member_pairs, AreNumbered}
 use Rattle.std.proofs.lemmas.List.FromFn.{length-map-range_with_len}
-use Rattle.finite_sets.specs.Lists.{Lists}
-use Rattle.flood_nodes.specs.Stacking.{AreSpread}
-use Rattle.flood_nodes.specs.TileShares.{IsTileContact}
-use Rattle.offences.specs.declared.plane_stacks.PlaneStack.{PlaneStack}
-use Rattle.offences.specs.Offences.{SetLayout}
-use Rattle.offences.specs.PlaneStacks.{ArePlaneStacks}
-use Rattle.offences.specs.TypedStacks.{AreByPart}
-use Rattle.piece_groups.specs.MeetingSums.declared.limits.TheConstants.{MOST_PARTS}
-use Rattle.piece_groups.specs.MeetingSums.StackTiles.{tiles_of}
-use Rattle.piece_groups.specs.MeetingSums.Sums.{AreMeetingSums}
-use Rattle.piece_groups.specs.MemberMarks.{AreMemberMarks, mark_at}
-use Rattle.tree_merges.specs.steps.MemberPairs.{member_pairs}
-use Rattle.tree_merges.specs.steps.Pieces.{AreNumbered}
 use Rattle.tree_merges.proofs.NumberedMembers.{marked_sums_are, parts_are_few, parts_in_order}
 use Rattle.tree_merges.proofs.PieceMarks.{marks_are_counted}
 use Rattle.tree_merges.proofs.PieceTiles.{tiles_are_spread, unnumbered_contacts}

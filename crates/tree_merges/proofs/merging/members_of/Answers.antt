@@ -1,10 +1,8 @@
-use Rattle.std.proofs.Common.{List, arith, length, ap, sym, subst}
-use Rattle.std.specs.Prelude.{All, IfOk}
-use Rattle.hier_merge.specs.CellLibrary.declared.part_tiles.PartTile.{PartTile}
+use Rattle.tree_merges.proofs.Common.{List, arith, length, ap, sym, subst, All, PartTile, seen, AreTileMembers}
+use Rattle.std.specs.Prelude.{IfOk}
 use Rattle.hier_merge.specs.CellLibrary.LayoutTrees.{tree_at}
-use Rattle.hier_merge.specs.CellLibrary.Libraries.{seen}
 use Rattle.tile_members.specs.LibraryTrees.NamedCells.{named_tree_at}
-use Rattle.tile_members.specs.TileMembers.{AreTileMembers, IsPartTile}
+use Rattle.tile_members.specs.TileMembers.{IsPartTile}
 use Rattle.tree_merges.proofs.merging.members_of.Goals as goal
 
 pub tile_members-requires-clause-tiles : goal.tile_members-requires-clause-tiles

@@ -1,14 +1,8 @@
-use Rattle.std.proofs.Common.{◌≡◌, List, sym, subst}
-use Rattle.tech_model.specs.declared.raw.RawTech.{RawTech}
+use Rattle.tree_merges.proofs.Common.{◌≡◌, List, sym, subst, RawTech, seen, PlaneStack, AreTileMembers, AreMarkedMerges, ArePieceRegions, ArePieces}
 use Rattle.tile_members.specs.GroupMeetings.Laws.{RecordedPartsHaveMembers}
 use Rattle.hier_merge.specs.CellLibrary.LayoutTrees.{tree_at}
-use Rattle.hier_merge.specs.CellLibrary.Libraries.{seen}
 use Rattle.tile_members.specs.LibraryTrees.NamedCells.{named_tree_at}
-use Rattle.offences.specs.declared.plane_stacks.PlaneStack.{PlaneStack}
 use Rattle.piece_groups.specs.Laws.{MarkedGroupsAreRecorded}
-use Rattle.tile_members.specs.TileMembers.{AreTileMembers}
-use Rattle.tree_merges.specs.steps.MarkedMerges.{AreMarkedMerges}
-use Rattle.tree_merges.specs.steps.Pieces.{ArePieceRegions, ArePieces}
 use Rattle.tree_merges.specs.Relations.{records_in}
 use Rattle.tree_merges.proofs.CellMerges.{few_parts, meeting_pieces, merges_of_cell, records_below}
 use Rattle.tree_merges.proofs.NumberedMembers.{members_are_numbered}

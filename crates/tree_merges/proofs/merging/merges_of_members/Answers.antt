@@ -1,5 +1,4 @@
-use Rattle.std.proofs.Common.{◌≡◌, ◌<◌, ◌+◌, ℕ, List, length, ap, subst, arith}
-use Rattle.std.specs.Prelude.{slice_index}
+use Rattle.tree_merges.proofs.Common.{◌≡◌, ◌<◌, ◌+◌, ℕ, List, length, ap, subst, arith, slice_index}
 use Rattle.piece_groups.specs.MeetingSums.declared.sums.MeetingSum.{MeetingSum}
 use Rattle.piece_groups.specs.MarkMerges.{AreMergesOfMarks}
 use Rattle.tree_merges.proofs.merging.merges_of_members.Goals as goal

@@ -1,12 +1,7 @@
-use Rattle.std.proofs.Common.{◌≡◌, ◌≤◌, ℕ, List, sym, subst, ◌∙◌}
-use Rattle.std.specs.Prelude.{All, AllPairs}
-use Rattle.geo_core.specs.Areas.{IsNear}
-use Rattle.geo_core.specs.Covering.{IsProper}
-use Rattle.layout_model.specs.declared.region_tiles.RegionTile.{RegionTile}
+use Rattle.tree_merges.proofs.Common.{◌≡◌, ◌≤◌, ℕ, List, sym, subst, ◌∙◌, All, AllPairs, IsNear, IsProper, RegionTile, tiles_of}
 use Rattle.layout_model.specs.RegionTiles.{AreLayoutTiles, LieApart}
 use Rattle.flood_nodes.specs.Renumbered.{AreRenumbered}
 use Rattle.piece_groups.specs.MeetingSums.LowerMeetingLaws.PartLayouts.{parts_layout}
-use Rattle.piece_groups.specs.MeetingSums.StackTiles.{tiles_of}
 use Rattle.tree_merges.proofs.PieceTiles.{tiles_are_spread, tiles_by_plane}
 use Rattle.tree_merges.proofs.piece_tiles.regions_of_pieces.Goals as goal
 

@@ -1,7 +1,6 @@
-use Rattle.std.proofs.Common.{arith, length, subst, sym, ◌∙◌}
+use Rattle.tree_merges.proofs.Common.{arith, length, subst, sym, ◌∙◌, seen}
 use Rattle.hierarchy_model.specs.Laws.{CleanCellsKeepWhatTheyHave}
 use Rattle.hier_merge.specs.CellLibrary.LayoutTrees.{tree_at}
-use Rattle.hier_merge.specs.CellLibrary.Libraries.{seen}
 use Rattle.tree_merges.proofs.relating.relate.Goals as goal
 
 pub returns-in_err-meeting-clause-steps : goal.returns-in_err-meeting-clause-steps

@@ -1,4 +1,5 @@
-use Rattle.std.proofs.Common.{◌≡◌, ◌≤◌, length, take, vec_capacity}
+use Rattle.undo_log.proofs.Common.{◌≡◌, ◌≤◌, length, take}
+use Rattle.std.proofs.Common.{vec_capacity}
 use Rattle.undo_log.proofs.inverses.copy_labels.Given as goal
 
 -- as many labels as were passed have been copied, and there is room for all

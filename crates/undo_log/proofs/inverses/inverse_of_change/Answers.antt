@@ -1,14 +1,6 @@
-use Rattle.std.proofs.Common.{◌≡◌, ℕ, ℤ, List, map, subst, sym, refl, ◌<◌}
-use Rattle.std.proofs.lemmas.Result.{IfOk-weaker}
-use Rattle.geo_core.specs.FiniteSets.Lists.{Distinct}
-use Rattle.cell_tree.specs.declared.use_tables.UseBody.{UseBody}
-use Rattle.edit_script.specs.CellLibrary.Libraries.{seen}
-use Rattle.edit_script.specs.CellLibrary.LawfulViews.{IsLawfulView}
-use Rattle.edit_script.specs.CellLibrary.Views.{CellView, LibraryView, view_at}
-use Rattle.undo_log.specs.declared.changes.Change.{Change}
-use Rattle.undo_log.specs.declared.changes.Change.TheVariants.{AddLabel, DeleteUse, DropLabel, InsertUse, MoveUse, Repaint, SetGrid, SetLabels}
-use Rattle.undo_log.specs.Inverses.{CanBeMade, TakesBack, changed}
-use Rattle.undo_log.specs.steps.Makings.{AddsLast, PutsBack}
+use Rattle.undo_log.proofs.Common.{◌≡◌, ℕ, ℤ, List, map, subst, sym, refl, ◌<◌, IfOk-weaker, Distinct, UseBody, seen, IsLawfulView, CellView}
+use Rattle.undo_log.proofs.Common.{LibraryView, view_at, Change, AddLabel, DeleteUse, DropLabel, InsertUse, MoveUse, Repaint, SetGrid, SetLabels}
+use Rattle.undo_log.proofs.Common.{CanBeMade, TakesBack, changed, AddsLast, PutsBack}
 use Rattle.undo_log.proofs.CellLaws.{cell_here, count_kept}
 use Rattle.undo_log.proofs.ChangeLaws.{deletion_taken_back, drop_taken_back, grid_taken_back, insertion_taken_back, label_taken_back}
 use Rattle.undo_log.proofs.ChangeLaws.{labels_taken_back, move_taken_back, remade, repaint_taken_back}

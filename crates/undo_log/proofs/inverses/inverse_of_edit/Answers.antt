@@ -1,24 +1,12 @@
-use Rattle.std.proofs.Common.{◌≡◌, ◌<◌, ◌&&◌, ℕ, ℤ, false, List, [], ◌∷◌, length, refl, subst, sym, arith}
-use Rattle.std.specs.Prelude.{IsSomeAnd, MatchOption, Option, None, Some}
-use Rattle.std.proofs.lemmas.Result.{IfOk-weaker}
-use Rattle.cell_paint.specs.Painting.{is_in_range}
-use Rattle.geo_core.specs.Areas.{has_square}
-use Rattle.ext_model.specs.declared.tables.CellKey.{CellKey}
-use Rattle.geo_core.specs.declared.grids.Grid.{Grid}
-use Rattle.edit_script.specs.CellLibrary.Libraries.{LibraryParts, edits_of, seen}
-use Rattle.edit_script.specs.CellLibrary.Refusals.{has_id}
-use Rattle.edit_script.specs.CellLibrary.Views.{LibraryView, view_at}
+use Rattle.undo_log.proofs.Common.{◌≡◌, ◌<◌, ◌&&◌, ℕ, ℤ, false, List, [], ◌∷◌, length, refl, subst, sym, arith, MatchOption, Option, None, Some}
+use Rattle.undo_log.proofs.Common.{IfOk-weaker, is_in_range, has_square, CellKey, Grid, LibraryParts, edits_of, seen, has_id, LibraryView, view_at}
+use Rattle.undo_log.proofs.Common.{count_seen, Command, editing_of, applied, grid_of, Change, DeleteUse, DropLabel, MoveUse, TakesBack, Accepts}
+use Rattle.undo_log.proofs.Common.{BringsAgain, GivesGrid, PutsBack}
+use Rattle.std.specs.Prelude.{IsSomeAnd}
 use Rattle.edit_script.proofs.CellLibrary.UseLists.{has_there}
-use Rattle.edit_script.proofs.CellLibrary.ViewLaws.{count_seen}
-use Rattle.edit_script.specs.ScriptLines.declared.commands.Command.{Command}
 use Rattle.edit_script.specs.ScriptLines.declared.commands.Command.TheVariants as command
 use Rattle.edit_script.specs.ScriptLines.Forms.{IsFormed}
-use Rattle.edit_script.specs.Editing.{editing_of}
-use Rattle.edit_script.specs.Edits.{applied, grid_of}
-use Rattle.undo_log.specs.declared.changes.Change.{Change}
-use Rattle.undo_log.specs.declared.changes.Change.TheVariants.{DeleteUse, DropLabel, MoveUse}
-use Rattle.undo_log.specs.Inverses.{TakesBack}
-use Rattle.undo_log.specs.steps.Makings.{Accepts, BringsAgain, GivesGrid, OfUse, PutsBack}
+use Rattle.undo_log.specs.steps.Makings.{OfUse}
 use Rattle.undo_log.proofs.EditLaws.{arraying_refused, arraying_taken_back, deleting_refused, deleting_taken_back, erasing_refused, erasing_taken_back}
 use Rattle.undo_log.proofs.EditLaws.{labelling_taken_back, moving_taken_back, painting_refused, painting_taken_back, placing_taken_back}
 use Rattle.undo_log.proofs.EditLaws.{unlabelling_taken_back}

@@ -1,9 +1,4 @@
-use Rattle.std.proofs.Common.{◌≡◌, ◌∙◌, false, ℕ, List, ap, subst, sym}
-use Rattle.std.specs.Prelude.{Some, slice_get}
-use Rattle.cell_tree.specs.declared.use_tables.UseBody.{UseBody}
-use Rattle.edit_script.specs.CellLibrary.Libraries.{seen}
-use Rattle.edit_script.specs.CellLibrary.Refusals.{has_id}
-use Rattle.edit_script.specs.CellLibrary.Views.{view_at}
+use Rattle.undo_log.proofs.Common.{◌≡◌, ◌∙◌, false, ℕ, List, ap, subst, sym, Some, slice_get, UseBody, seen, has_id, view_at}
 use Rattle.undo_log.proofs.BodyLaws.{Uses}
 use Rattle.undo_log.proofs.UseMoves.{place_nowhere, place_there}
 use Rattle.undo_log.proofs.inverses.use_of.Goals as goal

@@ -1,9 +1,5 @@
-use Rattle.std.proofs.Common.{◌≡◌, ◌<◌, ℕ, List, ◌∷◌, drop, length, ap, refl, subst, ◌∙◌}
-use Rattle.edit_script.specs.CellLibrary.Libraries.{LibraryParts, edits_of, seen}
-use Rattle.edit_script.proofs.CellLibrary.ViewLaws.{count_seen}
-use Rattle.undo_log.specs.declared.changes.Inverse.{Inverse}
-use Rattle.undo_log.specs.Inverses.{LeadTo}
-use Rattle.undo_log.specs.Versions.{Version}
+use Rattle.undo_log.proofs.Common.{◌≡◌, ◌<◌, ℕ, List, ◌∷◌, drop, length, ap, refl, subst, ◌∙◌, LibraryParts, edits_of, seen, count_seen, Inverse}
+use Rattle.undo_log.proofs.Common.{LeadTo, Version}
 use Rattle.undo_log.proofs.LeadLaws.{brought_back, first_can_be_made}
 use Rattle.undo_log.proofs.MakeLaws.{few_edits}
 use Rattle.undo_log.proofs.returns.bring_back.Goals as goal

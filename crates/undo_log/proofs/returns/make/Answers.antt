@@ -1,14 +1,5 @@
-use Rattle.std.proofs.Common.{◌≡◌, ℕ, ℤ, List, refl, subst, sym}
-use Rattle.std.specs.Int.{w64}
-use Rattle.edit_script.specs.CellLibrary.CellBodies.Bodies.{IsLabel}
-use Rattle.tech_model.specs.declared.raw.Label.{Label}
-use Rattle.edit_script.specs.CellLibrary.declared.faults.LibFault.{LibFault}
-use Rattle.edit_script.specs.CellLibrary.Libraries.{IsLawfulLibrary, LibraryParts, edits_of, seen}
-use Rattle.edit_script.specs.CellLibrary.Refusals.{DeleteIsRefused, LabelIsRefused, MoveIsRefused}
-use Rattle.edit_script.specs.CellLibrary.Views.{LibraryView}
-use Rattle.undo_log.specs.declared.changes.Change.{Change}
-use Rattle.undo_log.specs.declared.changes.Change.TheVariants.{AddLabel, DeleteUse, MoveUse}
-use Rattle.undo_log.specs.Inverses.{CanBeMade}
+use Rattle.undo_log.proofs.Common.{◌≡◌, ℕ, ℤ, List, refl, subst, sym, w64, IsLabel, Label, LibFault, IsLawfulLibrary, LibraryParts, edits_of, seen}
+use Rattle.undo_log.proofs.Common.{DeleteIsRefused, LabelIsRefused, MoveIsRefused, LibraryView, Change, AddLabel, DeleteUse, MoveUse, CanBeMade}
 use Rattle.undo_log.proofs.MakeLaws.{deletes, label_is, labels, moves, nothing_else, nothing_else_or_memory, short_index, short_passed}
 use Rattle.undo_log.proofs.UseMoves.{IsShort, moves_are_short}
 use Rattle.undo_log.proofs.returns.make.Goals as goal

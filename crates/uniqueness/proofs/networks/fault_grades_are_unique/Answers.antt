@@ -1,5 +1,4 @@
-use Rattle.std.proofs.Common.{ap}
-use Rattle.switch_net.specs.Network.{Network}
+use Rattle.uniqueness.proofs.Common.{ap, Network}
 use Rattle.uniqueness.proofs.AlikeNames.{like_named}
 use Rattle.uniqueness.proofs.SameGrades.{faults_alike, grades_alike}
 use Rattle.uniqueness.proofs.SameNetworks.{one_node_each, same_names, same_network}

@@ -1,4 +1,4 @@
-use Rattle.network_commands.specs.SimNetworks.SimNetworks.{records_of}
+use Rattle.uniqueness.proofs.Common.{records_of}
 use Rattle.uniqueness.proofs.SimLimits.{numbered, passes_none, same_limit}
 use Rattle.uniqueness.proofs.simulations.sim_networks_are_unique.Goals as goal
 

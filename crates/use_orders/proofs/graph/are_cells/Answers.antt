@@ -1,4 +1,4 @@
-use Rattle.std.proofs.Common.{◌≡◌, true, false, refl, arith}
+use Rattle.use_orders.proofs.Common.{◌≡◌, true, false, refl, arith}
 use Rattle.use_orders.proofs.Closed.{cells_more, cells_not, cells_all}
 use Rattle.use_orders.proofs.graph.are_cells.Goals as goal
 

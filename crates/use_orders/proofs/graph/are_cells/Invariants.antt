@@ -1,5 +1,4 @@
-use Rattle.std.proofs.Common.{ℕ, ◌<◌, length}
-use Rattle.use_orders.specs.Uses.{UsesCell}
+use Rattle.use_orders.proofs.Common.{ℕ, ◌<◌, length, UsesCell}
 use Rattle.use_orders.proofs.graph.are_cells.Given as goal
 
 abbrev pub invariant-parents : goal.invariant-parents

@@ -1,4 +1,4 @@
-use Rattle.std.proofs.Common.{◌≡◌, true, false, refl, arith}
+use Rattle.use_orders.proofs.Common.{◌≡◌, true, false, refl, arith}
 use Rattle.use_orders.proofs.Closed.{uses_within, use_outside}
 use Rattle.use_orders.proofs.graph.uses_cells.Goals as goal
 

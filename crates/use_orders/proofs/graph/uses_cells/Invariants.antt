@@ -1,5 +1,4 @@
-use Rattle.std.proofs.Common.{ℕ, ◌<◌, length, slice_index}
-use Rattle.use_orders.specs.Uses.{used_by}
+use Rattle.use_orders.proofs.Common.{ℕ, ◌<◌, length, slice_index, used_by}
 use Rattle.use_orders.proofs.graph.uses_cells.Given as goal
 
 abbrev pub invariant-uses : goal.invariant-uses

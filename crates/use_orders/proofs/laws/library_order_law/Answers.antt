@@ -1,6 +1,6 @@
 use Rattle.use_orders.proofs.Visiting.{library_order-lists, library_order-behind, library_order-last, Visits-unique}
 use Rattle.use_orders.proofs.laws.library_order_law.Goals as goal
-use Rattle.std.proofs.Common.{[], ◌∷◌}
+use Rattle.use_orders.proofs.Common.{[], ◌∷◌}
 
 pub returns : goal.returns
 returns c = record {

@@ -1,5 +1,4 @@
-use Rattle.std.proofs.Common.{arith, sym, ◌∙◌}
-use Rattle.use_orders.specs.steps.Walks.{walk_state}
+use Rattle.use_orders.proofs.Common.{arith, sym, ◌∙◌, walk_state}
 use Rattle.use_orders.proofs.NewOrders.{walked_none, walked_more, walked_all}
 use Rattle.use_orders.proofs.new_order.walk_new.Goals as goal
 

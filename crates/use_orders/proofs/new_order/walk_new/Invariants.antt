@@ -1,5 +1,4 @@
-use Rattle.std.proofs.Common.{◌≡◌}
-use Rattle.use_orders.specs.steps.Walks.{walk_state}
+use Rattle.use_orders.proofs.Common.{◌≡◌, walk_state}
 use Rattle.use_orders.proofs.NewOrders.{IsWalked}
 use Rattle.use_orders.proofs.new_order.walk_new.Given as goal
 

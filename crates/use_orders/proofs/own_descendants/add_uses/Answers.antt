@@ -1,8 +1,5 @@
-use Rattle.std.proofs.Common.{arith, ℕ}
-use Rattle.std.specs.Prelude.{Vec}
-use Rattle.std.specs.Global.{Global}
+use Rattle.use_orders.proofs.Common.{arith, ℕ, Vec, Global, lists_of}
 use Rattle.std.proofs.lemmas.List.{length-map}
-use Rattle.use_orders.specs.steps.Searches.{lists_of}
 use Rattle.use_orders.proofs.Users.{child_fits, added_old, added_new, added_all}
 use Rattle.use_orders.proofs.own_descendants.add_uses.Goals as goal
 use Rattle.use_orders.proofs.own_descendants.add_uses.Goals.{then-first-child+in_ok-add_user, else-first-child}

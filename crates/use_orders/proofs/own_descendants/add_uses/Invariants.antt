@@ -1,4 +1,4 @@
-use Rattle.use_orders.specs.steps.Searches.{lists_of}
+use Rattle.use_orders.proofs.Common.{lists_of}
 use Rattle.use_orders.proofs.Users.{AreAdded}
 use Rattle.use_orders.proofs.own_descendants.add_uses.Given as goal
 

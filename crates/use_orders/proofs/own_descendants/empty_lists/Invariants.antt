@@ -1,6 +1,5 @@
-use Rattle.std.proofs.Common.{◌≡◌, ◌≤◌, ◌-◌, ℕ, [], length, vec_len}
-use Rattle.use_orders.specs.steps.Searches.{lists_of}
-use Rattle.use_orders.specs.Uses.{used_by}
+use Rattle.use_orders.proofs.Common.{◌≡◌, ◌≤◌, ◌-◌, ℕ, [], length, lists_of, used_by}
+use Rattle.std.proofs.Common.{vec_len}
 use Rattle.use_orders.proofs.own_descendants.empty_lists.Given as goal
 
 abbrev pub invariant-lists : goal.invariant-lists

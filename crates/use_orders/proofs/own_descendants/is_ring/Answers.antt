@@ -1,4 +1,4 @@
-use Rattle.std.proofs.Common.{arith, inl, inr}
+use Rattle.use_orders.proofs.Common.{arith, inl, inr}
 use Rattle.use_orders.proofs.Lesser.{is_found, finds}
 use Rattle.use_orders.proofs.Users.{used_by-lists}
 use Rattle.use_orders.proofs.own_descendants.is_ring.Goals as goal

@@ -1,7 +1,4 @@
-use Rattle.std.proofs.Common.{◌≡◌, ◌+◌, ◌-◌, ℕ, arith, subst, slice_index, ◌∙◌}
-use Rattle.finite_sets.proofs.Members.{In-get_or}
-use Rattle.use_orders.specs.steps.Searches.{lists_of, IsSearched}
-use Rattle.use_orders.specs.steps.Walks.{walk_state}
+use Rattle.use_orders.proofs.Common.{◌≡◌, ◌+◌, ◌-◌, ℕ, arith, subst, slice_index, ◌∙◌, In-get_or, lists_of, IsSearched, walk_state}
 use Rattle.use_orders.proofs.Rings.{users_are_cells, searched_more, searched_all}
 use Rattle.use_orders.proofs.Users.{length-lists_of}
 use Rattle.use_orders.proofs.own_descendants.least_own_descendant.Goals as goal

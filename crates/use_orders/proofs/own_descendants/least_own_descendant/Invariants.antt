@@ -1,6 +1,4 @@
-use Rattle.std.proofs.Common.{◌≡◌, ◌≤◌, length}
-use Rattle.use_orders.specs.steps.Searches.{lists_of, IsSearched}
-use Rattle.use_orders.specs.steps.Walks.{walk_state}
+use Rattle.use_orders.proofs.Common.{◌≡◌, ◌≤◌, length, lists_of, IsSearched, walk_state}
 use Rattle.use_orders.proofs.own_descendants.least_own_descendant.Given as goal
 
 abbrev pub invariant-places : goal.invariant-places

@@ -1,6 +1,5 @@
-use Rattle.std.proofs.Common.{◌≡◌, ◌≤◌, ◌<◌, ℕ, ◌⊎◌, slice_index, Some}
-use Rattle.std.specs.Prelude.{IfSome, IsSomeAnd}
-use Rattle.finite_sets.specs.Lists.{In}
+use Rattle.use_orders.proofs.Common.{◌≡◌, ◌≤◌, ◌<◌, ℕ, ◌⊎◌, slice_index, IfSome, IsSomeAnd, In}
+use Rattle.std.proofs.Common.{Some}
 use Rattle.use_orders.proofs.own_descendants.least_with.Given as goal
 
 abbrev pub invariant-cells : goal.invariant-cells

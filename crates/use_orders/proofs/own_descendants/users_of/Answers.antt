@@ -1,5 +1,4 @@
-use Rattle.std.proofs.Common.{arith}
-use Rattle.use_orders.specs.steps.Searches.{lists_of}
+use Rattle.use_orders.proofs.Common.{arith, lists_of}
 use Rattle.use_orders.proofs.Users.{length-lists_of, users_more}
 use Rattle.use_orders.proofs.own_descendants.users_of.Goals as goal
 

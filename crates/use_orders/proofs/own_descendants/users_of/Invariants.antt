@@ -1,4 +1,4 @@
-use Rattle.use_orders.specs.steps.Searches.{lists_of}
+use Rattle.use_orders.proofs.Common.{lists_of}
 use Rattle.use_orders.proofs.Users.{AreUsersBelow}
 use Rattle.use_orders.proofs.own_descendants.users_of.Given as goal
 

@@ -1,6 +1,4 @@
-use Rattle.std.proofs.Common.{◌≡◌, ◌++◌, Ok}
-use Rattle.text_form.specs.SaidLines.{and_then}
-use Rattle.vector_files.specs.LineForms.{asked_in}
+use Rattle.vector_files.proofs.Common.{◌≡◌, ◌++◌, Ok, and_then, asked_in}
 use Rattle.vector_files.proofs.line_forms.asked_in.Given as goal
 
 -- what is asked for so far, and what the names that are left add, are what all names give

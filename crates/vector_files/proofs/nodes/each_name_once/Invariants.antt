@@ -1,5 +1,4 @@
-use Rattle.std.proofs.Common.{take}
-use Rattle.vector_files.specs.NodeLookup.{IsIndexOf}
+use Rattle.vector_files.proofs.Common.{take, IsIndexOf}
 use Rattle.vector_files.proofs.nodes.each_name_once.Given as goal
 
 -- the names so far

@@ -1,4 +1,4 @@
-use Rattle.std.proofs.Common.{◌∙◌, sym}
+use Rattle.vector_files.proofs.Common.{◌∙◌, sym}
 use Rattle.vector_files.proofs.Places.{named_found, named_nowhere, read_place}
 use Rattle.vector_files.proofs.nodes.node_at.Goals as goal
 

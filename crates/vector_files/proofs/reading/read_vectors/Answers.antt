@@ -1,4 +1,5 @@
-use Rattle.std.proofs.Common.{◌≡◌, ◌≢◌, ◌∙◌, Ok, Err, sym}
+use Rattle.vector_files.proofs.Common.{◌≡◌, ◌∙◌, Ok, Err, sym}
+use Rattle.std.proofs.Common.{◌≢◌}
 use Rattle.std.proofs.lemmas.Result.{IfOk-weaker, IfErr-weaker}
 use Rattle.vector_files.specs.declared.faults.VecFault.TheVariants.{Memory}
 use Rattle.vector_files.specs.VectorFiles.{IsWithin, vectors_in}

@@ -1,9 +1,6 @@
-use Rattle.std.proofs.Common.{ℕ, List, refl, subst}
+use Rattle.vector_runs.proofs.Common.{ℕ, List, refl, subst, Level, VecLine, IsLineWithin, LinesRun}
 use Rattle.std.proofs.lemmas.List.Elements.{All-map}
-use Rattle.switch_net.specs.declared.switches.Level.{Level}
-use Rattle.vector_files.specs.declared.files.VecLine.{VecLine}
-use Rattle.vector_files.specs.VectorFiles.{IsLineWithin}
-use Rattle.vector_runs.specs.Runs.{LinesRun, begun_in, lines_of}
+use Rattle.vector_runs.specs.Runs.{begun_in, lines_of}
 use Rattle.vector_runs.proofs.LineOutcomes.{same_lines}
 use Rattle.vector_runs.proofs.Starts.{same_starts}
 use Rattle.vector_runs.proofs.laws.runs_are_unique.Goals as goal

@@ -1,4 +1,5 @@
-use Rattle.std.proofs.Common.{◌≡◌, ◌<◌, ℕ, false, slice_index, slice_index_or}
+use Rattle.vector_runs.proofs.Common.{◌≡◌, ◌<◌, ℕ, false}
+use Rattle.std.proofs.Common.{slice_index, slice_index_or}
 use Rattle.vector_runs.proofs.rails.clear.Given as goal
 
 abbrev pub invariant-loop-node : goal.invariant-loop-node

@@ -1,6 +1,4 @@
-use Rattle.std.proofs.Common.{◌≡◌, sym, ◌∙◌, arith}
-use Rattle.std.proofs.lemmas.Bool.{false≢true}
-use Rattle.std.proofs.lemmas.Slice.Eq.{bytes_eq-Decides}
+use Rattle.vector_runs.proofs.Common.{◌≡◌, sym, ◌∙◌, arith, false≢true, bytes_eq-Decides}
 use Rattle.vector_runs.proofs.NameSearch.{found_here, behind_more, not_found}
 use Rattle.vector_runs.proofs.rails.node_named.Goals as goal
 

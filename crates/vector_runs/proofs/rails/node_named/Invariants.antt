@@ -1,5 +1,4 @@
-use Rattle.std.proofs.Common.{ℕ, drop}
-use Rattle.switch_net.specs.Names.{HasName}
+use Rattle.vector_runs.proofs.Common.{ℕ, drop, HasName}
 use Rattle.vector_runs.proofs.rails.node_named.Given as goal
 
 abbrev pub invariant-loop-known : goal.invariant-loop-known

@@ -1,5 +1,4 @@
-use Rattle.std.proofs.Common.{subst, sym}
-use Rattle.switch_net.specs.Names.{NameOneNodeEach}
+use Rattle.vector_runs.proofs.Common.{subst, sym, NameOneNodeEach}
 use Rattle.vector_runs.proofs.RailStates.{rails_known, rails_named, rails_below}
 use Rattle.vector_runs.proofs.rails.rails_of.Goals as goal
 

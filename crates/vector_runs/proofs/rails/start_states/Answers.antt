@@ -1,6 +1,5 @@
-use Rattle.std.proofs.Common.{◌≡◌, ◌++◌, length, take, drop, ap, ◌∙◌}
+use Rattle.vector_runs.proofs.Common.{◌≡◌, ◌++◌, length, take, drop, ap, ◌∙◌, network_of}
 use Rattle.switch_net.proofs.Lent.{refilled}
-use Rattle.switch_net.specs.Net.{network_of}
 use Rattle.vector_runs.proofs.RailStates.{starts_as_set}
 use Rattle.vector_runs.proofs.rails.start_states.Goals as goal
 

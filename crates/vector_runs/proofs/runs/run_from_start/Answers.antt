@@ -1,7 +1,5 @@
-use Rattle.std.proofs.Common.{ℕ, rules, subst, sym}
-use Rattle.switch_net.specs.Names.{NameNodesBelow}
-use Rattle.switch_net.specs.Net.{network_of}
-use Rattle.vector_runs.specs.Running.{standing}
+use Rattle.vector_runs.proofs.Common.{ℕ, subst, sym, NameNodesBelow, network_of, standing}
+use Rattle.std.proofs.Common.{rules}
 use Rattle.vector_runs.proofs.RunningLines.{run_told}
 use Rattle.vector_runs.proofs.runs.run_from_start.Goals as goal
 

@@ -1,4 +1,4 @@
-use Rattle.std.proofs.Common.{◌∙◌}
+use Rattle.vector_runs.proofs.Common.{◌∙◌}
 use Rattle.vector_runs.proofs.RailStates.{put_back}
 use Rattle.vector_runs.proofs.watching.watch.Goals as goal
 

@@ -1,5 +1,4 @@
-use Rattle.std.proofs.Common.{ℕ, subst, sym}
-use Rattle.switch_net.specs.Names.{NameNodesBelow}
+use Rattle.vector_runs.proofs.Common.{ℕ, subst, sym, NameNodesBelow}
 use Rattle.vector_runs.proofs.watching.watch_from_start.Goals as goal
 
 pub invariant_of-named : goal.invariant_of-named

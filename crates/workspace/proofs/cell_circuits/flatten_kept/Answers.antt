@@ -1,6 +1,5 @@
-use Rattle.std.proofs.Common.{◌≡◌, ◌∙◌, sym, ap, subst, rules}
+use Rattle.workspace.proofs.Common.{◌≡◌, ◌∙◌, sym, ap, subst, rules, seen}
 use Rattle.flatten.specs.Sinks.{IsGiven, with_fets}
-use Rattle.ext_cache.specs.CellLibrary.Libraries.{seen}
 use Rattle.workspace.specs.CellCircuits.{IsSimulableCircuitAt}
 use Rattle.workspace.proofs.cell_circuits.flatten_kept.Goals as goal
 

@@ -1,17 +1,7 @@
-use Rattle.std.proofs.Common.{◌≡◌, ◌<◌, List, length, ap, sym, subst}
-use Rattle.std.specs.Prelude.{All, IfOk, IsSome}
-use Rattle.finite_sets.specs.Lists.{Distinct}
-use Rattle.ext_model.specs.declared.arrays.ArrayExt.{ArrayExt}
-use Rattle.ext_model.specs.declared.tables.CellKey.{CellKey}
-use Rattle.ext_loading.specs.PlainRecords.Plains.{AreArrayRecords, plains}
-use Rattle.ext_cache.specs.CellLibrary.Libraries.{LibraryParts, seen}
-use Rattle.ext_cache.specs.Caches.{Agrees, Records, record_in}
-use Rattle.ext_cache.specs.LibraryTrees.NamedCells.{named_tree_at}
-use Rattle.circuit_laws.specs.TreeRecords.TreeRecords.{HasTreeRecords}
-use Rattle.workspace.specs.declared.cells.Edited.{Edited}
+use Rattle.workspace.proofs.Common.{◌≡◌, ◌<◌, List, length, ap, sym, subst, All, IsSome, Distinct, ArrayExt, CellKey, AreArrayRecords, plains}
+use Rattle.workspace.proofs.Common.{LibraryParts, seen, Agrees, Records, record_in, named_tree_at, HasTreeRecords, Edited, IsFreshBelow, numbers}
+use Rattle.std.specs.Prelude.{IfOk}
 use Rattle.workspace.specs.CellCircuits.{IsGivenAt}
-use Rattle.workspace.specs.Extracting.{IsFreshBelow}
-use Rattle.library_answers.proofs.HierMerge.CleanOrders.{numbers}
 use Rattle.workspace.proofs.KeptLaws.{are_records, order_kept, order_once, root_clean, tree_records}
 use Rattle.workspace.proofs.cell_circuits.flatten_kept_into.Goals as goal
 

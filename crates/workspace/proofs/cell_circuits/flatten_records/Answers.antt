@@ -1,14 +1,8 @@
-use Rattle.std.proofs.Common.{◌≡◌, ℕ, List, sym, subst, rules}
-use Rattle.std.specs.Prelude.{IsSome}
+use Rattle.workspace.proofs.Common.{◌≡◌, ℕ, List, sym, subst, rules, IsSome, FlatTooMany, IsFlatFaultOf, IsFlatOf, plains, seen, view_at}
 use Rattle.tech_model.specs.declared.raw.RawTech.{RawTech}
-use Rattle.circuit_model.specs.declared.faults.FlatFault.TheVariants.{TooMany as FlatTooMany}
 use Rattle.circuit_model.specs.Elements.{ext_of}
-use Rattle.circuit_model.specs.Refusals.{IsFlatFaultOf, IsFlatOf}
 use Rattle.flatten.specs.Sinks.{with_fets}
-use Rattle.ext_loading.specs.PlainRecords.Plains.{plains}
 use Rattle.ext_loading.proofs.PlainRecords.PlainLaws.{plains_are_records}
-use Rattle.ext_cache.specs.CellLibrary.Libraries.{seen}
-use Rattle.ext_cache.specs.CellLibrary.Views.{view_at}
 use Rattle.circuit_laws.specs.NetworkLaws.{FlatCircuitsHaveLetters}
 use Rattle.workspace.proofs.CellCircuitLaws.{simulable_is, no_other_fault, passes_limit, root_found}
 use Rattle.workspace.proofs.cell_circuits.flatten_records.Goals as goal

@@ -1,10 +1,5 @@
-use Rattle.std.proofs.Common.{◌≡◌, ◌<◌, List, Some, length, map, sym, subst}
-use Rattle.std.specs.Prelude.{All}
-use Rattle.std.specs.List.{flat_map}
-use Rattle.ext_cache.specs.CellLibrary.Libraries.{LibraryParts, seen}
-use Rattle.ext_cache.specs.declared.extraction.Extracted.{Extracted}
-use Rattle.ext_cache.specs.Caches.{Agrees, Extracts}
-use Rattle.workspace.specs.Extracting.{HasLawfulRecord, kept_store, told_lines}
+use Rattle.workspace.proofs.Common.{◌≡◌, ◌<◌, List, Some, length, map, sym, subst, All, flat_map, LibraryParts, seen, Extracted, Agrees, Extracts}
+use Rattle.workspace.proofs.Common.{HasLawfulRecord, kept_store, told_lines}
 use Rattle.workspace.proofs.ExtractionLaws.{extraction_told, told_kept, told_there_all}
 use Rattle.library_answers.proofs.UncleanLaws.{offending_planes, unclean_is_cell}
 use Rattle.workspace.proofs.extractions.extract_cell.Goals as goal

@@ -1,7 +1,4 @@
-use Rattle.std.proofs.Common.{◌≡◌, ◌++◌, drop}
-use Rattle.std.specs.List.{flat_map}
-use Rattle.ext_cache.specs.CellLibrary.Libraries.{seen}
-use Rattle.workspace.specs.Extracting.{told_lines}
+use Rattle.workspace.proofs.Common.{◌≡◌, ◌++◌, drop, flat_map, seen, told_lines}
 use Rattle.workspace.proofs.extractions.lines_told.Given as goal
 
 -- the lines so far and those of the cells that are left are the lines of all

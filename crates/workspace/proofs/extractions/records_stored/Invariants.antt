@@ -1,6 +1,4 @@
-use Rattle.std.proofs.Common.{◌≡◌, ◌++◌, Some, drop, map}
-use Rattle.ext_cache.specs.CellLibrary.Libraries.{seen}
-use Rattle.workspace.specs.Extracting.{kept_store}
+use Rattle.workspace.proofs.Common.{◌≡◌, ◌++◌, Some, drop, map, seen, kept_store}
 use Rattle.workspace.proofs.extractions.records_stored.Given as goal
 
 -- the files so far and those of the cells that are left are the files of all

@@ -1,4 +1,4 @@
-use Rattle.std.proofs.Common.{◌≡◌, ◌++◌, drop, map}
+use Rattle.workspace.proofs.Common.{◌≡◌, ◌++◌, drop, map}
 use Rattle.workspace.specs.Extractions.{unattached_line}
 use Rattle.workspace.proofs.extractions.unattached_lines.Given as goal
 

@@ -1,6 +1,4 @@
-use Rattle.std.proofs.Common.{subst}
-use Rattle.std.specs.Prelude.{All}
-use Rattle.cell_library.specs.Contents.{IsSoundHeld}
+use Rattle.cell_library.proofs.Common.{subst, All, IsSoundHeld}
 use Rattle.cell_library.proofs.contents.Contents.all_sound.Goals as goal
 
 pub returns : goal.returns

@@ -1,5 +1,4 @@
-use Rattle.std.proofs.Common.{ap, ◌∙◌}
-use Rattle.cell_library.specs.Contents.{position_of}
+use Rattle.cell_library.proofs.Common.{ap, ◌∙◌, position_of}
 use Rattle.cell_library.proofs.ContentLaws.{found_by_key}
 use Rattle.cell_library.proofs.contents.Contents.find.Goals as goal
 

@@ -1,7 +1,4 @@
-use Rattle.std.proofs.Common.{sym, ap, ◌∙◌}
-use Rattle.std.specs.Map.{values_of}
-use Rattle.std.proofs.Common.{List}
-use Rattle.cell_library.specs.Contents.{Held, held_at}
+use Rattle.cell_library.proofs.Common.{sym, ap, ◌∙◌, values_of, List, Held, held_at}
 use Rattle.cell_library.proofs.ContentLaws.{held_value}
 use Rattle.cell_library.proofs.contents.Contents.get.Goals as goal
 

@@ -1,9 +1,4 @@
-use Rattle.std.proofs.Common.{sym, ap, ◌∙◌, List}
-use Rattle.std.specs.Map.{values_of}
-use Rattle.std.proofs.lemmas.Result.{on_ok_weaker, on_err_weaker}
-use Rattle.std.proofs.Common.{refl}
-use Rattle.cell_bodies.specs.CellPaint.Painting.{with_paint}
-use Rattle.cell_library.specs.Contents.{Held, held_at}
+use Rattle.cell_library.proofs.Common.{sym, ap, ◌∙◌, List, values_of, on_ok_weaker, on_err_weaker, refl, with_paint, Held, held_at}
 use Rattle.cell_library.proofs.ContentLaws.{held_value, repainted}
 use Rattle.cell_library.proofs.KeptContents.{still_kept}
 use Rattle.cell_library.proofs.contents.Contents.paint.Goals as goal

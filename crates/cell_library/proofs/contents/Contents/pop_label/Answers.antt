@@ -1,8 +1,5 @@
-use Rattle.std.proofs.Common.{◌≡◌, ◌++◌, ◌-◌, ◌∙◌, ℕ, List, take, refl, sym, ap, subst}
-use Rattle.std.specs.Map.{values_of}
-use Rattle.std.specs.Option.{option_to_list}
-use Rattle.tech_model.specs.declared.raw.Label.{Label}
-use Rattle.cell_library.specs.Contents.{Held, held_at, held_of, without_last}
+use Rattle.cell_library.proofs.Common.{◌≡◌, ◌++◌, ◌-◌, ◌∙◌, ℕ, List, take, refl, sym, ap, subst, values_of, option_to_list, Label, Held, held_at}
+use Rattle.cell_library.proofs.Common.{held_of, without_last}
 use Rattle.cell_library.proofs.ContentLaws.{held_value, relabelled}
 use Rattle.cell_library.proofs.KeptContents.{sound_at, still_kept}
 use Rattle.cell_library.proofs.contents.Contents.pop_label.Goals as goal

@@ -1,6 +1,4 @@
-use Rattle.std.proofs.Common.{◌≡◌, ◌∷◌, ◌++◌, [], List, ℕ, sym, ap, subst, ◌∙◌}
-use Rattle.std.specs.Str.{bytes_eq}
-use Rattle.cell_library.specs.Contents.{Held, held_in, held_of, position_of, AreKept}
+use Rattle.cell_library.proofs.Common.{◌≡◌, ◌∷◌, ◌++◌, [], List, ℕ, sym, ap, subst, ◌∙◌, bytes_eq, Held, held_in, held_of, position_of, AreKept}
 use Rattle.cell_library.proofs.ContentLaws.{content_added, held_more}
 use Rattle.cell_library.proofs.KeptContents.{kept_more}
 use Rattle.cell_library.proofs.contents.Contents.push.Goals as goal

@@ -1,5 +1,4 @@
-use Rattle.std.proofs.Common.{List, ◌∷◌, ◌++◌, [], refl}
-use Rattle.tech_model.specs.declared.raw.Label.{Label}
+use Rattle.cell_library.proofs.Common.{List, ◌∷◌, ◌++◌, [], refl, Label}
 use Rattle.cell_library.proofs.ContentLaws.{relabelled, labels_stayed}
 use Rattle.cell_library.proofs.FaultLaws.{on_any_err}
 use Rattle.cell_library.proofs.KeptContents.{sound_at, still_kept}

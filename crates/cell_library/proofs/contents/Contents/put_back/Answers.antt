@@ -1,9 +1,5 @@
-use Rattle.std.proofs.Common.{◌≡◌, sym, ap, subst, ◌∙◌, List, length, refl}
-use Rattle.std.specs.Map.{values_of}
-use Rattle.std.proofs.lemmas.Result.{on_ok_weaker, on_err_weaker}
-use Rattle.cell_bodies.specs.CellPaint.Paints.{layout_of, IsSoundPaint}
-use Rattle.cell_bodies.specs.CellPaint.Pieces.{with_pieces, CanStandIn}
-use Rattle.cell_library.specs.Contents.{Held, held_at, held_of}
+use Rattle.cell_library.proofs.Common.{◌≡◌, sym, ap, subst, ◌∙◌, List, length, refl, values_of, on_ok_weaker, on_err_weaker, layout_of, IsSoundPaint}
+use Rattle.cell_library.proofs.Common.{with_pieces, CanStandIn, Held, held_at, held_of}
 use Rattle.cell_library.proofs.ContentLaws.{held_value, repainted}
 use Rattle.cell_library.proofs.KeptContents.{still_kept}
 use Rattle.cell_library.proofs.contents.Contents.put_back.Goals as goal

@@ -1,8 +1,5 @@
-use Rattle.std.proofs.Common.{◌≡◌, Bool, filter, refl, rules}
-use Rattle.std.specs.Prelude.{not}
-use Rattle.std.specs.Str.{bytes_eq}
+use Rattle.cell_library.proofs.Common.{◌≡◌, Bool, filter, refl, rules, not, bytes_eq, Label}
 use Rattle.std.proofs.lemmas.Fn.{filter_same}
-use Rattle.tech_model.specs.declared.raw.Label.{Label}
 use Rattle.cell_library.proofs.ContentLaws.{relabelled}
 use Rattle.cell_library.proofs.KeptContents.{sound_at, still_kept}
 use Rattle.cell_library.proofs.contents.Contents.remove_labels.Goals as goal

@@ -1,4 +1,4 @@
-use Rattle.std.proofs.Common.{refl}
+use Rattle.cell_library.proofs.Common.{refl}
 use Rattle.cell_library.proofs.ContentLaws.{relabelled}
 use Rattle.cell_library.proofs.KeptContents.{sound_at, still_kept}
 use Rattle.cell_library.proofs.contents.Contents.set_labels.Goals as goal

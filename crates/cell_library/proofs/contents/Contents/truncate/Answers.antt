@@ -1,5 +1,4 @@
-use Rattle.std.proofs.Common.{take, sym, ap, subst, ◌∙◌}
-use Rattle.cell_library.specs.Contents.{held_in, AreKept}
+use Rattle.cell_library.proofs.Common.{take, sym, ap, subst, ◌∙◌, held_in, AreKept}
 use Rattle.cell_library.proofs.ContentLaws.{held_first}
 use Rattle.cell_library.proofs.KeptContents.{kept_first}
 use Rattle.cell_library.proofs.contents.Contents.truncate.Goals as goal

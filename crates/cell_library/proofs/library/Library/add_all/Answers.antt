@@ -1,7 +1,4 @@
-use Rattle.std.proofs.Common.{subst, sym, inl, inr}
-use Rattle.std.proofs.lemmas.Result.{on_ok_weaker}
-use Rattle.cell_library.specs.Additions.{CanBeAdded}
-use Rattle.cell_library.specs.Libraries.{LibraryParts, seen}
+use Rattle.cell_library.proofs.Common.{subst, sym, inl, inr, on_ok_weaker, CanBeAdded, LibraryParts, seen}
 use Rattle.cell_library.proofs.AddedCells.{add_all_fault, all_added_lawful, all_added_next, all_added_seen, all_added_unrefused, cells_fit}
 use Rattle.cell_library.proofs.FaultLaws.{ok_or_err, both_err, answers_memory}
 use Rattle.cell_library.proofs.NewCells.{kept_all}

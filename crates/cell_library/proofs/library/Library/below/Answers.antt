@@ -1,8 +1,6 @@
-use Rattle.std.proofs.Common.{◌≡◌, ℕ, List, [], ◌∷◌, map, refl, sym, ap, subst, ◌∙◌}
-use Rattle.std.proofs.lemmas.Result.{IfOk-weaker}
+use Rattle.cell_library.proofs.Common.{◌≡◌, ℕ, List, [], ◌∷◌, map, refl, sym, ap, subst, ◌∙◌, IfOk-weaker, children_of}
 use Rattle.ext_model.specs.declared.tables.CellKey.{CellKey}
 use Rattle.cell_tree.specs.UseOrders.LibraryOrder.{IsLibraryOrder}
-use Rattle.cell_tree.specs.Additions.{children_of}
 use Rattle.cell_library.proofs.AddedCells.{children_seen}
 use Rattle.cell_library.proofs.library.Library.below.Goals as goal
 

@@ -1,5 +1,4 @@
-use Rattle.std.proofs.Common.{refl, inl, inr}
-use Rattle.std.proofs.lemmas.Result.{on_ok_weaker}
+use Rattle.cell_library.proofs.Common.{refl, inl, inr, on_ok_weaker}
 use Rattle.cell_library.proofs.EditLaws.{here, kept_lawful, seen_cells}
 use Rattle.cell_library.proofs.FaultLaws.{ok_or_err, answers_only}
 use Rattle.cell_library.proofs.UseEdits.{delete_fault, deleted_seen, deleted_lawful, deleted_unrefused}

@@ -1,5 +1,4 @@
-use Rattle.std.proofs.Common.{inl, inr}
-use Rattle.std.proofs.lemmas.Result.{on_ok_weaker, on_err_weaker}
+use Rattle.cell_library.proofs.Common.{inl, inr, on_ok_weaker, on_err_weaker}
 use Rattle.cell_library.proofs.FaultLaws.{ok_or_err, both_err, answers_memory}
 use Rattle.cell_library.proofs.EditLaws.{here, refused_same, refused_lawful, seen_cells}
 use Rattle.cell_library.proofs.PaintEdits.{own_is}

@@ -1,4 +1,4 @@
-use Rattle.std.proofs.Common.{◌∙◌}
+use Rattle.cell_library.proofs.Common.{◌∙◌}
 use Rattle.cell_library.proofs.NewCells.{named_seen}
 use Rattle.cell_library.proofs.library.Library.find.Goals as goal
 

@@ -1,5 +1,4 @@
-use Rattle.std.proofs.Common.{◌∙◌, ℕ, List, sym, ap}
-use Rattle.cell_tree.specs.declared.use_tables.UseBody.{UseBody}
+use Rattle.cell_library.proofs.Common.{◌∙◌, ℕ, List, sym, ap, UseBody}
 use Rattle.cell_library.specs.PutBackUses.{place_of}
 use Rattle.cell_library.proofs.EditLaws.{here}
 use Rattle.cell_library.proofs.PutBackUses.{found_place}

@@ -1,10 +1,5 @@
-use Rattle.std.proofs.Common.{◌≤◌, ℕ, List, length, refl, subst, sym, inl, inr}
-use Rattle.std.proofs.lemmas.Result.{on_ok_weaker}
-use Rattle.cell_tree.specs.declared.use_tables.UseBody.{UseBody}
-use Rattle.cell_library.specs.LawfulViews.{IsLawfulView}
-use Rattle.cell_library.specs.Libraries.{LibraryParts, seen}
-use Rattle.cell_library.specs.Restorations.{with_use_at}
-use Rattle.cell_library.specs.Views.{view_at}
+use Rattle.cell_library.proofs.Common.{◌≤◌, ℕ, List, length, refl, subst, sym, inl, inr, on_ok_weaker, UseBody, IsLawfulView, LibraryParts, seen}
+use Rattle.cell_library.proofs.Common.{with_use_at, view_at}
 use Rattle.cell_library.proofs.EditLaws.{here, kept_lawful}
 use Rattle.cell_library.proofs.FaultLaws.{ok_or_err, answers_memory}
 use Rattle.cell_library.proofs.PutBackUses.{may_insert, inserted_view, inserted_lawful, made_unrefused}

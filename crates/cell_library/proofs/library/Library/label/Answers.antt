@@ -1,7 +1,4 @@
-use Rattle.std.proofs.Common.{◌<◌, length, subst, sym, inl, inr}
-use Rattle.std.specs.Prelude.{IfSome}
-use Rattle.std.proofs.lemmas.Result.{on_ok_weaker}
-use Rattle.cell_library.specs.Libraries.{LibraryParts}
+use Rattle.cell_library.proofs.Common.{◌<◌, length, subst, sym, inl, inr, IfSome, on_ok_weaker, LibraryParts}
 use Rattle.cell_library.proofs.EditLaws.{here, kept_lawful, seen_cells}
 use Rattle.cell_library.proofs.FaultLaws.{ok_or_err, both_err, answers_memory}
 use Rattle.cell_library.proofs.OwnEdits.{label_fault, labelled_seen, labelled_lawful, labelled_unrefused}

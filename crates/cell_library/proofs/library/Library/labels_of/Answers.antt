@@ -1,7 +1,4 @@
-use Rattle.std.proofs.Common.{◌<◌, ◌∙◌, length, sym, ap, subst}
-use Rattle.cell_library.specs.Contents.{Held}
-use Rattle.cell_library.specs.Libraries.{LibraryParts, uses_in}
-use Rattle.cell_library.specs.Views.{CellView}
+use Rattle.cell_library.proofs.Common.{◌<◌, ◌∙◌, length, sym, ap, subst, Held, LibraryParts, uses_in, CellView}
 use Rattle.cell_library.proofs.ViewLaws.{cell_viewed}
 use Rattle.cell_library.proofs.library.Library.labels_of.Goals as goal
 

@@ -1,6 +1,4 @@
-use Rattle.std.proofs.Common.{refl, inl, inr}
-use Rattle.std.proofs.lemmas.Int.{to_z-of_z}
-use Rattle.std.proofs.lemmas.Result.{on_ok_weaker}
+use Rattle.cell_library.proofs.Common.{refl, inl, inr, to_z-of_z, on_ok_weaker}
 use mir.Syntax.{w64}
 use Rattle.cell_library.proofs.EditLaws.{here, kept_lawful, seen_cells}
 use Rattle.cell_library.proofs.FaultLaws.{ok_or_err, answers_only}

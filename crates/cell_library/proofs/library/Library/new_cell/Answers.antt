@@ -1,5 +1,4 @@
-use Rattle.std.proofs.Common.{inl, inr}
-use Rattle.std.proofs.lemmas.Result.{on_ok_weaker}
+use Rattle.cell_library.proofs.Common.{inl, inr, on_ok_weaker}
 use Rattle.cell_library.proofs.FaultLaws.{ok_or_err, both_err, answers_memory}
 use Rattle.cell_library.proofs.NewCells.{new_fault, added_seen, added_lawful, added_unrefused, kept_all}
 use Rattle.cell_library.proofs.library.Library.new_cell.Goals as goal

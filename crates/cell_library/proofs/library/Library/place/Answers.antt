@@ -1,5 +1,4 @@
-use Rattle.std.proofs.Common.{refl, inl, inr}
-use Rattle.std.proofs.lemmas.Result.{on_ok_weaker}
+use Rattle.cell_library.proofs.Common.{refl, inl, inr, on_ok_weaker}
 use Rattle.cell_library.proofs.EditLaws.{here, kept_lawful}
 use Rattle.cell_library.proofs.FaultLaws.{ok_or_err, answers_memory}
 use Rattle.cell_library.proofs.UseEdits.{place_fault, placed_view, placed_lawful, placed_unrefused}

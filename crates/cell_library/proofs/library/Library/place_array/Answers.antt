@@ -1,5 +1,4 @@
-use Rattle.std.proofs.Common.{refl, inl, inr}
-use Rattle.std.proofs.lemmas.Result.{on_ok_weaker}
+use Rattle.cell_library.proofs.Common.{refl, inl, inr, on_ok_weaker}
 use Rattle.cell_library.proofs.EditLaws.{here, kept_lawful, seen_cells}
 use Rattle.cell_library.proofs.FaultLaws.{ok_or_err, answers_only}
 use Rattle.cell_library.proofs.MoveEdits.{array_fault, arrayed_seen, arrayed_lawful, arrayed_unrefused}

@@ -1,11 +1,5 @@
-use Rattle.std.proofs.Common.{ℕ, length, refl, subst, sym, inl, inr}
-use Rattle.std.proofs.lemmas.Result.{on_ok_weaker, on_err_weaker}
-use Rattle.cell_bodies.specs.CellPaint.Paints.{IsSoundPaint}
-use Rattle.cell_bodies.specs.CellPaint.Pieces.{with_pieces, CanStandIn}
-use Rattle.cell_library.specs.LawfulViews.{IsLawfulView}
-use Rattle.cell_library.specs.Libraries.{LibraryParts, seen}
-use Rattle.cell_library.specs.Restorations.{repainted}
-use Rattle.cell_library.specs.Views.{view_at}
+use Rattle.cell_library.proofs.Common.{ℕ, length, refl, subst, sym, inl, inr, on_ok_weaker, on_err_weaker, IsSoundPaint, with_pieces, CanStandIn}
+use Rattle.cell_library.proofs.Common.{IsLawfulView, LibraryParts, seen, repainted, view_at}
 use Rattle.cell_library.proofs.EditLaws.{here, refused_same, refused_lawful, seen_cells}
 use Rattle.cell_library.proofs.FaultLaws.{ok_or_err, both_err, answers_memory}
 use Rattle.cell_library.proofs.OwnRestorations.{has_room, nothing_refused, put_seen, put_lawful, sound_here}

@@ -1,12 +1,5 @@
-use Rattle.std.proofs.Common.{ℕ, List, refl, subst, sym, inl, inr}
-use Rattle.std.specs.Prelude.{IsTrue}
-use Rattle.std.proofs.lemmas.Result.{on_ok_weaker}
-use Rattle.cell_tree.specs.declared.use_tables.UseBody.{UseBody}
-use Rattle.cell_library.specs.LawfulViews.{IsLawfulView}
-use Rattle.cell_library.specs.Libraries.{LibraryParts, seen}
-use Rattle.cell_library.specs.Refusals.{has_id}
-use Rattle.cell_library.specs.Restorations.{regridded}
-use Rattle.cell_library.specs.Views.{view_at}
+use Rattle.cell_library.proofs.Common.{ℕ, List, refl, subst, sym, inl, inr, IsTrue, on_ok_weaker, UseBody, IsLawfulView, LibraryParts, seen, has_id}
+use Rattle.cell_library.proofs.Common.{regridded, view_at}
 use Rattle.cell_library.proofs.EditLaws.{here, kept_lawful}
 use Rattle.cell_library.proofs.FaultLaws.{ok_or_err, answers_only}
 use Rattle.cell_library.proofs.PutBackUses.{may_regrid, regridded_view, regridded_library, made_unrefused}

@@ -1,9 +1,4 @@
-use Rattle.std.proofs.Common.{List, refl, subst, sym, inl, inr}
-use Rattle.std.proofs.lemmas.Result.{on_ok_weaker}
-use Rattle.tech_model.specs.declared.raw.Label.{Label}
-use Rattle.cell_library.specs.LawfulViews.{IsLawfulView}
-use Rattle.cell_library.specs.Libraries.{LibraryParts, seen}
-use Rattle.cell_library.specs.Restorations.{relabelled}
+use Rattle.cell_library.proofs.Common.{List, refl, subst, sym, inl, inr, on_ok_weaker, Label, IsLawfulView, LibraryParts, seen, relabelled}
 use Rattle.cell_library.proofs.EditLaws.{here, kept_lawful, seen_cells}
 use Rattle.cell_library.proofs.FaultLaws.{ok_or_err, both_err, answers_only}
 use Rattle.cell_library.proofs.OwnRestorations.{has_room, lawful_labels, nothing_refused, relabelled_seen, relabelled_lawful}

@@ -1,11 +1,6 @@
-use Rattle.std.proofs.Common.{◌<◌, length, sym, ap, subst}
-use Rattle.tech_model.specs.declared.raw.TypeRec.{TypeRec}
+use Rattle.cell_library.proofs.Common.{◌<◌, length, sym, ap, subst, TypeRec, Layout, layout_of, IsSoundPaint, held_at, no_held, LibraryParts}
+use Rattle.cell_library.proofs.Common.{uses_in, CellView}
 use Rattle.std.specs.Prelude.{List}
-use Rattle.cell_bodies.specs.LayoutModel.Layouts.{Layout}
-use Rattle.cell_bodies.specs.CellPaint.Paints.{layout_of, IsSoundPaint}
-use Rattle.cell_library.specs.Contents.{held_at, no_held}
-use Rattle.cell_library.specs.Libraries.{LibraryParts, uses_in}
-use Rattle.cell_library.specs.Views.{CellView}
 use Rattle.cell_library.proofs.ViewLaws.{cell_viewed}
 use Rattle.cell_library.proofs.library.Library.sound.Goals as goal
 

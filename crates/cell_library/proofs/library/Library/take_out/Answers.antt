@@ -1,7 +1,5 @@
-use Rattle.std.proofs.Common.{subst}
+use Rattle.cell_library.proofs.Common.{subst, Layout, AreTakenOut, CanStandIn}
 use Rattle.std.specs.Prelude.{ℕ}
-use Rattle.cell_bodies.specs.LayoutModel.Layouts.{Layout}
-use Rattle.cell_bodies.specs.CellPaint.Pieces.{AreTakenOut, CanStandIn}
 use Rattle.cell_library.proofs.library.Library.take_out.Goals as goal
 
 pub returns-clause-taken : goal.returns-clause-taken

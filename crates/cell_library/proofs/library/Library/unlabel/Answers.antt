@@ -1,5 +1,4 @@
-use Rattle.std.proofs.Common.{inl, inr}
-use Rattle.std.proofs.lemmas.Result.{on_ok_weaker}
+use Rattle.cell_library.proofs.Common.{inl, inr, on_ok_weaker}
 use Rattle.cell_library.proofs.EditLaws.{here, kept_lawful, seen_cells}
 use Rattle.cell_library.proofs.FaultLaws.{ok_or_err, both_err, answers_only}
 use Rattle.cell_library.proofs.OwnEdits.{unlabel_fault, unlabelled_seen, unlabelled_lawful, unlabelled_unrefused}

@@ -1,7 +1,4 @@
-use Rattle.std.proofs.Common.{◌<◌, ◌∙◌, ℕ, List, length, sym, ap, subst}
-use Rattle.std.specs.Prelude.{slice_get}
-use Rattle.cell_tree.specs.declared.use_tables.UseBody.{UseBody}
-use Rattle.cell_library.specs.Libraries.{LibraryParts}
+use Rattle.cell_library.proofs.Common.{◌<◌, ◌∙◌, ℕ, List, length, sym, ap, subst, slice_get, UseBody, LibraryParts}
 use Rattle.cell_library.proofs.UseEdits.{uses_here}
 use Rattle.cell_library.proofs.library.Library.use_at.Goals as goal
 

@@ -1,15 +1,6 @@
-use Rattle.std.proofs.Common.{◌≡◌, ◌<◌, ℕ, length, sym, subst}
-use Rattle.std.specs.Prelude.{All, IfOk, Vec}
-use Rattle.std.specs.declared.alloc.Global.{Global}
-use Rattle.std.proofs.lemmas.Result.{IfOk-weaker}
-use Rattle.geo_core.specs.declared.squares.Rect.{Rect}
-use Rattle.cell_bodies.specs.LayoutModel.FlatSets.{element_parts, elements_in}
-use Rattle.cell_tree.specs.Hulls.{IsLawfulBox}
-use Rattle.cell_tree.specs.Sizes.{hulls_below, size_at}
-use Rattle.cell_library.specs.ElementBoxes.{AreElementBoxes, HoldParts}
+use Rattle.cell_library.proofs.Common.{◌≡◌, ◌<◌, ℕ, length, sym, subst, All, IfOk, Vec, Global, IfOk-weaker, Rect, element_parts, elements_in}
+use Rattle.cell_library.proofs.Common.{IsLawfulBox, hulls_below, size_at, AreElementBoxes, HoldParts, LibraryParts, seen, view_at}
 use Rattle.cell_library.specs.LayoutTrees.{tree_at}
-use Rattle.cell_library.specs.Libraries.{LibraryParts, seen}
-use Rattle.cell_library.specs.Views.{view_at}
 use Rattle.cell_library.proofs.BoxesBelow.{boxes_of_tree, seen_boxes_are_lawful}
 use Rattle.cell_library.proofs.HeldParts.{boxes_hold_parts}
 use Rattle.cell_library.proofs.reader.Reader.element_boxes.Goals as goal

@@ -1,9 +1,5 @@
-use Rattle.std.proofs.Common.{◌≡◌, ◌+◌, suc, length, sym, subst, ◌∙◌, arith}
-use Rattle.cell_bodies.specs.LayoutModel.FlatSets.{parts_in}
+use Rattle.cell_library.proofs.Common.{◌≡◌, ◌+◌, suc, length, sym, subst, ◌∙◌, arith, parts_in, LibraryParts, seen, element_count, view_at}
 use Rattle.cell_library.specs.LayoutTrees.{tree_at}
-use Rattle.cell_library.specs.Libraries.{LibraryParts, seen}
-use Rattle.cell_library.specs.PartCounts.{element_count}
-use Rattle.cell_library.specs.Views.{view_at}
 use Rattle.cell_library.proofs.ElementCounts.{part_count}
 use Rattle.cell_library.proofs.reader.Reader.part_count.Goals as goal
 

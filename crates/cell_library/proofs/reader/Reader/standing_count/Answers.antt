@@ -1,9 +1,5 @@
-use Rattle.std.proofs.Common.{◌≡◌, ◌<◌, length, sym, ap, subst, ◌∙◌}
-use Rattle.cell_bodies.specs.LayoutModel.CellTrees.{standings}
-use Rattle.cell_tree.specs.Sizes.{size_at}
-use Rattle.cell_tree.specs.Trees.{Tree}
+use Rattle.cell_library.proofs.Common.{◌≡◌, ◌<◌, length, sym, ap, subst, ◌∙◌, standings, size_at, Tree, LibraryParts, seen}
 use Rattle.cell_library.specs.LayoutTrees.{tree_at}
-use Rattle.cell_library.specs.Libraries.{LibraryParts, seen}
 use Rattle.cell_library.proofs.StandingCounts.{standings_counted}
 use Rattle.cell_library.proofs.reader.Reader.standing_count.Goals as goal
 

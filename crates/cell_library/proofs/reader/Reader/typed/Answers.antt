@@ -1,7 +1,5 @@
-use Rattle.std.proofs.Common.{subst}
-use Rattle.cell_bodies.specs.LayoutModel.FlatSets.{IsTyped}
+use Rattle.cell_library.proofs.Common.{subst, IsTyped, LibraryParts, seen}
 use Rattle.cell_library.specs.LayoutTrees.{tree_at}
-use Rattle.cell_library.specs.Libraries.{LibraryParts, seen}
 use Rattle.cell_library.proofs.TreeTypes.{library_is_typed}
 use Rattle.cell_library.proofs.reader.Reader.typed.Goals as goal
 

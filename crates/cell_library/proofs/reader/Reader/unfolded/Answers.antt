@@ -1,5 +1,4 @@
-use Rattle.std.proofs.Common.{subst}
-use Rattle.cell_library.specs.Libraries.{LibraryParts, IsLawfulLibrary}
+use Rattle.cell_library.proofs.Common.{subst, LibraryParts, IsLawfulLibrary}
 use Rattle.cell_library.proofs.LayoutTreeLaws.{tree_unfolds}
 use Rattle.cell_library.proofs.reader.Reader.unfolded.Goals as goal
 

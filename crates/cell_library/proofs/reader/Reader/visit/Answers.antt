@@ -1,11 +1,5 @@
-use Rattle.std.proofs.Common.{◌≡◌, ℕ, subst}
-use Rattle.std.specs.Prelude.{IfOk}
-use Rattle.geo_core.specs.FiniteSets.Lists.{Lists}
-use Rattle.geo_core.specs.Covering.{Covers}
-use Rattle.cell_bodies.specs.LayoutModel.Places.{Place}
+use Rattle.cell_library.proofs.Common.{◌≡◌, ℕ, subst, IfOk, Lists, Covers, Place, LibraryParts, seen, set_of_part, set_of_tiles, IsPartTileIn}
 use Rattle.cell_library.specs.LayoutTrees.{tree_at}
-use Rattle.cell_library.specs.Libraries.{LibraryParts, seen}
-use Rattle.cell_library.specs.PartTiles.{set_of_part, set_of_tiles, IsPartTileIn}
 use Rattle.cell_library.proofs.reader.Reader.visit.Goals as goal
 
 pub returns-clause-tiles : goal.returns-clause-tiles

@@ -1,9 +1,5 @@
-use Rattle.std.proofs.Common.{◌+◌, ◌*◌, ◌≤◌, [], ◌∷◌, ◌++◌, length, subst, sym, ap, ◌∙◌, arith}
-use Rattle.cell_tree.specs.declared.limits.TheConstants.{MOST_ELEMENTS_BELOW}
-use Rattle.cell_tree.specs.Sizes.{size_at}
-use Rattle.cell_tree.specs.Uses.{displacements}
-use Rattle.geo_core.specs.declared.squares.Rect.{Rect}
-use Rattle.cell_library.specs.declared.use_trees.UseStart.{UseStart}
+use Rattle.cell_library.proofs.Common.{◌+◌, ◌*◌, ◌≤◌, [], ◌∷◌, ◌++◌, length, subst, sym, ap, ◌∙◌, arith, MOST_ELEMENTS_BELOW, size_at, displacements}
+use Rattle.cell_library.proofs.Common.{Rect, UseStart}
 use Rattle.cell_library.proofs.UseSums.{use_ends, use_known}
 use Rattle.cell_library.proofs.UseTreeLaws.{first_more}
 use Rattle.cell_library.proofs.use_trees.UseTree.of.Goals as goal

@@ -1,7 +1,4 @@
-use Rattle.std.proofs.Common.{◌+◌, get_or, refl, subst, arith}
-use Rattle.cell_library.specs.declared.spots.UsePlace.{UsePlace}
-use Rattle.cell_library.specs.Spots.{AddsSpots}
-use Rattle.cell_library.specs.steps.UsePlaces.{spots_of_use, IsApart}
+use Rattle.cell_library.proofs.Common.{◌+◌, get_or, refl, subst, arith, UsePlace, AddsSpots, spots_of_use, IsApart}
 use Rattle.cell_library.proofs.UseSearches.{found_below, place_fits, place_found, room_found, search_end, search_next, search_of, start_there}
 use Rattle.cell_library.proofs.UseSums.{use_known}
 use Rattle.cell_library.proofs.use_trees.UseTree.spots_below.Goals as goal

@@ -1,6 +1,4 @@
-use Rattle.std.proofs.Common.{inl, inr}
-use Rattle.mag_text.specs.CellLibrary.Libraries.{seen}
-use Rattle.cell_loading.specs.steps.Walks.{rest_of}
+use Rattle.cell_loading.proofs.Common.{inl, inr, seen, rest_of}
 use Rattle.cell_loading.proofs.LeftLaws.{frames_replaced, known_taken, left_popped, left_taken, nothing_taken, one_popped, one_taken, unknown_taken}
 use Rattle.cell_loading.proofs.walks.Walk.advance.Goals as goal
 

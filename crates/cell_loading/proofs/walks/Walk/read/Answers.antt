@@ -1,17 +1,10 @@
-use Rattle.std.proofs.Common.{◌≡◌, ◌∷◌}
+use Rattle.cell_loading.proofs.Common.{◌≡◌, ◌∷◌, told_after_call, StopsAsking, CellBody, seen, cell_files, names_left, Err}
 use Rattle.finite_sets.proofs.Searches.{on_ok_both}
 use Rattle.std.proofs.lemmas.Result.{on_ok_weaker}
-use Rattle.outside_io.specs.CallPlans.{told_after_call}
-use Rattle.session_model.specs.FileTrees.{StopsAsking}
 use Rattle.session_model.proofs.StopLaws.{refusal_weaker, refused_asking}
-use Rattle.mag_text.specs.CellBodies.declared.bodies.CellBody.{CellBody}
-use Rattle.mag_text.specs.CellLibrary.Libraries.{seen}
 use Rattle.cell_loading.specs.CellFiles.{file_gives}
-use Rattle.cell_loading.specs.Readings.{cell_files}
-use Rattle.cell_loading.specs.steps.Walks.{names_left}
 use Rattle.cell_loading.proofs.ReadingLaws.{stops_here}
 use Rattle.cell_loading.proofs.WalkLaws.{asked_for_cell, read_few, read_frames, read_goes_on, read_pushed, read_so_far}
-use Rattle.std.specs.Prelude.{Err}
 use Rattle.cell_loading.proofs.walks.Walk.read.Goals as goal
 
 pub returns-in-Err-clause-stops : goal.returns-in-Err-clause-stops

@@ -1,8 +1,4 @@
-use Rattle.std.proofs.Common.{List, ℕ, ◌∙◌, ap, sym, subst}
-use Rattle.session_model.specs.Effects.{after_fetches}
-use Rattle.mag_text.specs.CellBodies.declared.bodies.CellBody.{CellBody}
-use Rattle.mag_text.specs.CellLibrary.Libraries.{seen}
-use Rattle.cell_loading.specs.steps.Walks.{files_read, names_left, AreSoFar, GoesOnToBodies}
+use Rattle.cell_loading.proofs.Common.{List, ℕ, ◌∙◌, ap, sym, subst, after_fetches, CellBody, seen, files_read, names_left, AreSoFar, GoesOnToBodies}
 use Rattle.cell_loading.proofs.LeftLaws.{none_taken}
 use Rattle.cell_loading.proofs.WalkLaws.{stepped_goes_on, stepped_so_far}
 use Rattle.cell_loading.proofs.walks.Walk.step.Goals as goal

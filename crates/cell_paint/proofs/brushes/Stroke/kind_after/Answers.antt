@@ -1,8 +1,5 @@
-use Rattle.std.proofs.Common.{◌≡◌, ◌∙◌, ◌≤◌, List, sym, subst}
-use Rattle.tech_model.specs.declared.limits.TheConstants.{MOST_TYPES}
-use Rattle.tech_model.specs.declared.raw.TypeId.{TypeId}
-use Rattle.tech_model.specs.Columns.{type_on, brushed_column}
-use Rattle.tech_model.proofs.WholeLaws.{brushed_column-whole}
+use Rattle.cell_paint.proofs.Common.{◌≡◌, ◌∙◌, ◌≤◌, List, sym, subst, MOST_TYPES, TypeId, type_on, brushed_column-whole}
+use Rattle.tech_model.specs.Columns.{brushed_column}
 use Rattle.cell_paint.proofs.ColumnsLaws.{column_small}
 use Rattle.cell_paint.proofs.brushes.Stroke.kind_after.Goals as goal
 

@@ -1,5 +1,4 @@
-use Rattle.std.proofs.Common.{subst}
-use Rattle.cell_paint.specs.Paints.{Paint, layout_of, KeepsTypes}
+use Rattle.cell_paint.proofs.Common.{subst, Paint, layout_of, KeepsTypes}
 use Rattle.cell_paint.proofs.paints.CellPaint.change.Goals as goal
 
 pub returns-in_err-check_areas-clause-sound : goal.returns-in_err-check_areas-clause-sound

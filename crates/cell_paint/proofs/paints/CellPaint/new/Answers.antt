@@ -1,7 +1,4 @@
-use Rattle.std.proofs.Common.{List, length, sym, ◌∙◌, ap, subst}
-use Rattle.tech_model.specs.declared.raw.TypeRec.{TypeRec}
-use Rattle.tech_model.specs.declared.raw.RawTech.{RawTech}
-use Rattle.cell_paint.specs.Paints.{AreCellPlanes}
+use Rattle.cell_paint.proofs.Common.{List, length, sym, ◌∙◌, ap, subst, TypeRec, RawTech, AreCellPlanes}
 use Rattle.cell_paint.proofs.PaintLaws.{whole_empty}
 use Rattle.cell_paint.proofs.paints.CellPaint.new.Goals as goal
 

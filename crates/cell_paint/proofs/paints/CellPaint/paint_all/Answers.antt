@@ -1,6 +1,5 @@
-use Rattle.std.proofs.Common.{◌∙◌, sym}
+use Rattle.cell_paint.proofs.Common.{◌∙◌, sym, layout_of}
 use Rattle.std.proofs.lemmas.Result.{on_ok_weaker}
-use Rattle.cell_paint.specs.Paints.{layout_of}
 use Rattle.cell_paint.proofs.PaintLaws.{painted_in_order}
 use Rattle.cell_paint.proofs.paints.CellPaint.paint_all.Goals as goal
 

@@ -1,6 +1,5 @@
-use Rattle.std.proofs.Common.{◌≡◌, ◌∙◌, List, length, sym, ap, subst}
-use Rattle.cell_paint.specs.Paints.{Paint, PlaneValue, layout_of, layout_on, IsSoundPaint, AreCellPlanes}
-use Rattle.cell_paint.specs.Pieces.{with_pieces}
+use Rattle.cell_paint.proofs.Common.{◌≡◌, ◌∙◌, List, length, sym, ap, subst, Paint, PlaneValue, layout_of, layout_on, IsSoundPaint, AreCellPlanes}
+use Rattle.cell_paint.proofs.Common.{with_pieces}
 use Rattle.cell_paint.proofs.PaintLaws.{whole_same}
 use Rattle.cell_paint.proofs.PieceLaws.{put_whole}
 use Rattle.cell_paint.proofs.PlaneLaws.{written_back}

@@ -1,8 +1,6 @@
-use Rattle.std.proofs.Common.{◌<◌, ℕ, length, ap, subst, arith}
-use Rattle.geo_core.specs.declared.squares.Square.{Square}
+use Rattle.cell_paint.proofs.Common.{◌<◌, ℕ, length, ap, subst, arith, Square, Paint}
 use Rattle.geo_core.specs.Planes.{HasValue}
 use Rattle.geo_core.specs.Strips.{IsStrips}
-use Rattle.cell_paint.specs.Paints.{Paint}
 use Rattle.cell_paint.proofs.PaintTiles.{plane_seen}
 use Rattle.cell_paint.proofs.paints.CellPaint.strips.Goals as goal
 

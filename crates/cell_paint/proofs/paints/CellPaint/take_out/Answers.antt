@@ -1,6 +1,4 @@
-use Rattle.std.proofs.Common.{◌≡◌, ◌∙◌, List, length, ap, subst}
-use Rattle.cell_paint.specs.Paints.{Paint, PlaneValue, layout_on}
-use Rattle.cell_paint.specs.Pieces.{CanStandIn}
+use Rattle.cell_paint.proofs.Common.{◌≡◌, ◌∙◌, List, length, ap, subst, Paint, PlaneValue, layout_on, CanStandIn}
 use Rattle.cell_paint.proofs.PieceLaws.{taken_can_stand}
 use Rattle.cell_paint.proofs.PlaneLaws.{space_past}
 use Rattle.cell_paint.proofs.paints.CellPaint.take_out.Goals as goal

@@ -1,7 +1,4 @@
-use Rattle.std.proofs.Common.{◌<◌, ℕ, length, ap, subst, arith}
-use Rattle.geo_core.specs.declared.squares.Square.{Square}
-use Rattle.geo_core.specs.Planes.{AreTilesIn}
-use Rattle.cell_paint.specs.Paints.{Paint}
+use Rattle.cell_paint.proofs.Common.{◌<◌, ℕ, length, ap, subst, arith, Square, AreTilesIn, Paint}
 use Rattle.cell_paint.proofs.PaintTiles.{plane_seen}
 use Rattle.cell_paint.proofs.paints.CellPaint.tiles_in.Goals as goal
 

@@ -1,11 +1,6 @@
-use Rattle.std.proofs.Common.{◌≡◌, ◌≤◌, ℕ, List, length, map, sym, ◌∙◌, ap, subst, rules}
-use Rattle.geo_core.specs.declared.squares.Square.{Square}
-use Rattle.geo_core.specs.declared.squares.Rect.{Rect}
-use Rattle.geo_core.specs.declared.squares.Piece.{Piece}
-use Rattle.geo_core.specs.Planes.{AreTilesIn}
-use Rattle.tech_model.specs.declared.raw.TypeId.{TypeId}
+use Rattle.cell_paint.proofs.Common.{◌≡◌, ◌≤◌, ℕ, List, length, map, sym, ◌∙◌, ap, subst, rules, Square, Rect, Piece, AreTilesIn, TypeId, Paint}
+use Rattle.cell_paint.proofs.Common.{PlaneValue, seen_kind}
 use Rattle.tech_model.specs.LayerTiles.{AreTilesOf}
-use Rattle.cell_paint.specs.Paints.{Paint, PlaneValue, seen_kind}
 use Rattle.cell_paint.proofs.PaintTiles.{plane_seen, with_type, typed_tiles, no_tiles}
 use Rattle.cell_paint.proofs.paints.CellPaintLayers.tiles.Goals as goal
 

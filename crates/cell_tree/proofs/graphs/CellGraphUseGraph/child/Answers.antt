@@ -1,5 +1,4 @@
-use Rattle.std.proofs.Common.{slice_index, sym, ap, ◌∙◌, arith, get_or, List, ℕ}
-use Rattle.cell_tree.specs.Cells.{states}
+use Rattle.cell_tree.proofs.Common.{slice_index, sym, ap, ◌∙◌, arith, get_or, List, ℕ, states}
 use Rattle.cell_tree.proofs.FindLaws.{length-states}
 use Rattle.cell_tree.proofs.GraphLaws.{length-children_of, used_by-read, cell_count-graph, child-read}
 use Rattle.cell_tree.proofs.graphs.CellGraphUseGraph.child.Goals as goal

@@ -1,5 +1,4 @@
-use Rattle.std.proofs.Common.{◌∙◌, arith}
-use Rattle.cell_tree.specs.Cells.{states}
+use Rattle.cell_tree.proofs.Common.{◌∙◌, arith, states}
 use Rattle.cell_tree.proofs.FindLaws.{length-states}
 use Rattle.cell_tree.proofs.GraphLaws.{length-children_of, cell_count-graph}
 use Rattle.cell_tree.proofs.graphs.CellGraphUseGraph.use_count.Goals as goal

@@ -1,9 +1,6 @@
-use Rattle.std.proofs.Common.{List, length, take, replicate, ◌-◌, ap, ◌∙◌, arith}
-use Rattle.cell_tree.specs.declared.sizes.Size.{Size}
+use Rattle.cell_tree.proofs.Common.{List, length, take, replicate, ◌-◌, ap, ◌∙◌, arith, Size, with_items_is, length-append}
 use Rattle.cell_tree.proofs.ArrivalLaws.{start_again}
-use Rattle.std.proofs.lemmas.List.{with_items_is}
 use Rattle.cell_tree.proofs.TableLaws.{on_err_from}
-use Rattle.std.proofs.lemmas.List.{length-append}
 use Rattle.cell_tree.proofs.BookLaws.{filled_old, taken_back}
 use Rattle.cell_tree.proofs.size_books.SizeBook.extend.Goals as goal
 

@@ -1,6 +1,4 @@
-use Rattle.std.proofs.Common.{◌≡◌, false, List, Bool, length, slice_index_or, arith, ap, sym, subst}
-use Rattle.cell_tree.specs.declared.sizes.Size.{Size}
-use Rattle.cell_tree.specs.Above.{IsRanked}
+use Rattle.cell_tree.proofs.Common.{◌≡◌, false, List, Bool, length, slice_index_or, arith, ap, sym, subst, Size, IsRanked}
 use Rattle.cell_tree.proofs.FindLaws.{lawful_ranked, found_lists, unseen-most}
 use Rattle.cell_tree.proofs.size_books.SizeBook.find.Goals as goal
 

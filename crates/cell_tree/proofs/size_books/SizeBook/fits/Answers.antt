@@ -1,7 +1,4 @@
-use Rattle.std.proofs.Common.{◌≡◌, List, length, ap, sym, subst, ◌∙◌}
-use Rattle.cell_tree.specs.declared.sizes.Size.{Size}
-use Rattle.cell_tree.specs.Cells.{states}
-use Rattle.cell_tree.specs.Trials.{IsTried}
+use Rattle.cell_tree.proofs.Common.{◌≡◌, List, length, ap, sym, subst, ◌∙◌, Size, states, IsTried}
 use Rattle.cell_tree.proofs.TableLaws.{on_ok_both}
 use Rattle.cell_tree.proofs.FindLaws.{length-states}
 use Rattle.cell_tree.proofs.size_books.SizeBook.fits.Goals as goal

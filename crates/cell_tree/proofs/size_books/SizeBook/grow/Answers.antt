@@ -1,10 +1,4 @@
-use Rattle.std.proofs.Common.{◌≡◌, List, length, ap, sym, subst, ◌∙◌, suc}
-use Rattle.std.proofs.lemmas.Result.{IfOk-at_ok}
-use Rattle.std.proofs.lemmas.List.{with_items_is}
-use Rattle.cell_tree.specs.declared.sizes.Size.{Size}
-use Rattle.cell_tree.specs.Cells.{states}
-use Rattle.cell_tree.specs.Trials.{IsTried}
-use Rattle.cell_tree.specs.Trees.{stamp_at}
+use Rattle.cell_tree.proofs.Common.{◌≡◌, List, length, ap, sym, subst, ◌∙◌, suc, IfOk-at_ok, with_items_is, Size, states, IsTried, stamp_at}
 use Rattle.cell_tree.proofs.TableLaws.{on_ok_from}
 use Rattle.cell_tree.proofs.size_books.SizeBook.grow.Goals as goal
 

@@ -1,6 +1,4 @@
-use Rattle.std.proofs.Common.{List, sym, ap, subst, ◌∙◌, arith}
-use Rattle.cell_tree.specs.declared.cells.TreeCell.{TreeCell}
-use Rattle.cell_tree.specs.Whole.{IsWhole, tree_of}
+use Rattle.cell_tree.proofs.Common.{List, sym, ap, subst, ◌∙◌, arith, TreeCell, IsWhole, tree_of}
 use Rattle.cell_tree.proofs.ComeLaws.{gone_same, gone_whole}
 use Rattle.cell_tree.proofs.trees.CellTree.add_all.Goals as goal
 

@@ -1,9 +1,4 @@
-use Rattle.std.proofs.Common.{◌++◌, ◌∷◌, [], refl, ap, sym, subst, ◌∙◌, arith, ℕ, List, None}
-use Rattle.cell_tree.specs.declared.use_tables.UseBody.{UseBody}
-use Rattle.std.proofs.lemmas.Bool.{cond-true}
-use Rattle.cell_tree.specs.declared.cells.TreeCell.{TreeCell}
-use Rattle.cell_tree.specs.Books.{IsReady}
-use Rattle.cell_tree.specs.Whole.{IsWhole}
+use Rattle.cell_tree.proofs.Common.{◌++◌, ◌∷◌, [], refl, ap, sym, subst, ◌∙◌, arith, ℕ, List, None, UseBody, cond-true, TreeCell, IsReady, IsWhole}
 use Rattle.cell_tree.proofs.StateLaws.{whole_same}
 use Rattle.cell_tree.proofs.AddLaws.{added_whole}
 use Rattle.cell_tree.proofs.trees.CellTree.add_cell.Goals as goal

@@ -1,8 +1,4 @@
-use Rattle.std.proofs.Common.{sym, subst, List}
-use Rattle.use_orders.specs.Uses.{AreCells, IsAcyclicBelow}
-use Rattle.cell_tree.specs.declared.cells.TreeCell.{TreeCell}
-use Rattle.cell_tree.specs.Cells.{states}
-use Rattle.cell_tree.specs.Additions.{children_of}
+use Rattle.cell_tree.proofs.Common.{sym, subst, List, AreCells, IsAcyclicBelow, TreeCell, states, children_of}
 use Rattle.cell_tree.proofs.GraphLaws.{lawful_children, lawful_acyclic}
 use Rattle.cell_tree.proofs.trees.CellTree.below.Goals as goal
 

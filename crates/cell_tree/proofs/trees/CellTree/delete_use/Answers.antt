@@ -1,10 +1,5 @@
-use Rattle.std.proofs.Common.{◌≡◌, ℕ, ◌<◌, sym, ap, subst, ◌∙◌, arith, length, List, Some, slice_get}
-use Rattle.std.proofs.lemmas.List.{with_items_is}
-use Rattle.cell_tree.specs.declared.cells.TreeCell.{TreeCell}
-use Rattle.cell_tree.specs.Sizes.{CellState}
-use Rattle.cell_tree.specs.Cells.{states}
-use Rattle.cell_tree.specs.Above.{IsUserOf}
-use Rattle.cell_tree.specs.Trees.{cell_at, without_use}
+use Rattle.cell_tree.proofs.Common.{◌≡◌, ℕ, ◌<◌, sym, ap, subst, ◌∙◌, arith, length, List, Some, slice_get, with_items_is, TreeCell, CellState}
+use Rattle.cell_tree.proofs.Common.{states, IsUserOf, cell_at, without_use}
 use Rattle.cell_tree.proofs.HullLaws.{inside_refl}
 use Rattle.cell_tree.proofs.ShrinkLaws.{among_removed}
 use Rattle.cell_tree.proofs.WholeLaws.{is_inside}

@@ -1,11 +1,5 @@
-use Rattle.std.proofs.Common.{◌<◌, length, ap, sym, subst, ◌∙◌, arith, ℕ, List}
+use Rattle.cell_tree.proofs.Common.{◌<◌, length, ap, sym, subst, ◌∙◌, arith, ℕ, List, TreeCell, UseBody, HasIdAt, CellState, states, Tree, cell_at}
 use Rattle.std.specs.Prelude.{IfNone}
-use Rattle.cell_tree.specs.declared.cells.TreeCell.{TreeCell}
-use Rattle.cell_tree.specs.declared.use_tables.UseBody.{UseBody}
-use Rattle.cell_tree.specs.Uses.{HasIdAt}
-use Rattle.cell_tree.specs.Sizes.{CellState}
-use Rattle.cell_tree.specs.Cells.{states}
-use Rattle.cell_tree.specs.Trees.{Tree, cell_at}
 use Rattle.cell_tree.proofs.CellLaws.{cell_at-states}
 use Rattle.cell_tree.proofs.FindLaws.{length-states}
 use Rattle.cell_tree.proofs.trees.CellTree.find_use.Goals as goal

@@ -1,10 +1,7 @@
-use Rattle.std.proofs.Common.{subst}
-use Rattle.cell_tree.specs.declared.faults.TreeFault.TheVariants.{Passed}
-use Rattle.cell_tree.specs.Sizes.{CellState}
-use Rattle.cell_tree.specs.Trees.{Tree, cell_at, with_own, RefusesBox, WouldKeepWithin}
+use Rattle.cell_tree.proofs.Common.{subst, Passed, CellState, Tree, cell_at, with_own, RefusesBox, WouldKeepWithin, IfOk-at_ok}
 use Rattle.cell_tree.proofs.WholeLaws.{is_inside, would_keep}
 use Rattle.cell_tree.proofs.TreeLaws.{own_lawful, own_refused, run_refused, run_fits}
-use Rattle.std.proofs.lemmas.Result.{IfOk-at_ok, IfErr-at_err}
+use Rattle.std.proofs.lemmas.Result.{IfErr-at_err}
 use Rattle.cell_tree.proofs.TableLaws.{on_ok_from, if_err_from, if_ok_none, if_err_none}
 use Rattle.cell_tree.proofs.trees.CellTree.fits_box.Goals as goal
 use Rattle.cell_tree.proofs.trees.CellTree.fits_box.Goals.{in-Ok, in-Err}

@@ -1,15 +1,6 @@
-use Rattle.std.proofs.Common.{◌<◌, ◌≤◌, length, refl, sym, subst, ◌∙◌, ℕ, List}
-use Rattle.std.specs.Vec.{with_items}
-use Rattle.std.proofs.lemmas.List.{with_items_is}
-use Rattle.cell_tree.specs.declared.cells.TreeCell.{TreeCell}
-use Rattle.cell_tree.specs.declared.faults.TreeFault.TheVariants.{Passed}
-use Rattle.cell_tree.specs.declared.sizes.Size.{Size}
-use Rattle.cell_tree.specs.Uses.{HasIdAt}
-use Rattle.cell_tree.specs.Sizes.{CellState}
-use Rattle.cell_tree.specs.Cells.{states}
-use Rattle.cell_tree.specs.Trees.{Tree, cell_at, with_inserted, IsEdited, RefusesInsertion}
-use Rattle.cell_tree.specs.Books.{IsReady, AreLawful}
-use Rattle.cell_tree.specs.Whole.{tree_of}
+use Rattle.cell_tree.proofs.Common.{◌<◌, ◌≤◌, length, refl, sym, subst, ◌∙◌, ℕ, List, with_items, with_items_is, TreeCell, Passed, Size, HasIdAt}
+use Rattle.cell_tree.proofs.Common.{CellState, states, Tree, cell_at, with_inserted, IsEdited, IsReady, AreLawful, tree_of}
+use Rattle.cell_tree.specs.Trees.{RefusesInsertion}
 use Rattle.cell_tree.proofs.WholeLaws.{is_inside, whole_lawful, would_pass}
 use Rattle.cell_tree.proofs.TreeLaws.{run_refused, run_changed, run_edited}
 use Rattle.cell_tree.proofs.StateLaws.{IsReserved, MayInsert, reserved, whole_same, inserted_lawful, child_inserted}

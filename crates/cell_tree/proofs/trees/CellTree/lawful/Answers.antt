@@ -1,5 +1,4 @@
-use Rattle.std.proofs.Common.{subst}
-use Rattle.cell_tree.specs.Trees.{IsLawfulTree}
+use Rattle.cell_tree.proofs.Common.{subst, IsLawfulTree}
 use Rattle.cell_tree.proofs.trees.CellTree.lawful.Goals as goal
 
 pub returns : goal.returns

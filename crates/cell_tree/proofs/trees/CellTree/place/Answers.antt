@@ -1,7 +1,4 @@
-use Rattle.std.proofs.Common.{◌<◌, length, ap, sym, subst, ◌∙◌, arith, ℕ}
-use Rattle.std.proofs.lemmas.Bool.{both_ways}
-use Rattle.cell_tree.specs.Uses.{HasIdAt}
-use Rattle.cell_tree.specs.Trees.{Tree, cell_at}
+use Rattle.cell_tree.proofs.Common.{◌<◌, length, ap, sym, subst, ◌∙◌, arith, ℕ, both_ways, HasIdAt, Tree, cell_at}
 use Rattle.cell_tree.proofs.WholeLaws.{cell_is}
 use Rattle.cell_tree.proofs.trees.CellTree.place.Goals as goal
 

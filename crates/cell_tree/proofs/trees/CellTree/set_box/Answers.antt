@@ -1,8 +1,4 @@
-use Rattle.std.proofs.Common.{subst, ◌∙◌}
-use Rattle.std.proofs.lemmas.List.{with_items_is}
-use Rattle.cell_tree.specs.declared.faults.TreeFault.TheVariants.{Passed}
-use Rattle.cell_tree.specs.Sizes.{CellState}
-use Rattle.cell_tree.specs.Trees.{Tree, with_own, RefusesBox}
+use Rattle.cell_tree.proofs.Common.{subst, ◌∙◌, with_items_is, Passed, CellState, Tree, with_own, RefusesBox}
 use Rattle.cell_tree.proofs.WholeLaws.{is_inside}
 use Rattle.cell_tree.proofs.TreeLaws.{own_lawful, own_refused, run_refused, run_kept}
 use Rattle.cell_tree.proofs.trees.CellTree.set_box.Goals as goal

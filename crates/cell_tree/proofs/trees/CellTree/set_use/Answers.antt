@@ -1,14 +1,5 @@
-use Rattle.std.proofs.Common.{◌<◌, length, ap, subst, ◌∙◌, arith}
-use Rattle.std.specs.Vec.{with_items}
-use Rattle.std.proofs.lemmas.List.{with_items_is}
-use Rattle.std.proofs.lemmas.Option.{same_Some}
-use Rattle.cell_tree.specs.declared.faults.TreeFault.TheVariants.{Passed}
-use Rattle.cell_tree.specs.declared.use_tables.UseBody.{UseBody}
-use Rattle.cell_tree.specs.Uses.{IsLawfulUse}
-use Rattle.cell_tree.specs.Sizes.{CellState}
-use Rattle.cell_tree.specs.Cells.{states}
-use Rattle.cell_tree.specs.Trees.{Tree, cell_at, with_use_set, with_moved, IsEdited, RefusesMove}
-use Rattle.cell_tree.specs.Whole.{tree_of}
+use Rattle.cell_tree.proofs.Common.{◌<◌, length, ap, subst, ◌∙◌, arith, with_items, with_items_is, same_Some, Passed, UseBody, IsLawfulUse}
+use Rattle.cell_tree.proofs.Common.{CellState, states, Tree, cell_at, with_use_set, with_moved, IsEdited, RefusesMove, tree_of}
 use Rattle.cell_tree.proofs.WholeLaws.{is_inside}
 use Rattle.cell_tree.proofs.TreeLaws.{run_refused, run_kept, run_edited}
 use Rattle.cell_tree.proofs.StateLaws.{IsMove, moved_lawful, moved_child, moved_children, moved_is, moved_refused, move_of}

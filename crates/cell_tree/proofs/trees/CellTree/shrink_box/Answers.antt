@@ -1,9 +1,4 @@
-use Rattle.std.proofs.Common.{sym, subst, ◌∙◌}
-use Rattle.std.proofs.lemmas.List.{with_items_is}
-use Rattle.cell_tree.specs.Hulls.{IsInside}
-use Rattle.cell_tree.specs.Sizes.{CellState}
-use Rattle.cell_tree.specs.Cells.{states}
-use Rattle.cell_tree.specs.Trees.{Tree, cell_at, with_own}
+use Rattle.cell_tree.proofs.Common.{sym, subst, ◌∙◌, with_items_is, IsInside, CellState, states, Tree, cell_at, with_own}
 use Rattle.cell_tree.proofs.ShrinkLaws.{among_all}
 use Rattle.cell_tree.proofs.WholeLaws.{is_inside}
 use Rattle.cell_tree.proofs.TreeLaws.{own_lawful, shrunk_passes, upright_of, run_refused, run_kept}

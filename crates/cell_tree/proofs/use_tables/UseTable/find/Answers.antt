@@ -1,5 +1,4 @@
-use Rattle.std.proofs.Common.{sym, subst}
-use Rattle.cell_tree.specs.Uses.{UseList, HasIdAt}
+use Rattle.cell_tree.proofs.Common.{sym, subst, UseList, HasIdAt}
 use Rattle.cell_tree.proofs.TableLaws.{lookup_none, lookup_found}
 use Rattle.cell_tree.proofs.use_tables.UseTable.find.Goals as goal
 

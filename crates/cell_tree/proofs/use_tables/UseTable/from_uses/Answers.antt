@@ -1,6 +1,4 @@
-use Rattle.std.proofs.Common.{ℕ, List, ◌++◌, map, sym, ap, subst, ◌∙◌, Vec, Global}
-use Rattle.cell_tree.specs.declared.use_tables.UseBody.{UseBody}
-use Rattle.cell_tree.specs.Arrivals.{HaveOwnIds}
+use Rattle.cell_tree.proofs.Common.{ℕ, List, ◌++◌, map, sym, ap, subst, ◌∙◌, Vec, Global, UseBody, HaveOwnIds}
 use Rattle.cell_tree.proofs.PushLaws.{id_is_new}
 use Rattle.cell_tree.proofs.use_tables.UseTable.from_uses.Goals as goal
 

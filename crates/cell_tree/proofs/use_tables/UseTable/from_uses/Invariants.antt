@@ -1,4 +1,4 @@
-use Rattle.std.proofs.Common.{◌≡◌, ◌++◌, map}
+use Rattle.cell_tree.proofs.Common.{◌≡◌, ◌++◌, map}
 use Rattle.cell_tree.proofs.use_tables.UseTable.from_uses.Given as goal
 
 abbrev pub invariant-loop-id : goal.invariant-loop-id

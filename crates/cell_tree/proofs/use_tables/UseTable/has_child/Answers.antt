@@ -1,8 +1,5 @@
-use Rattle.std.proofs.Common.{◌≡◌, ℕ, List, inl, inr, arith, ap, sym, ◌∙◌}
+use Rattle.cell_tree.proofs.Common.{◌≡◌, ℕ, List, inl, inr, arith, ap, sym, ◌∙◌, cases_eq, same_Some, slice_get_within, UseBody}
 use Rattle.std.specs.Prelude.{slice_get}
-use Rattle.std.proofs.lemmas.Bool.{cases_eq}
-use Rattle.std.proofs.lemmas.Option.{same_Some, slice_get_within}
-use Rattle.cell_tree.specs.declared.use_tables.UseBody.{UseBody}
 use Rattle.cell_tree.proofs.SizeLaws.{body_at}
 use Rattle.cell_tree.proofs.use_tables.UseTable.has_child.Goals as goal
 

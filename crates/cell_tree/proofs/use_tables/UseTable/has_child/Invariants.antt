@@ -1,6 +1,5 @@
-use Rattle.std.proofs.Common.{◌≡◌, ℕ, ◌<◌, List}
+use Rattle.cell_tree.proofs.Common.{◌≡◌, ℕ, ◌<◌, List, UseBody}
 use Rattle.std.specs.Prelude.{slice_get, Some}
-use Rattle.cell_tree.specs.declared.use_tables.UseBody.{UseBody}
 use Rattle.cell_tree.proofs.use_tables.UseTable.has_child.Given as goal
 
 abbrev pub invariant-loop-k : goal.invariant-loop-k

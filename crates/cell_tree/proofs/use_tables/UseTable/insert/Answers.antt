@@ -1,8 +1,5 @@
-use Rattle.std.proofs.Common.{◌<◌, ◌≤◌, length, ap, sym, subst, ◌∙◌, List, ℕ, Vec, Global, arith}
-use Rattle.std.specs.Prelude.{insert}
-use Rattle.std.proofs.lemmas.List.{length-map}
-use Rattle.cell_tree.specs.declared.use_tables.UseBody.{UseBody}
-use Rattle.cell_tree.specs.Uses.{UseList, HasIdAt}
+use Rattle.cell_tree.proofs.Common.{◌<◌, ◌≤◌, length, ap, sym, subst, ◌∙◌, List, ℕ, Vec, Global, arith, insert, length-map, UseBody, UseList}
+use Rattle.cell_tree.proofs.Common.{HasIdAt}
 use Rattle.cell_tree.proofs.TableLaws.{value_of, lookup_absent, map-inserted, some_or_none}
 use Rattle.cell_tree.proofs.use_tables.UseTable.insert.Goals as goal
 

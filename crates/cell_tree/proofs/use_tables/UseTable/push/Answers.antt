@@ -1,5 +1,4 @@
-use Rattle.std.proofs.Common.{ap, ◌∙◌}
-use Rattle.std.specs.Prelude.{insert}
+use Rattle.cell_tree.proofs.Common.{ap, ◌∙◌, insert}
 use Rattle.std.proofs.lemmas.List.Edits.{insert_end}
 use Rattle.cell_tree.proofs.use_tables.UseTable.push.Goals as goal
 

@@ -1,7 +1,4 @@
-use Rattle.std.proofs.Common.{ap, ◌∙◌, map, ℕ, Vec, Global}
-use Rattle.std.specs.Prelude.{remove}
-use Rattle.cell_tree.specs.declared.use_tables.UseBody.{UseBody}
-use Rattle.cell_tree.specs.Uses.{UseList}
+use Rattle.cell_tree.proofs.Common.{ap, ◌∙◌, map, ℕ, Vec, Global, remove, UseBody, UseList}
 use Rattle.cell_tree.proofs.TableLaws.{map-remove}
 use Rattle.cell_tree.proofs.use_tables.UseTable.remove.Goals as goal
 

@@ -1,9 +1,6 @@
-use Rattle.std.proofs.Common.{◌<◌, length, ap, sym, subst, ◌∙◌, map, List, ℕ, Vec, Global, arith}
+use Rattle.cell_tree.proofs.Common.{◌<◌, length, ap, sym, subst, ◌∙◌, map, List, ℕ, Vec, Global, arith, length-map, UseBody, UseList, with_use_at}
 use Rattle.std.proofs.lemmas.Bool.{false≢true}
-use Rattle.std.proofs.lemmas.List.{length-map}
-use Rattle.cell_tree.specs.declared.use_tables.UseBody.{UseBody}
 use Rattle.cell_tree.specs.declared.use_tables.UseTable.TheInside.{Inside}
-use Rattle.cell_tree.specs.Uses.{UseList, with_use_at}
 use Rattle.cell_tree.proofs.TableLaws.{map-set_value}
 use Rattle.cell_tree.proofs.use_tables.UseTable.set.Goals as goal
 use Rattle.cell_tree.proofs.use_tables.UseTable.set.Goals.{in-Some, in_default}

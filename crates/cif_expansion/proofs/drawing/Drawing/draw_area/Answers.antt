@@ -1,4 +1,4 @@
-use Rattle.std.proofs.Common.{◌∙◌}
+use Rattle.cif_expansion.proofs.Common.{◌∙◌}
 use Rattle.cif_expansion.proofs.AddedLaws.{replaced_longer}
 use Rattle.cif_expansion.proofs.drawing.Drawing.draw_area.Goals as goal
 

@@ -1,6 +1,4 @@
-use Rattle.std.proofs.Common.{◌++◌, ◌∙◌, map, ap}
-use Rattle.geo_core.specs.declared.transforms.Transform.{Transform}
-use Rattle.geo_core.specs.Images.{composed}
+use Rattle.cif_expansion.proofs.Common.{◌++◌, ◌∙◌, map, ap, Transform, composed}
 use Rattle.cif_expansion.proofs.AddedLaws.{replaced_longer}
 use Rattle.cif_expansion.proofs.drawing.Drawing.draw_call.Goals as goal
 

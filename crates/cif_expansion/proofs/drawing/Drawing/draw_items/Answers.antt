@@ -1,6 +1,4 @@
-use Rattle.std.proofs.Common.{[], ◌∷◌}
-use Rattle.std.proofs.lemmas.Result.{err_from_is_err_and}
-use Rattle.cif_expansion.specs.steps.Drawings.{LeavesRange}
+use Rattle.cif_expansion.proofs.Common.{[], ◌∷◌, err_from_is_err_and, LeavesRange}
 use Rattle.cif_expansion.proofs.DrawnLaws.{drawn_next, outside_there, range_fault_weaker}
 use Rattle.cif_expansion.proofs.drawing.Drawing.draw_items.Goals as goal
 

@@ -1,5 +1,4 @@
-use Rattle.std.proofs.Common.{take}
-use Rattle.cif_expansion.specs.steps.Drawings.{IsDrawn}
+use Rattle.cif_expansion.proofs.Common.{take, IsDrawn}
 use Rattle.cif_expansion.proofs.drawing.Drawing.draw_items.Given as goal
 
 abbrev pub invariant-loop-item : goal.invariant-loop-item

@@ -1,8 +1,5 @@
 -- The rectangle that is made is the image.
-use Rattle.std.proofs.Common.{◌∙◌, arith, rules}
-use Rattle.std.proofs.lemmas.Int.{ints, to_z-of_z}
-use Rattle.std.specs.Int.{w128}
-use Rattle.std.specs.Int.RustNames.{FitsSigned}
+use Rattle.cif_expansion.proofs.Common.{◌∙◌, arith, rules, ints, to_z-of_z, w128, FitsSigned}
 use Rattle.cif_expansion.proofs.ViewLaws.{rect_seen}
 use Rattle.cif_expansion.proofs.placements.Placement.image.Goals as goal
 

@@ -1,9 +1,5 @@
 -- Each step moves by less than 2^53, and there are fewer than 2^64.
-use Rattle.std.proofs.Common.{◌+◌, ◌*◌, ◌^◌, sym, ◌∙◌, ap, subst, arith}
-use Rattle.std.proofs.lemmas.List.{take_all}
-use Rattle.geo_core.specs.Images.{composed}
-use Rattle.cif_model.specs.Meanings.{moved}
-use Rattle.cif_expansion.specs.Reach.{MovesWithin, call_reach, chain_reach}
+use Rattle.cif_expansion.proofs.Common.{◌+◌, ◌*◌, ◌^◌, sym, ◌∙◌, ap, subst, arith, take_all, composed, moved, MovesWithin, call_reach, chain_reach}
 use Rattle.cif_expansion.proofs.ReachLaws.{composed-within, identity-within, within_weaker}
 use Rattle.cif_expansion.proofs.StepLaws.{moved_more}
 use Rattle.cif_expansion.proofs.placements.Placement.of_steps.Goals as goal

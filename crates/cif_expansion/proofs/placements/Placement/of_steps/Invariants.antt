@@ -1,6 +1,4 @@
-use Rattle.std.proofs.Common.{◌≡◌, ◌*◌, ◌^◌, take}
-use Rattle.cif_model.specs.Meanings.{moved}
-use Rattle.cif_expansion.specs.Reach.{MovesWithin}
+use Rattle.cif_expansion.proofs.Common.{◌≡◌, ◌*◌, ◌^◌, take, moved, MovesWithin}
 use Rattle.cif_expansion.proofs.placements.Placement.of_steps.Given as goal
 
 abbrev pub invariant-loop-step : goal.invariant-loop-step

@@ -1,8 +1,6 @@
 -- Each orientation's arm computes what its matrix says.
-use Rattle.std.proofs.Common.{arith}
-use Rattle.std.proofs.lemmas.Int.{ints}
+use Rattle.cif_expansion.proofs.Common.{arith, ints, chain_reach}
 use Rattle.geo_core.specs.declared.orients.Orient.TheVariants.{R0, R90, R180, R270, Mx, My, Mx90, My90}
-use Rattle.cif_expansion.specs.Reach.{chain_reach}
 use Rattle.cif_expansion.proofs.ViewLaws.{dx_seen, dy_seen, point_seen}
 use Rattle.cif_expansion.proofs.placements.Placement.point.Goals as goal
 

@@ -1,8 +1,5 @@
 -- The transform that is made is the composed one.
-use Rattle.std.proofs.Common.{◌∙◌, arith, rules}
-use Rattle.std.proofs.lemmas.Int.{ints, to_z-of_z}
-use Rattle.std.specs.Int.{w128}
-use Rattle.std.specs.Int.RustNames.{FitsSigned}
+use Rattle.cif_expansion.proofs.Common.{◌∙◌, arith, rules, ints, to_z-of_z, w128, FitsSigned}
 use Rattle.cif_expansion.proofs.ViewLaws.{composed_seen}
 use Rattle.cif_expansion.proofs.placements.Placement.then.Goals as goal
 

@@ -1,7 +1,4 @@
-use Rattle.std.proofs.Common.{◌≡◌, length, sym, ◌∙◌}
-use Rattle.std.specs.Prelude.{Some, None}
-use Rattle.std.specs.List.{position}
-use Rattle.std.specs.Str.{bytes_eq}
+use Rattle.cif_reading.proofs.Common.{◌≡◌, length, sym, ◌∙◌, Some, None, position, bytes_eq}
 use Rattle.cif_reading.proofs.PlaceLaws.{position-absent, position-found, with_layer-new, with_layer-there}
 use Rattle.cif_reading.proofs.layers.LayerList.place.Goals as goal
 

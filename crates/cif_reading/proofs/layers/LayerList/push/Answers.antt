@@ -1,7 +1,4 @@
-use Rattle.std.proofs.Common.{◌≡◌, ◌++◌, ◌∷◌, [], List, ℕ, false, sym, ap, ◌∙◌}
-use Rattle.std.specs.List.{list_any}
-use Rattle.std.specs.Str.{bytes_eq}
-use Rattle.cif_reading.specs.Additions.{with_layer}
+use Rattle.cif_reading.proofs.Common.{◌≡◌, ◌++◌, ◌∷◌, [], List, ℕ, false, sym, ap, ◌∙◌, list_any, bytes_eq, with_layer}
 use Rattle.cif_reading.proofs.PlaceLaws.{names-push}
 use Rattle.cif_reading.proofs.layers.LayerList.push.Goals as goal
 

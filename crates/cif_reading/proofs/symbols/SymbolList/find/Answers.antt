@@ -1,10 +1,5 @@
-use Rattle.std.proofs.Common.{◌≡◌, ℤ, FitsSigned, rules, ap, subst, ◌∙◌}
+use Rattle.cif_reading.proofs.Common.{◌≡◌, ℤ, FitsSigned, rules, ap, subst, ◌∙◌, w64, list_any, position, int_eq, to_z-of_z, CifSymbol}
 use Rattle.std.specs.Prelude.{IfSome, List}
-use Rattle.std.specs.Int.{w64}
-use Rattle.std.specs.List.{list_any, position}
-use Rattle.std.specs.Ordering.{int_eq}
-use Rattle.std.proofs.lemmas.Int.{to_z-of_z}
-use Rattle.cif_model.specs.declared.cifs.CifSymbol.{CifSymbol}
 use Rattle.cif_reading.specs.Drafts.{has_symbol, symbol_place}
 use Rattle.cif_reading.proofs.PlaceLaws.{among_numbers, symbol-found}
 use Rattle.cif_reading.proofs.symbols.SymbolList.find.Goals as goal

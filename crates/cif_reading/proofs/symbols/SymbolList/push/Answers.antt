@@ -1,9 +1,5 @@
-use Rattle.std.proofs.Common.{◌∷◌, ◌++◌, [], ℤ, FitsSigned, to_z, of_z, rules, sym, ap, ◌∙◌, if◌then◌else◌}
-use Rattle.std.specs.Int.{w64}
-use Rattle.std.specs.List.{list_any}
-use Rattle.std.specs.Ordering.{int_eq}
-use Rattle.std.proofs.lemmas.Int.{to_z-of_z}
-use Rattle.cif_model.specs.declared.cifs.CifSymbol.{CifSymbol}
+use Rattle.cif_reading.proofs.Common.{◌∷◌, ◌++◌, [], ℤ, FitsSigned, rules, sym, ap, ◌∙◌, if◌then◌else◌, w64, list_any, int_eq, to_z-of_z, CifSymbol}
+use Rattle.std.proofs.Common.{to_z, of_z}
 use Rattle.cif_reading.specs.Drafts.{has_symbol}
 use Rattle.cif_reading.proofs.PlaceLaws.{numbers_of, numbers-push}
 use Rattle.cif_reading.proofs.symbols.SymbolList.push.Goals as goal

@@ -1,5 +1,4 @@
-use Rattle.std.proofs.Common.{get_or}
-use Rattle.std.proofs.lemmas.Option.{slice_get-get_or}
+use Rattle.cif_writing.proofs.Common.{get_or, slice_get-get_or}
 use Rattle.cif_writing.proofs.OrderLaws.{cells_more}
 use Rattle.cif_writing.proofs.numbers.SymbolNumbers.of.Goals as goal
 

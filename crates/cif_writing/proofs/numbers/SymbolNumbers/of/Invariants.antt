@@ -1,4 +1,4 @@
-use Rattle.std.proofs.Common.{◌≡◌, map, take}
+use Rattle.cif_writing.proofs.Common.{◌≡◌, map, take}
 use Rattle.cif_writing.proofs.numbers.SymbolNumbers.of.Given as goal
 
 -- the cells passed have been added

@@ -1,7 +1,6 @@
-use Rattle.std.proofs.Common.{◌++◌, ◌∙◌, List, [], ap, subst}
+use Rattle.circuit_commands.proofs.Common.{◌++◌, ◌∙◌, List, [], ap, subst, ReportLine}
 use Rattle.std.proofs.lemmas.List.{flat_map_more}
 use Rattle.std.proofs.lemmas.Result.{on_ok_weaker}
-use Rattle.session_model.specs.declared.report.ReportLine.{ReportLine}
 use Rattle.sim_text.specs.declared.files.SimFet.{SimFet}
 use Rattle.sim_records.specs.Drafts.{IsDraftOf}
 use Rattle.sim_records.specs.Switches.{switches_of}

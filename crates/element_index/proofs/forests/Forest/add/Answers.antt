@@ -1,7 +1,5 @@
-use Rattle.std.proofs.Common.{◌≡◌, ◌<◌, ◌-◌, List, [], ◌∷◌, ◌++◌, length, take, drop, ap, ◌∙◌, arith}
+use Rattle.element_index.proofs.Common.{◌≡◌, ◌<◌, ◌-◌, List, [], ◌∷◌, ◌++◌, length, take, drop, ap, ◌∙◌, arith, Rect, rects_of}
 use Rattle.std.proofs.lemmas.List.{take_more_set}
-use Rattle.geo_core.specs.declared.squares.Rect.{Rect}
-use Rattle.element_index.specs.Forests.{rects_of}
 use Rattle.element_index.proofs.ForestLaws.{rects_of-joined, rest_of}
 use Rattle.element_index.proofs.forests.Forest.add.Goals as goal
 

@@ -1,6 +1,4 @@
-use Rattle.std.proofs.Common.{List, refl, subst}
-use Rattle.geo_core.specs.declared.squares.Rect.{Rect}
-use Rattle.element_index.specs.Forests.{rects_of, MeetsSome}
+use Rattle.element_index.proofs.Common.{List, refl, subst, Rect, rects_of, MeetsSome}
 use Rattle.element_index.proofs.ForestLaws.{tree_meets, found_meets, missed_all, misses_more}
 use Rattle.element_index.proofs.forests.Forest.meets.Goals as goal
 

@@ -1,6 +1,4 @@
-use Rattle.std.proofs.Common.{take}
-use Rattle.rect_trees.specs.Meetings.{MissesAll}
-use Rattle.element_index.specs.Forests.{rects_of}
+use Rattle.element_index.proofs.Common.{take, MissesAll, rects_of}
 use Rattle.element_index.proofs.forests.Forest.meets.Given as goal
 
 -- the rectangles of the trees so far miss the area

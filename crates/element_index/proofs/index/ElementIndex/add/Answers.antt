@@ -1,4 +1,5 @@
-use Rattle.std.proofs.Common.{◌≡◌, ◌<◌, vec_len, sym, ◌∙◌, arith}
+use Rattle.element_index.proofs.Common.{◌≡◌, ◌<◌, sym, ◌∙◌, arith}
+use Rattle.std.proofs.Common.{vec_len}
 use Rattle.element_index.proofs.HoldLaws.{holds_grown, holds_more, popped}
 use Rattle.element_index.proofs.index.ElementIndex.add.Goals as goal
 

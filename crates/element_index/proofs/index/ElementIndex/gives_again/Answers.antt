@@ -1,12 +1,8 @@
-use Rattle.std.proofs.Common.{◌≡◌, false, List, IsTrue, sym, ap, ◌∙◌, subst}
-use Rattle.std.specs.Prelude.{◌↔◌}
-use Rattle.geo_core.specs.declared.squares.Rect.{Rect}
-use Rattle.element_index.specs.declared.uses.UseElements.{UseElements}
-use Rattle.element_index.specs.Forests.{MeetsSome}
-use Rattle.element_index.specs.GivenNames.{element_ids, gives_again}
+use Rattle.element_index.proofs.Common.{◌≡◌, false, List, IsTrue, sym, ap, ◌∙◌, subst, ◌↔◌, Rect, UseElements, MeetsSome, element_ids}
+use Rattle.element_index.proofs.Common.{stands_where_found, stands_nowhere}
+use Rattle.element_index.specs.GivenNames.{gives_again}
 use Rattle.element_index.proofs.HoldLaws.{meeting_tells, unknown_tells}
 use Rattle.element_index.proofs.index.ElementIndex.gives_again.Goals as goal
-use Rattle.name_index.proofs.Positions.{stands_where_found, stands_nowhere}
 
 pub returns-in-Some : goal.returns-in-Some
 returns-in-Some c =

@@ -1,14 +1,8 @@
-use Rattle.std.proofs.Common.{◌≡◌, false, List, [], ◌∷◌, IsTrue, sym, ap, ◌∙◌, subst}
-use Rattle.std.specs.Prelude.{◌↔◌}
-use Rattle.std.specs.Option.{is_some}
-use Rattle.geo_core.specs.declared.squares.Rect.{Rect}
-use Rattle.element_index.specs.declared.uses.UseElements.{UseElements}
-use Rattle.element_index.specs.Forests.{MeetsSome}
-use Rattle.element_index.specs.GivenNames.{names_in, is_among}
+use Rattle.element_index.proofs.Common.{◌≡◌, false, List, [], ◌∷◌, IsTrue, sym, ap, ◌∙◌, subst, ◌↔◌, is_some, Rect, UseElements, MeetsSome, names_in}
+use Rattle.element_index.proofs.Common.{is_among, stands_where_found, stands_nowhere}
 use Rattle.element_index.proofs.ForestLaws.{search_tells}
 use Rattle.element_index.proofs.HoldLaws.{formless_tells, meeting_tells, one-any, unknown_tells}
 use Rattle.element_index.proofs.known.KnownElements.has.Goals as goal
-use Rattle.name_index.proofs.Positions.{stands_where_found, stands_nowhere}
 
 pub returns-in_default : goal.returns-in_default
 returns-in_default c =

@@ -1,19 +1,10 @@
-use Rattle.std.proofs.Common.{◌≡◌, false, ℤ, List, FitsSigned, to_z, of_z, sym, ap, ◌∙◌, subst, rules}
-use Rattle.std.specs.Prelude.{int_lt}
-use Rattle.std.specs.Int.{w64}
-use Rattle.std.proofs.lemmas.Int.{to_z-of_z}
-use Rattle.std.specs.List.{list_all, range_with_len}
-use Rattle.geo_core.specs.declared.squares.Rect.{Rect}
-use Rattle.geo_core.specs.Elements.{indices}
-use Rattle.rect_trees.specs.Meetings.{MissesAll, IsMeeting}
-use Rattle.element_index.specs.declared.uses.UseElements.{UseElements}
-use Rattle.element_index.specs.GivenNames.{names_in}
-use Rattle.element_index.specs.Squares.{raised}
+use Rattle.element_index.proofs.Common.{◌≡◌, false, ℤ, List, to_z, of_z, sym, ap, ◌∙◌, subst, int_lt, w64, to_z-of_z, list_all, range_with_len, Rect}
+use Rattle.element_index.proofs.Common.{indices, MissesAll, IsMeeting, UseElements, names_in, raised, stands_where_found, stands_nowhere}
+use Rattle.std.proofs.Common.{FitsSigned, rules}
 use Rattle.element_index.proofs.SquareLaws.{kept_short}
 use Rattle.element_index.proofs.BlockLaws.{kept_square}
 use Rattle.element_index.proofs.RowLaws.{row_test, row-failed, no_row, row_missed, row_told}
 use Rattle.element_index.proofs.known.KnownElements.has_row.Goals as goal
-use Rattle.name_index.proofs.Positions.{stands_where_found, stands_nowhere}
 
 pub returns-in_default : goal.returns-in_default
 returns-in_default c =

@@ -1,6 +1,4 @@
-use Rattle.std.proofs.Common.{List, sym, subst, arith}
-use Rattle.library_trees.specs.CellLibrary.Libraries.{seen}
-use Rattle.element_paths.specs.declared.steps.Step.{Step}
+use Rattle.element_paths.proofs.Common.{List, sym, subst, arith, seen, Step}
 use Rattle.element_paths.proofs.DescentLaws.{at_end, none_yet, one_more, LeadsOn}
 use Rattle.element_paths.proofs.descents.UseStarts.steps_to.Goals as goal
 

@@ -1,7 +1,4 @@
-use Rattle.std.proofs.Common.{◌<◌, length}
-use Rattle.library_trees.specs.LayoutModel.CellTrees.{standings}
-use Rattle.library_trees.specs.CellLibrary.LayoutTrees.{tree_at}
-use Rattle.library_trees.specs.CellLibrary.Libraries.{seen}
+use Rattle.element_paths.proofs.Common.{◌<◌, length, standings, tree_at, seen}
 use Rattle.element_paths.specs.UseStarts.{AreStartsOf}
 use Rattle.element_paths.proofs.DescentLaws.{LeadsOn}
 use Rattle.element_paths.proofs.descents.UseStarts.steps_to.Given as goal

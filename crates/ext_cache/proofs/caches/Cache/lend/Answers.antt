@@ -1,9 +1,6 @@
-use Rattle.std.proofs.Common.{◌≡◌, ℕ, [], ◌∷◌, get_or, length, length-append, map, ap, sym, subst, ◌∙◌, arith}
-use Rattle.std.specs.Prelude.{IsSome}
+use Rattle.ext_cache.proofs.Common.{◌≡◌, ℕ, [], ◌∷◌, get_or, length, length-append, map, ap, sym, subst, ◌∙◌, arith, IsSome, Distinct, CellKey}
+use Rattle.ext_cache.proofs.Common.{Records, entry_in, record_in}
 use Rattle.std.proofs.lemmas.List.{take_all}
-use Rattle.finite_sets.specs.Lists.{Distinct}
-use Rattle.ext_model.specs.declared.tables.CellKey.{CellKey}
-use Rattle.ext_cache.specs.Caches.{Records, entry_in, record_in}
 use Rattle.ext_cache.proofs.LendingLaws.{cells_of, lent_are_kept, one_more_cell, one_more_lent, records_of_numbers, still_some}
 use Rattle.ext_cache.proofs.caches.Cache.lend.Goals as goal
 

@@ -1,7 +1,4 @@
-use Rattle.std.proofs.Common.{◌≡◌, ◌≤◌, ℕ, length, map, take, vec_capacity}
-use Rattle.std.specs.Prelude.{IsSome}
-use Rattle.ext_cache.specs.Caches.{entry_in}
-use Rattle.ext_cache.specs.Lending.{AreLent}
+use Rattle.ext_cache.proofs.Common.{◌≡◌, ◌≤◌, ℕ, length, map, take, vec_capacity, IsSome, entry_in, AreLent}
 use Rattle.ext_cache.proofs.LendingLaws.{cells_of}
 use Rattle.ext_cache.proofs.caches.Cache.lend.Given as goal
 

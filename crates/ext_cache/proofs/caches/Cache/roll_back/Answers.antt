@@ -1,7 +1,4 @@
-use Rattle.std.proofs.Common.{◌≡◌, ◌++◌, ◌∷◌, [], List, sym, subst}
-use Rattle.ext_cache.specs.declared.undo.Undo.{Undo}
-use Rattle.ext_cache.specs.Caches.{Records}
-use Rattle.ext_cache.specs.steps.Undoing.{IsLogOf}
+use Rattle.ext_cache.proofs.Common.{◌≡◌, ◌++◌, ◌∷◌, [], List, sym, subst, Undo, Records, IsLogOf}
 use Rattle.ext_cache.proofs.UndoingLaws.{HasLast, last_of, last_there, undone_last}
 use Rattle.ext_cache.proofs.caches.Cache.roll_back.Goals as goal
 

@@ -1,5 +1,4 @@
-use Rattle.ext_cache.specs.Caches.{Records}
-use Rattle.ext_cache.specs.steps.Undoing.{IsLogOf}
+use Rattle.ext_cache.proofs.Common.{Records, IsLogOf}
 use Rattle.ext_cache.proofs.caches.Cache.roll_back.Given as goal
 
 -- what is left of the log tells of the records

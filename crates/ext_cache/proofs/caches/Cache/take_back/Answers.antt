@@ -1,8 +1,5 @@
-use Rattle.std.proofs.Common.{◌≡◌, ◌++◌, ◌∷◌, [], List, sym, subst, rules}
-use Rattle.ext_model.specs.declared.arrays.ArrayExt.{ArrayExt}
-use Rattle.ext_cache.specs.declared.lending.LentNote.{LentNote}
-use Rattle.ext_cache.specs.Caches.{Records}
-use Rattle.ext_cache.specs.Lending.{AreLent}
+use Rattle.ext_cache.proofs.Common.{◌≡◌, ◌++◌, ◌∷◌, [], List, sym, subst, ArrayExt, LentNote, Records, AreLent}
+use Rattle.std.proofs.Common.{rules}
 use Rattle.ext_cache.proofs.LendingLaws.{IsLast, last_back, last_lent, last_there, none_left}
 use Rattle.ext_cache.proofs.caches.Cache.take_back.Goals as goal
 

@@ -1,6 +1,4 @@
-use Rattle.std.proofs.Common.{length}
-use Rattle.ext_cache.specs.Caches.{Records}
-use Rattle.ext_cache.specs.Lending.{AreLent}
+use Rattle.ext_cache.proofs.Common.{length, Records, AreLent}
 use Rattle.ext_cache.proofs.caches.Cache.take_back.Given as goal
 
 -- what is left is lent

@@ -1,9 +1,6 @@
-use Rattle.std.proofs.Common.{◌∙◌, ap}
-use Rattle.std.specs.List.{list_any}
+use Rattle.ext_loading.proofs.Common.{◌∙◌, ap, list_any, bytes_eq, cells_read}
 use Rattle.std.specs.Option.{is_some}
-use Rattle.std.specs.Str.{bytes_eq}
 use Rattle.ext_reading.proofs.NameLaws.{found_place}
-use Rattle.ext_loading.specs.ExtFiles.{cells_read}
 use Rattle.ext_loading.proofs.read_exts.ReadExts.has.Goals as goal
 
 pub returns : goal.returns

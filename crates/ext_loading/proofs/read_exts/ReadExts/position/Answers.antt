@@ -1,9 +1,6 @@
-use Rattle.std.proofs.Common.{◌∙◌, ap}
-use Rattle.std.specs.List.{position_or_len}
+use Rattle.ext_loading.proofs.Common.{◌∙◌, ap, position_or_len, bytes_eq, cells_read}
 use Rattle.std.specs.Option.{unwrap_or}
-use Rattle.std.specs.Str.{bytes_eq}
 use Rattle.finite_sets.proofs.FirstPlaces.{found_or_length}
-use Rattle.ext_loading.specs.ExtFiles.{cells_read}
 use Rattle.ext_loading.proofs.read_exts.ReadExts.position.Goals as goal
 
 pub returns : goal.returns

@@ -1,6 +1,4 @@
-use Rattle.std.proofs.Common.{◌∙◌, ap, List, get_or}
-use Rattle.ext_model.specs.declared.arrays.ArrayExt.{ArrayExt}
-use Rattle.ext_model.specs.declared.arrays.ArrayUse.{ArrayUse}
+use Rattle.ext_loading.proofs.Common.{◌∙◌, ap, List, get_or, ArrayExt, ArrayUse}
 use Rattle.ext_loading.proofs.Positions.{child_at, position_in}
 use Rattle.ext_loading.proofs.read_exts.ReadExtsUseGraph.child.Goals as goal
 

@@ -1,16 +1,11 @@
-use Rattle.std.proofs.Common.{◌≡◌, ◌∙◌, ◌∷◌, ap, sym, List}
-use Rattle.std.specs.Prelude.{reverse, Err}
+use Rattle.ext_loading.proofs.Common.{◌≡◌, ◌∙◌, ◌∷◌, ap, sym, List, reverse, Err, after_fetches, StopsAsking, files_of, ArrayExt, circuit_files}
 use Rattle.std.proofs.lemmas.Result.{err_from_is_err_and, on_ok_weaker}
 use Rattle.finite_sets.proofs.Searches.{on_ok_both}
 use Rattle.outside_io.specs.CallPlans.{told_after_call}
 use Rattle.outside_io.specs.Files.{no_files}
-use Rattle.session_model.specs.Effects.{after_fetches}
-use Rattle.session_model.specs.FileTrees.{StopsAsking, files_of}
 use Rattle.session_model.proofs.FileTreeLaws.{asked_for_one, goes_past, stops_asking_here}
 use Rattle.session_model.proofs.StopLaws.{refused_asking, refused_by}
-use Rattle.ext_model.specs.declared.arrays.ArrayExt.{ArrayExt}
 use Rattle.ext_loading.specs.ExtFiles.{file_gives, is_read}
-use Rattle.ext_loading.specs.Readings.{circuit_files}
 use Rattle.ext_loading.proofs.ReadingLaws.{goes_on_by, so_far_passed, so_far_read}
 use Rattle.ext_loading.proofs.walks.Walk.visit.Goals as goal
 

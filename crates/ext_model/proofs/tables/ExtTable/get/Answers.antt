@@ -1,6 +1,4 @@
-use Rattle.std.proofs.Common.{sym, ap, ◌∙◌}
-use Rattle.std.specs.Option.{option_map}
-use Rattle.ext_model.specs.declared.tables.ExtEntry.{ExtEntry}
+use Rattle.ext_model.proofs.Common.{sym, ap, ◌∙◌, option_map, ExtEntry}
 use Rattle.ext_model.proofs.EntryLaws.{entry_of-entries}
 use Rattle.ext_model.proofs.tables.ExtTable.get.Goals as goal
 

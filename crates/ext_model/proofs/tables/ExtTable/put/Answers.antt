@@ -1,6 +1,5 @@
-use Rattle.std.proofs.Common.{sym, ap, ◌∙◌}
+use Rattle.ext_model.proofs.Common.{sym, ap, ◌∙◌, Table}
 use Rattle.std.specs.FinMap as fin_map
-use Rattle.ext_model.specs.Tables.{Table}
 use Rattle.ext_model.proofs.EntryLaws.{entry_of-entries, from_entries-put, finds_room}
 use Rattle.ext_model.proofs.tables.ExtTable.put.Goals as goal
 

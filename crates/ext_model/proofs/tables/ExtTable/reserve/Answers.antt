@@ -1,5 +1,4 @@
-use Rattle.std.proofs.Common.{ap, ◌∙◌}
-use Rattle.ext_model.specs.Tables.{Table}
+use Rattle.ext_model.proofs.Common.{ap, ◌∙◌, Table}
 use Rattle.ext_model.proofs.EntryLaws.{from_entries-reordered}
 use Rattle.ext_model.proofs.tables.ExtTable.reserve.Goals as goal
 

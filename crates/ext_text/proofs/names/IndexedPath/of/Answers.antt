@@ -1,5 +1,4 @@
-use Rattle.std.proofs.Common.{sym, ap, ◌∙◌}
-use Rattle.ext_model.specs.Plain.{before, behind}
+use Rattle.ext_text.proofs.Common.{sym, ap, ◌∙◌, before, behind}
 use Rattle.ext_model.proofs.CutLaws.{behind-after}
 use Rattle.ext_text.proofs.PathCuts.{index_is, index_is_number}
 use Rattle.ext_text.proofs.names.IndexedPath.of.Goals as goal

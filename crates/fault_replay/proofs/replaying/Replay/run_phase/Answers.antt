@@ -1,11 +1,5 @@
-use Rattle.std.proofs.Common.{◌≡◌, ℕ, List, subst, sym, ◌∙◌}
-use Rattle.switch_net.specs.declared.switches.Level.{Level}
-use Rattle.switch_net.specs.Net.{network_of}
-use Rattle.switch_net.specs.Network.{Network}
-use Rattle.switch_net.proofs.Sound.{sound_of}
-use Rattle.fault_replay.specs.Changes.{IsTold}
-use Rattle.fault_replay.specs.Replays.{IsAlong, IsRecorded}
-use Rattle.fault_replay.specs.declared.records.PhaseRecord.{PhaseRecord}
+use Rattle.fault_replay.proofs.Common.{◌≡◌, ℕ, List, subst, sym, ◌∙◌, Level, network_of, Network, sound_of, IsTold, IsAlong, PhaseRecord}
+use Rattle.fault_replay.specs.Replays.{IsRecorded}
 use Rattle.fault_replay.proofs.PhaseEnds.{along_ended}
 use Rattle.fault_replay.proofs.replaying.Replay.run_phase.Goals as goal
 

@@ -1,8 +1,5 @@
-use Rattle.std.proofs.Common.{List, ap, arith, length, subst, sym}
+use Rattle.fault_replay.proofs.Common.{List, ap, arith, length, subst, sym, Level, network_of, EndsPhase, IsAlong}
 use Rattle.std.proofs.lemmas.List.{with_items_is}
-use Rattle.switch_net.specs.declared.switches.Level.{Level}
-use Rattle.switch_net.specs.Net.{network_of}
-use Rattle.fault_replay.specs.Replays.{EndsPhase, IsAlong}
 use Rattle.fault_replay.proofs.replaying.Replay.run_recorded.Goals as goal
 
 pub returns-clause-ends : goal.returns-clause-ends

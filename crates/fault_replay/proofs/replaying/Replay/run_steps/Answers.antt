@@ -1,11 +1,5 @@
-use Rattle.std.proofs.Common.{◌≡◌, ◌+◌, ◌-◌, ℕ, Bool, List, arith, length, refl, subst, sym, ◌∙◌}
-use Rattle.switch_net.specs.declared.switches.Level.{Level}
-use Rattle.switch_net.specs.Net.{network_of}
-use Rattle.switch_net.specs.Network.{Network}
-use Rattle.switch_net.specs.Steady.{IsStep}
-use Rattle.switch_net.proofs.Sound.{sound_of}
-use Rattle.fault_replay.specs.Changes.{IsTold}
-use Rattle.fault_replay.specs.Replays.{EndsPhase, IsAlong, SettlesDown}
+use Rattle.fault_replay.proofs.Common.{◌≡◌, ◌+◌, ◌-◌, ℕ, Bool, List, arith, length, refl, subst, sym, ◌∙◌, Level, network_of, Network, IsStep}
+use Rattle.fault_replay.proofs.Common.{sound_of, IsTold, EndsPhase, IsAlong, SettlesDown}
 use Rattle.fault_replay.proofs.Beside.{along_as}
 use Rattle.fault_replay.proofs.PhaseEnds.{along_ended, ends_after, ends_down, steps_then}
 use Rattle.fault_replay.proofs.replaying.Replay.run_steps.Goals as goal

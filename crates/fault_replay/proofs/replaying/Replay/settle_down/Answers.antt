@@ -1,12 +1,5 @@
-use Rattle.std.proofs.Common.{◌≡◌, ℕ, List, [], ap, arith, refl, slice_index, subst, sym, ◌∙◌}
-use Rattle.switch_net.specs.declared.switches.Level.{Level}
-use Rattle.switch_net.specs.Net.{network_of}
-use Rattle.switch_net.specs.Network.{Network}
-use Rattle.switch_net.specs.Path.{state_of}
-use Rattle.switch_net.specs.Steady.{IsStep}
-use Rattle.switch_net.proofs.Sound.{sound_of}
-use Rattle.steady_state.proofs.Moving.{steps_more}
-use Rattle.fault_replay.specs.Replays.{IsAlong}
+use Rattle.fault_replay.proofs.Common.{◌≡◌, ℕ, List, [], ap, arith, refl, slice_index, subst, sym, ◌∙◌, Level, network_of, Network, state_of, IsStep}
+use Rattle.fault_replay.proofs.Common.{sound_of, steps_more, IsAlong}
 use Rattle.fault_replay.proofs.Beside.{along_at, each_of, listed_below, rests, taken_along, taken_step}
 use Rattle.fault_replay.proofs.replaying.Replay.settle_down.Goals as goal
 

@@ -1,9 +1,4 @@
-use Rattle.std.proofs.Common.{◌≡◌, ◌≤◌, ◌-◌, length}
-use Rattle.switch_net.specs.Net.{network_of}
-use Rattle.switch_net.specs.Network.{Network}
-use Rattle.switch_net.specs.Phase.{Steps}
-use Rattle.switch_net.specs.Steady.{IsStep}
-use Rattle.fault_replay.specs.Replays.{IsAlong, IsReplayFor}
+use Rattle.fault_replay.proofs.Common.{◌≡◌, ◌≤◌, ◌-◌, length, network_of, Network, Steps, IsStep, IsAlong, IsReplayFor}
 use Rattle.fault_replay.proofs.replaying.Replay.settle_down.Given as goal
 
 abbrev pub invariant-steps : goal.invariant-steps

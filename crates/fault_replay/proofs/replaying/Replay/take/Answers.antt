@@ -1,7 +1,4 @@
-use Rattle.std.proofs.Common.{List, arith, ap, inl, inr, subst, sym, ◌∙◌}
-use Rattle.switch_net.specs.declared.switches.Level.{Level}
-use Rattle.switch_net.specs.Path.{state_of}
-use Rattle.fault_replay.specs.Changes.{IsTold}
+use Rattle.fault_replay.proofs.Common.{List, arith, ap, inl, inr, subst, sym, ◌∙◌, Level, state_of, IsTold}
 use Rattle.fault_replay.proofs.Beside.{each_of, listed_below}
 use Rattle.fault_replay.proofs.replaying.Replay.take.Goals as goal
 

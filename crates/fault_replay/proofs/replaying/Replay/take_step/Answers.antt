@@ -1,8 +1,4 @@
-use Rattle.std.proofs.Common.{subst, sym}
-use Rattle.switch_net.specs.Net.{network_of}
-use Rattle.switch_net.specs.Network.{Network}
-use Rattle.switch_net.proofs.Sound.{sound_of}
-use Rattle.fault_replay.specs.Replays.{IsAlong}
+use Rattle.fault_replay.proofs.Common.{subst, sym, network_of, Network, sound_of, IsAlong}
 use Rattle.fault_replay.proofs.Beside.{taken_along, taken_step}
 use Rattle.fault_replay.proofs.replaying.Replay.take_step.Goals as goal
 

@@ -1,12 +1,5 @@
-use Rattle.std.proofs.Common.{◌≡◌, ℕ, ◌+◌, List, ap, arith, drop, length, refl, subst, sym, ◌∙◌}
-use Rattle.switch_net.specs.declared.switches.Level.{Level}
-use Rattle.switch_net.specs.Net.{network_of}
-use Rattle.switch_net.specs.Network.{Network}
-use Rattle.switch_net.specs.Phase.{Steps}
-use Rattle.switch_net.specs.Steady.{IsStep}
-use Rattle.steady_state.proofs.Moving.{steps_more}
-use Rattle.fault_replay.specs.Changes.{changed}
-use Rattle.fault_replay.specs.Replays.{IsAlong, StepsBy}
+use Rattle.fault_replay.proofs.Common.{◌≡◌, ℕ, ◌+◌, List, ap, arith, drop, length, refl, subst, sym, ◌∙◌, Level, network_of, Network, Steps, IsStep}
+use Rattle.fault_replay.proofs.Common.{steps_more, changed, IsAlong, StepsBy}
 use Rattle.fault_replay.proofs.Beside.{along_at, no_steps, split_steps}
 use Rattle.fault_replay.proofs.replaying.Replay.take_steps.Goals as goal
 

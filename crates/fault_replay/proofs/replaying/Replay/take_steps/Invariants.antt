@@ -1,9 +1,4 @@
-use Rattle.std.proofs.Common.{◌≡◌, List, length, drop}
-use Rattle.switch_net.specs.declared.switches.Level.{Level}
-use Rattle.switch_net.specs.Net.{network_of}
-use Rattle.switch_net.specs.Network.{Network}
-use Rattle.switch_net.specs.Phase.{Steps}
-use Rattle.fault_replay.specs.Replays.{IsAlong, IsReplayFor, StepsBy}
+use Rattle.fault_replay.proofs.Common.{◌≡◌, List, length, drop, Level, network_of, Network, Steps, IsAlong, IsReplayFor, StepsBy}
 use Rattle.fault_replay.proofs.replaying.Replay.take_steps.Given as goal
 
 abbrev pub invariant-loop-changes : goal.invariant-loop-changes

@@ -1,15 +1,9 @@
-use Rattle.std.proofs.Common.{ℕ, List, add-one, ap, arith, refl, subst, sym, ◌∙◌}
-use Rattle.std.specs.Prelude.{All, Some}
-use Rattle.std.proofs.lemmas.List.Elements.{All-head, All-tail}
-use Rattle.switch_net.specs.declared.switches.Level.{Level}
-use Rattle.switch_net.specs.Net.{network_of}
-use Rattle.switch_net.specs.Network.{Network}
-use Rattle.vector_files.specs.declared.files.VecLine.TheVariants.{Phase}
+use Rattle.fault_replay.proofs.Common.{ℕ, List, ap, arith, refl, subst, sym, ◌∙◌, All, Some, All-head, All-tail, Level, network_of, Network, Phase}
+use Rattle.fault_replay.proofs.Common.{PhaseRecord, FitsRecord, Follows, Records}
+use Rattle.std.proofs.Common.{add-one}
 use Rattle.vector_runs.specs.declared.stuck_faults.StuckFault.{StuckFault}
 use Rattle.vector_runs.specs.Running.{watched}
 use Rattle.vector_runs.proofs.WatchedRuns.{phase_taken}
-use Rattle.fault_replay.specs.declared.records.PhaseRecord.{PhaseRecord}
-use Rattle.fault_replay.specs.Replays.{FitsRecord, Follows, Records}
 use Rattle.fault_replay.proofs.Beside.{along_as}
 use Rattle.fault_replay.proofs.runs.ReplayedRun.replay_phase.Goals as goal
 

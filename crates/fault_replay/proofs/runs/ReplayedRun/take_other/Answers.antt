@@ -1,12 +1,9 @@
-use Rattle.std.proofs.Common.{ℕ, List, ap, refl, subst, sym, ◌∙◌}
-use Rattle.std.specs.Prelude.{All, Option, Some}
-use Rattle.switch_net.specs.declared.switches.Level.{Level}
-use Rattle.switch_net.specs.Net.{network_of}
-use Rattle.switch_net.proofs.Sound.{sound_of}
+use Rattle.fault_replay.proofs.Common.{ℕ, List, ap, refl, subst, sym, ◌∙◌, All, Some, Level, network_of, sound_of, FitsRecord, IsReplayFor, Records}
+use Rattle.std.specs.Prelude.{Option}
 use Rattle.vector_runs.specs.declared.stuck_faults.StuckFault.{StuckFault}
 use Rattle.vector_runs.specs.Running.{states_of, watched}
 use Rattle.vector_runs.specs.Watching.{is_left_out}
-use Rattle.fault_replay.specs.Replays.{FitsRecord, IsReplayFor, Records, states_after}
+use Rattle.fault_replay.specs.Replays.{states_after}
 use Rattle.fault_replay.proofs.Beside.{along_as}
 use Rattle.fault_replay.proofs.Lines.{line_behind}
 use Rattle.fault_replay.proofs.runs.ReplayedRun.take_other.Goals as goal

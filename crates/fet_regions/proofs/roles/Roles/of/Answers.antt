@@ -1,4 +1,4 @@
-use Rattle.std.proofs.Common.{false, get_or, [], ◌∙◌}
+use Rattle.fet_regions.proofs.Common.{false, get_or, [], ◌∙◌}
 use Rattle.fet_regions.proofs.RoleLaws.{channels_tabled, terminals_tabled}
 use Rattle.fet_regions.proofs.roles.Roles.of.Goals as goal
 

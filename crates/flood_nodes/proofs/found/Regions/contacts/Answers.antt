@@ -1,7 +1,4 @@
-use Rattle.std.proofs.Common.{List, sym, subst}
-use Rattle.geo_core.specs.FiniteSets.Lists.{Lists}
-use Rattle.rect_contacts.specs.declared.contacts.Contact.{Contact}
-use Rattle.flood_nodes.specs.TileShares.{IsTileContact}
+use Rattle.flood_nodes.proofs.Common.{List, sym, subst, Lists, Contact, IsTileContact}
 use Rattle.flood_nodes.proofs.Renumbering.{contacts_listed}
 use Rattle.flood_nodes.proofs.found.Regions.contacts.Goals as goal
 

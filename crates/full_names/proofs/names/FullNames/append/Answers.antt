@@ -1,11 +1,5 @@
-use Rattle.std.proofs.Common.{◌≡◌, ◌+◌, ◌-◌, ◌<◌, ◌++◌, ℕ, List, length, refl, sym, ap, ◌∙◌, arith}
-use Rattle.std.specs.Prelude.{slice_get}
-use Rattle.std.proofs.lemmas.List.{append_assoc}
-use Rattle.std.proofs.lemmas.Option.{slice_get_read, same_Some}
-use Rattle.circuit_model.specs.Elements.{ids_of}
-use Rattle.circuit_model.specs.FullNames.{name_in}
-use Rattle.full_names.specs.steps.Paths.{path_front}
-use Rattle.full_names.specs.Names.{elements_in}
+use Rattle.full_names.proofs.Common.{◌≡◌, ◌+◌, ◌-◌, ◌<◌, ◌++◌, ℕ, List, length, refl, sym, ap, ◌∙◌, arith, slice_get, append_assoc, slice_get_read}
+use Rattle.full_names.proofs.Common.{same_Some, ids_of, name_in, path_front, elements_in}
 use Rattle.full_names.proofs.OriginLaws.{global_at, local_is, local_stands, local_full, local_path}
 use Rattle.full_names.proofs.PathLaws.{path_text-front, on_appended}
 use Rattle.full_names.proofs.QueryLaws.{is_tree}

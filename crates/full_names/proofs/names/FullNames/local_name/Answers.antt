@@ -1,4 +1,4 @@
-use Rattle.std.proofs.Common.{arith}
+use Rattle.full_names.proofs.Common.{arith}
 use Rattle.full_names.proofs.LocalReads.{slot_within, element_listed, record_within, own_within, local_number}
 use Rattle.full_names.proofs.names.FullNames.local_name.Goals as goal
 

@@ -1,8 +1,5 @@
-use Rattle.std.proofs.Common.{◌≡◌, ◌+◌, ◌<◌, ℕ, length, get_or, subst, ap, ◌∙◌, arith}
-use Rattle.std.specs.Prelude.{slice_get, slice_index}
-use Rattle.std.proofs.lemmas.List.{get_or_read}
-use Rattle.full_names.specs.declared.names.FullNames.{FullNames}
-use Rattle.full_names.specs.Names.{IsSpotOf, AreNames}
+use Rattle.full_names.proofs.Common.{◌≡◌, ◌+◌, ◌<◌, ℕ, length, get_or, subst, ap, ◌∙◌, arith, slice_get, slice_index, get_or_read, FullNames}
+use Rattle.full_names.proofs.Common.{IsSpotOf, AreNames}
 use Rattle.full_names.proofs.QueryLaws.{number_within, slot_within, slot_in_standings, standing_within, local_number, global_number}
 use Rattle.full_names.proofs.names.FullNames.number.Goals as goal
 

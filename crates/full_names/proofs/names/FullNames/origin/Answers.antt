@@ -1,8 +1,5 @@
-use Rattle.std.proofs.Common.{◌≡◌, ◌+◌, ◌-◌, ◌<◌, ℕ, List, length, refl, sym, subst, ap, ◌∙◌, arith}
-use Rattle.std.specs.Prelude.{slice_get}
-use Rattle.std.proofs.lemmas.Option.{slice_get_read, same_Some}
-use Rattle.ext_model.proofs.FiniteSets.Places.{In-slice_get}
-use Rattle.full_names.specs.Names.{ComesFrom}
+use Rattle.full_names.proofs.Common.{◌≡◌, ◌+◌, ◌-◌, ◌<◌, ℕ, List, length, refl, sym, subst, ap, ◌∙◌, arith, slice_get, slice_get_read, same_Some}
+use Rattle.full_names.proofs.Common.{In-slice_get, ComesFrom}
 use Rattle.full_names.proofs.OriginLaws.{global_at, global_comes, local_full, local_comes}
 use Rattle.full_names.proofs.names.FullNames.origin.Goals as goal
 

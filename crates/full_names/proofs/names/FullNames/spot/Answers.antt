@@ -1,10 +1,4 @@
-use Rattle.std.proofs.Common.{List, sym, subst, ap, ◌∙◌}
-use Rattle.ext_model.specs.FiniteSets.Lists.{In}
-use Rattle.ext_model.proofs.FiniteSets.Places.{In-slice_get}
-use Rattle.full_names.specs.declared.globals.GlobalName.{GlobalName}
-use Rattle.full_names.specs.OwnNames.{texts_of}
-use Rattle.full_names.specs.Globals.{global_texts}
-use Rattle.std.specs.Prelude.{slice_get}
+use Rattle.full_names.proofs.Common.{List, sym, subst, ap, ◌∙◌, In, In-slice_get, GlobalName, texts_of, global_texts, slice_get}
 use Rattle.full_names.proofs.QueryLaws.{reached_known, record_within, globals_read, locals_read, lacks_global}
 use Rattle.full_names.proofs.QueryLaws.{lacks_local, lacks_of_all, local_spot, global_spot}
 use Rattle.full_names.proofs.names.FullNames.spot.Goals as goal

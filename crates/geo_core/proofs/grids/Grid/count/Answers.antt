@@ -1,6 +1,5 @@
 -- Rows times columns.
-use Rattle.std.proofs.Common.{◌≡◌, ◌*◌, ap, ◌∙◌, arith}
-use Rattle.std.proofs.lemmas.Int.{ints}
+use Rattle.geo_core.proofs.Common.{◌≡◌, ◌*◌, ap, ◌∙◌, arith, ints}
 use Rattle.geo_core.proofs.ElementLaws.{length-elements_of, indices-same, kept, rows, columns}
 use Rattle.geo_core.proofs.grids.Grid.count.Goals as goal
 

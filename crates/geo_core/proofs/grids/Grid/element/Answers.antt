@@ -1,8 +1,5 @@
 -- The element has the indices and the displacement of its row and column, and none stands in the list twice.
-use Rattle.std.proofs.Common.{Some, ap, ◌∙◌, arith, rules}
-use Rattle.std.proofs.lemmas.Int.{ints, to_z-of_z}
-use Rattle.std.specs.Int.{w64}
-use Rattle.std.specs.Int.RustNames.{FitsSigned}
+use Rattle.geo_core.proofs.Common.{Some, ap, ◌∙◌, arith, rules, ints, to_z-of_z, w64, FitsSigned}
 use Rattle.finite_sets.proofs.Places.{one_place}
 use Rattle.geo_core.proofs.ElementLaws.{Distinct-elements_of, element_of-parts, nth_index-same, product-same, kept}
 use Rattle.geo_core.proofs.grids.Grid.element.Goals as goal

@@ -1,8 +1,5 @@
 -- The k-th element stands in row k / columns and column k % columns.
-use Rattle.std.proofs.Common.{◌≡◌, ℕ, ◌<◌, ℤ, length, ◌/◌, ◌%◌, ◌∙◌, ap, arith, Some}
-use Rattle.std.proofs.lemmas.Int.{ints}
-use Rattle.geo_core.specs.declared.grids.Grid.{Grid}
-use Rattle.geo_core.specs.Elements.{indices, elements_of, IsLawful}
+use Rattle.geo_core.proofs.Common.{◌≡◌, ℕ, ◌<◌, ℤ, length, ◌/◌, ◌%◌, ◌∙◌, ap, arith, Some, ints, Grid, indices, elements_of, IsLawful}
 use Rattle.geo_core.proofs.ElementLaws.{elements_of-at, element_of-same, stands_at, StandsAt, indices-same, kept}
 use Rattle.geo_core.proofs.grids.Grid.row_and_column.Goals as goal
 

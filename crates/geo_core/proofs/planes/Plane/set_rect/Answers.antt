@@ -1,4 +1,4 @@
-use Rattle.std.proofs.Common.{inl, refl}
+use Rattle.geo_core.proofs.Common.{inl, refl}
 use Rattle.geo_core.proofs.planes.Plane.set_rect.Goals as goal
 
 pub returns-clause-set : goal.returns-clause-set

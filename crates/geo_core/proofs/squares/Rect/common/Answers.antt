@@ -1,5 +1,4 @@
-use Rattle.std.proofs.Common.{rules}
-use Rattle.geo_core.specs.Areas.{common_rect}
+use Rattle.geo_core.proofs.Common.{rules, common_rect}
 use Rattle.geo_core.proofs.SquareLaws.{rect_is}
 use Rattle.geo_core.proofs.squares.Rect.common.Goals as goal
 

@@ -1,5 +1,5 @@
-use Rattle.std.proofs.Common.{◌≡◌, ℤ, pos, ◌+ℤ◌, ◌-ℤ◌, w64, to_z, of_z, refl, rules}
-use Rattle.std.proofs.lemmas.Int.{ints, to_z-of_z}
+use Rattle.geo_core.proofs.Common.{◌≡◌, ℤ, pos, ◌+ℤ◌, ◌-ℤ◌, to_z, of_z, refl, rules, ints, to_z-of_z}
+use Rattle.std.proofs.Common.{w64}
 use Rattle.geo_core.specs.Areas.{widened, IsSmall}
 use Rattle.geo_core.proofs.SquareLaws.{rect_is}
 use Rattle.geo_core.proofs.squares.Rect.widened.Goals as goal

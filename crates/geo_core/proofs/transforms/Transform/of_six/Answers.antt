@@ -1,4 +1,5 @@
-use Rattle.std.proofs.Common.{◌≡◌, length, pos, slice_index_or, w64, to_z, of_z, rules}
+use Rattle.geo_core.proofs.Common.{◌≡◌, length, pos, to_z, of_z, rules}
+use Rattle.std.proofs.Common.{slice_index_or, w64}
 use Rattle.std.specs.Prelude.{Some, None}
 use Rattle.geo_core.specs.Orientation.{orient_of}
 use Rattle.geo_core.proofs.OrientationLaws.{six_of-found, six_of-none}

@@ -1,7 +1,5 @@
 -- Each orientation's arm computes what its matrix says.
-use Rattle.std.proofs.Common.{arith}
-use Rattle.std.proofs.lemmas.Int.{ints}
-use Rattle.geo_core.specs.declared.orients.Orient.TheVariants.{R0, R90, R180, R270, Mx, My, Mx90, My90}
+use Rattle.geo_core.proofs.Common.{arith, ints, R0, R90, R180, R270, Mx, My, Mx90, My90}
 use Rattle.geo_core.proofs.ImageLaws.{point_x_at, point_y_at}
 use Rattle.geo_core.proofs.transforms.Transform.point.Goals as goal
 

@@ -1,10 +1,5 @@
 -- The rectangle that is made is the image, and has the images of the squares by law.
-use Rattle.std.proofs.Common.{◌↔◌, sym, ◌∙◌, arith, rules, subst}
-use Rattle.std.proofs.lemmas.Int.{ints, to_z-of_z}
-use Rattle.std.specs.Int.{w64}
-use Rattle.std.specs.Int.RustNames.{FitsSigned}
-use Rattle.geo_core.specs.declared.squares.Rect.{Rect}
-use Rattle.geo_core.specs.Covering.{Covers}
+use Rattle.geo_core.proofs.Common.{◌↔◌, sym, ◌∙◌, arith, rules, subst, ints, to_z-of_z, w64, FitsSigned, Rect, Covers}
 use Rattle.geo_core.specs.Images.{image}
 use Rattle.geo_core.proofs.ImageLaws.{rect_image-from_corners, rect_image-covers, rect_image-covered}
 use Rattle.geo_core.proofs.transforms.Transform.rect.Goals as goal

@@ -1,11 +1,6 @@
 -- The square that is made is the image, and what is said of it are laws of images.
-use Rattle.std.proofs.Common.{◌↔◌, sym, ◌∙◌, arith, rules, subst}
-use Rattle.std.proofs.lemmas.Int.{ints, to_z-of_z}
-use Rattle.std.specs.Int.{w64}
-use Rattle.std.specs.Int.RustNames.{FitsSigned}
-use Rattle.geo_core.specs.declared.squares.Square.{Square}
+use Rattle.geo_core.proofs.Common.{◌↔◌, sym, ◌∙◌, arith, rules, subst, ints, to_z-of_z, w64, FitsSigned, Square, AreEdgeNeighbours}
 use Rattle.geo_core.specs.Images.{image}
-use Rattle.geo_core.specs.Neighbours.{AreEdgeNeighbours}
 use Rattle.geo_core.proofs.ImageLaws.{image-from_corners, image-centre, image-injective, neighbours-image, image-neighbours}
 use Rattle.geo_core.proofs.transforms.Transform.square.Goals as goal
 

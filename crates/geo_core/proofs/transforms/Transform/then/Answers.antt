@@ -1,8 +1,5 @@
 -- What the composed transform does to squares is a law of it.
-use Rattle.std.proofs.Common.{◌∙◌, ap, arith, rules}
-use Rattle.std.proofs.lemmas.Int.{ints, to_z-of_z}
-use Rattle.std.specs.Int.{w64}
-use Rattle.std.specs.Int.RustNames.{FitsSigned}
+use Rattle.geo_core.proofs.Common.{◌∙◌, ap, arith, rules, ints, to_z-of_z, w64, FitsSigned}
 use Rattle.geo_core.specs.Images.{image}
 use Rattle.geo_core.proofs.ImageLaws.{image-composed, composed-from_parts}
 use Rattle.geo_core.proofs.transforms.Transform.then.Goals as goal

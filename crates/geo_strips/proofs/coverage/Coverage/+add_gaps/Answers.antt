@@ -1,7 +1,5 @@
-use Rattle.std.proofs.Common.{◌≡◌, Box, Global, ◌≤ℤ◌, ap, ◌∙◌, subst, arith, to_z, of_z, rules}
-use Rattle.std.specs.Int.{int_max, int_min, w64}
-use Rattle.std.proofs.lemmas.Int.{ints, to_z-of_z}
-use Rattle.geo_strips.specs.Coverage.{IsTopped, least_of}
+use Rattle.geo_strips.proofs.Common.{◌≡◌, Box, Global, ◌≤ℤ◌, ap, ◌∙◌, subst, arith, to_z, of_z, rules, int_max, int_min, w64, ints, to_z-of_z}
+use Rattle.geo_strips.proofs.Common.{IsTopped, least_of}
 use Rattle.geo_strips.proofs.CoverageLaws.{all_gap, cut_gaps, on_ok, stored_min, stored_max}
 use Rattle.geo_strips.proofs.coverage.Coverage.+add_gaps.Goals as goal
 

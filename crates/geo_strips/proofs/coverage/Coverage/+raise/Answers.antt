@@ -1,7 +1,7 @@
-use Rattle.std.proofs.Common.{◌≡◌, ◌<ℤ◌, ◌≤ℤ◌, Box, Global, true, false, w64, to_z, of_z, arith, subst, sym, ap, ◌∙◌, ◌<◌}
-use Rattle.std.specs.Int.{int_max, int_min}
-use Rattle.std.proofs.lemmas.Int.{ints, to_z-of_z}
-use Rattle.geo_strips.specs.Coverage.{least_of, most_of, begins_before, ends_after, begin_after, end_before, IsTopped, IsCutAt}
+use Rattle.geo_strips.proofs.Common.{◌≡◌, ◌<ℤ◌, ◌≤ℤ◌, Box, Global, true, false, to_z, of_z, arith, subst, sym, ap, ◌∙◌, ◌<◌, int_max, int_min, ints}
+use Rattle.geo_strips.proofs.Common.{to_z-of_z, least_of, most_of, end_before, IsTopped, IsCutAt}
+use Rattle.std.proofs.Common.{w64}
+use Rattle.geo_strips.specs.Coverage.{begins_before, ends_after, begin_after}
 use Rattle.geo_strips.proofs.CoverageLaws.{forks, LeftIsDone, SideIsRaised, cut_raised, left_raised, right_raised, left_stays}
 use Rattle.geo_strips.proofs.CoverageLaws.{right_stays, left_from_cut, left_to_cut, right_from_cut, right_to_cut}
 use Rattle.geo_strips.proofs.coverage.Coverage.+raise.Goals as goal

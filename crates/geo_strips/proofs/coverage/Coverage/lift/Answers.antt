@@ -1,6 +1,4 @@
-use Rattle.std.proofs.Common.{◌≡◌, arith, subst}
-use Rattle.std.proofs.lemmas.Int.{ints, clamps}
-use Rattle.geo_strips.specs.Coverage.{IsTopped}
+use Rattle.geo_strips.proofs.Common.{◌≡◌, arith, subst, ints, clamps, IsTopped}
 use Rattle.geo_strips.proofs.CoverageLaws.{cut_lifted}
 use Rattle.geo_strips.proofs.coverage.Coverage.lift.Goals as goal
 

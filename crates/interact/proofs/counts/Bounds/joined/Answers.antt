@@ -1,7 +1,4 @@
-use Rattle.std.proofs.Common.{◌≡◌, ◌∙◌, rules, w64, to_z, of_z}
-use Rattle.std.specs.Int.{int_max, int_min}
-use Rattle.std.proofs.lemmas.Int.{to_z-of_z}
-use Rattle.geo_strips.proofs.CoverageLaws.{stored_max, stored_min}
+use Rattle.interact.proofs.Common.{◌≡◌, ◌∙◌, rules, w64, to_z, of_z, int_max, int_min, to_z-of_z, stored_max, stored_min}
 use Rattle.interact.proofs.counts.Bounds.joined.Goals as goal
 
 pub returns : goal.returns

@@ -1,5 +1,4 @@
-use Rattle.std.proofs.Common.{◌≡◌, ◌+ℤ◌, arith, w64, to_z, of_z}
-use Rattle.std.proofs.lemmas.Int.{ints}
+use Rattle.interact.proofs.Common.{◌≡◌, ◌+ℤ◌, arith, w64, to_z, of_z, ints}
 use Rattle.interact.proofs.counts.Bounds.shifted.Goals as goal
 
 pub returns : goal.returns

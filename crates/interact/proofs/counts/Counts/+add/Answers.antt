@@ -1,8 +1,5 @@
-use Rattle.std.proofs.Common.{◌≡◌, ◌<◌, arith, Box, Global, false, w64, to_z, of_z, rules, subst, sym, ap, ◌∙◌}
-use Rattle.std.proofs.lemmas.Int.{to_z-of_z}
-use Rattle.geo_strips.specs.Coverage.{begins_before, ends_after}
-use Rattle.interact.specs.declared.counts.Fork.{Fork}
-use Rattle.interact.specs.steps.Counts.{IsTold, forks}
+use Rattle.interact.proofs.Common.{◌≡◌, ◌<◌, arith, Box, Global, false, w64, to_z, of_z, rules, subst, sym, ap, ◌∙◌, to_z-of_z, begins_before}
+use Rattle.interact.proofs.Common.{ends_after, Fork, IsTold, forks}
 use Rattle.interact.proofs.CountLaws.{LeftIsAdded, RightIsAdded, cut, fork_added, left_added, left_same, right_added, right_same}
 use Rattle.interact.proofs.counts.Counts.+add.Goals as goal
 use Rattle.interact.proofs.counts.Counts.+add.Goals.{then-begins_before+in_ok-add, else-begins_before, then-ends_after+in_ok-add-2, else-ends_after}

@@ -1,4 +1,4 @@
-use Rattle.interact.specs.steps.Counts.{forks}
+use Rattle.interact.proofs.Common.{forks}
 use Rattle.interact.proofs.counts.Counts.+add.Given as goal
 
 abbrev pub decreases-add : goal.decreases-add

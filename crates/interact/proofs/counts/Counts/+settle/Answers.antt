@@ -1,10 +1,6 @@
-use Rattle.std.proofs.Common.{◌≡◌, ◌+ℤ◌, ◌<◌, Box, Global, rules, arith, sym, ap, ◌∙◌, w64, to_z, of_z}
-use Rattle.std.specs.Int.{int_max, int_min}
-use Rattle.std.proofs.lemmas.Int.{ints, to_z-of_z}
-use Rattle.geo_strips.proofs.CoverageLaws.{on_ok, stored_max, stored_min}
-use Rattle.interact.specs.declared.counts.Counts.{Even}
-use Rattle.interact.specs.declared.counts.Fork.{Fork}
-use Rattle.interact.specs.steps.Counts.{bounds_of, forks, shifted}
+use Rattle.interact.proofs.Common.{◌≡◌, ◌+ℤ◌, ◌<◌, Box, Global, rules, arith, sym, ap, ◌∙◌, w64, to_z, of_z, int_max, int_min, ints, to_z-of_z}
+use Rattle.interact.proofs.Common.{stored_max, stored_min, Even, Fork, bounds_of, forks, shifted}
+use Rattle.geo_strips.proofs.CoverageLaws.{on_ok}
 use Rattle.interact.proofs.CountLaws.{settle_all, settle_none, settle_stays, cut, left_before, right_before, fork_settled}
 use Rattle.interact.proofs.counts.Counts.+settle.Goals as goal
 

@@ -1,6 +1,4 @@
-use Rattle.std.proofs.Common.{◌≡◌, ◌+ℤ◌, Box, Global, ap, ◌∙◌, arith, subst, w64, to_z, of_z}
-use Rattle.std.proofs.lemmas.Int.{ints, to_z-of_z}
-use Rattle.interact.specs.steps.Counts.{IsTold, shifted}
+use Rattle.interact.proofs.Common.{◌≡◌, ◌+ℤ◌, Box, Global, ap, ◌∙◌, arith, subst, w64, to_z, of_z, ints, to_z-of_z, IsTold, shifted}
 use Rattle.interact.proofs.CountLaws.{cut_shifted}
 use Rattle.interact.proofs.counts.Counts.shift.Goals as goal
 

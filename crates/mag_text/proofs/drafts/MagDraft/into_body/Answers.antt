@@ -1,6 +1,4 @@
-use Rattle.std.proofs.Common.{◌≡◌, ◌∙◌, ap, sym, subst}
-use Rattle.mag_text.specs.Drafts.{Draft}
-use Rattle.mag_text.specs.Drawings.{AreDrawn}
+use Rattle.mag_text.proofs.Common.{◌≡◌, ◌∙◌, ap, sym, subst, Draft, AreDrawn}
 use Rattle.mag_text.proofs.drafts.MagDraft.into_body.Goals as goal
 
 pub paint_all-requires : goal.paint_all-requires

@@ -1,5 +1,4 @@
-use Rattle.std.proofs.Common.{refl}
-use Rattle.std.proofs.lemmas.Result.{IfOk-weaker}
+use Rattle.magex_top.proofs.Common.{refl, IfOk-weaker}
 use Rattle.magex_top.proofs.session.RunSessionSession.answer_line.Goals as goal
 
 pub returns-clause-effect : goal.returns-clause-effect

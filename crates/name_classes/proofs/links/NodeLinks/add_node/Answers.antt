@@ -1,10 +1,5 @@
-use Rattle.std.proofs.Common.{◌≡◌, ℕ, true, List, length, take, inl, inr, refl, sym, subst}
-use Rattle.std.proofs.lemmas.Option.{slice_get_read}
-use Rattle.partition.specs.FiniteSets.Lists.{In}
-use Rattle.partition.proofs.FiniteSets.Places.{In-slice_get, take-slice_get}
-use Rattle.ext_model.specs.RecordNames.{names_of}
-use Rattle.name_classes.specs.steps.Paths.{IsEndFrom}
-use Rattle.name_classes.specs.steps.Links.{IsGlobalName}
+use Rattle.name_classes.proofs.Common.{◌≡◌, ℕ, true, List, length, take, inl, inr, refl, sym, subst, slice_get_read, In, In-slice_get}
+use Rattle.name_classes.proofs.Common.{take-slice_get, names_of, IsEndFrom, IsGlobalName}
 use Rattle.name_classes.proofs.LinkLaws.{Grown, node_name_of, global_name, none_added, alias_added}
 use Rattle.name_classes.proofs.links.NodeLinks.add_node.Goals as goal
 

@@ -1,4 +1,4 @@
-use Rattle.std.proofs.Common.{take}
+use Rattle.name_classes.proofs.Common.{take}
 use Rattle.name_classes.proofs.LinkLaws.{Grown}
 use Rattle.name_classes.proofs.links.NodeLinks.add_node.Given as goal
 

@@ -1,6 +1,4 @@
-use Rattle.std.proofs.Common.{sym, ◌∙◌, arith}
-use Rattle.std.proofs.lemmas.Option.{slice_get_within, get_or_from_slice_get}
-use Rattle.full_names.specs.ElementTree.Trees.{branches_of}
+use Rattle.name_classes.proofs.Common.{sym, ◌∙◌, arith, slice_get_within, get_or_from_slice_get, branches_of}
 use Rattle.name_classes.proofs.BranchLaws.{table_finds, table_lacks, tables_reach, table_here, branches_here}
 use Rattle.name_classes.proofs.paths.Resolver.branch.Goals as goal
 

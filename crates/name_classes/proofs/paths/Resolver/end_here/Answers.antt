@@ -1,8 +1,5 @@
-use Rattle.std.proofs.Common.{List, length, sym, ap, subst, arith}
-use Rattle.std.proofs.lemmas.Option.{slice_get_within}
-use Rattle.full_names.specs.ElementTree.declared.tree.TreeElement.{TreeElement}
-use Rattle.full_names.specs.ElementTree.declared.tree.ElementTree.{ElementTree}
-use Rattle.full_names.specs.Names.{IsReached, IsSpotOf, LacksName}
+use Rattle.name_classes.proofs.Common.{List, length, sym, ap, subst, arith, slice_get_within, TreeElement, ElementTree, IsReached, IsSpotOf}
+use Rattle.name_classes.proofs.Common.{LacksName}
 use Rattle.name_classes.proofs.TreeLaws.{element_at, reached}
 use Rattle.name_classes.proofs.PathLaws.{name_here, name_end}
 use Rattle.name_classes.proofs.paths.Resolver.end_here.Goals as goal

@@ -1,8 +1,5 @@
-use Rattle.std.proofs.Common.{◌<◌, ◌+◌, ◌-◌, length, refl, ap, subst, arith}
-use Rattle.full_names.specs.ElementTree.declared.tree.TreeElement.{TreeElement}
-use Rattle.full_names.specs.ElementTree.declared.tree.ElementTree.{ElementTree}
-use Rattle.full_names.specs.Names.{IsSpotOf, LacksName}
-use Rattle.name_classes.specs.steps.Paths.{IsBranchOf, LacksUse}
+use Rattle.name_classes.proofs.Common.{◌<◌, ◌+◌, length, refl, ap, subst, arith, TreeElement, ElementTree, IsSpotOf, LacksName, IsBranchOf, LacksUse}
+use Rattle.std.proofs.Common.{◌-◌}
 use Rattle.name_classes.proofs.PathLaws.{walk_start, walk_step, walk_end, walk_lost, walk_stuck, walk_here, walk_inside, walk_reaches}
 use Rattle.name_classes.proofs.paths.Resolver.end_of.Goals as goal
 

@@ -1,4 +1,4 @@
-use Rattle.std.proofs.Common.{length}
+use Rattle.name_classes.proofs.Common.{length}
 use Rattle.name_classes.proofs.PathLaws.{IsWalk}
 use Rattle.name_classes.proofs.paths.Resolver.end_of.Given as goal
 

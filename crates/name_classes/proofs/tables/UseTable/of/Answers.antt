@@ -1,12 +1,7 @@
-use Rattle.std.proofs.Common.{◌≡◌, ℕ, List, take, length, cond, refl, sym, ◌∙◌, ap, subst, arith}
-use Rattle.std.specs.Prelude.{Some}
-use Rattle.std.specs.Str.{bytes_eq}
+use Rattle.name_classes.proofs.Common.{◌≡◌, ℕ, List, take, length, cond, refl, sym, ◌∙◌, ap, subst, arith, Some, bytes_eq, slice_get_read}
+use Rattle.name_classes.proofs.Common.{take-slice_get, UseRec, IsTableOf, number_of}
 use Rattle.std.proofs.lemmas.List.{length-take-le}
-use Rattle.std.proofs.lemmas.Option.{slice_get_read}
 use Rattle.std.proofs.lemmas.Map.Text.{hash_map_updates_str}
-use Rattle.partition.proofs.FiniteSets.Places.{take-slice_get}
-use Rattle.ext_model.specs.declared.records.UseRec.{UseRec}
-use Rattle.name_classes.specs.steps.UseTables.{IsTableOf, number_of}
 use Rattle.name_classes.proofs.TableLaws.{table_push}
 use Rattle.name_classes.proofs.tables.UseTable.of.Goals as goal
 

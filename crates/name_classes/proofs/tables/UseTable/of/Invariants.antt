@@ -1,5 +1,4 @@
-use Rattle.std.proofs.Common.{take}
-use Rattle.name_classes.specs.steps.UseTables.{IsTableOf}
+use Rattle.name_classes.proofs.Common.{take, IsTableOf}
 use Rattle.name_classes.proofs.tables.UseTable.of.Given as goal
 
 abbrev pub invariant-loop-number : goal.invariant-loop-number

@@ -1,8 +1,5 @@
-use Rattle.std.proofs.Common.{◌≡◌, ℕ, List, length, sym, subst, arith}
-use Rattle.std.specs.List.{range_with_len}
+use Rattle.rect_overlays.proofs.Common.{◌≡◌, ℕ, List, length, sym, subst, arith, range_with_len, Regions, IsWholeOf}
 use Rattle.geo_core.proofs.FiniteSets.Searches.{range_one_more}
-use Rattle.rect_overlays.specs.declared.regions.Regions.{Regions}
-use Rattle.rect_overlays.specs.steps.Regions.{IsWholeOf}
 use Rattle.rect_overlays.proofs.Begin.{whole_of_none, whole_more, whole_begins}
 use Rattle.rect_overlays.proofs.regions.Regions.around.Goals as goal
 

@@ -1,5 +1,4 @@
-use Rattle.std.specs.List.{range_with_len}
-use Rattle.rect_overlays.specs.steps.Regions.{IsWholeOf}
+use Rattle.rect_overlays.proofs.Common.{range_with_len, IsWholeOf}
 use Rattle.rect_overlays.proofs.regions.Regions.around.Given as goal
 
 -- the rectangles so far that have squares are gathered

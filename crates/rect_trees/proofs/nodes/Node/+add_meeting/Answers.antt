@@ -1,7 +1,5 @@
-use Rattle.std.proofs.Common.{◌≡◌, false, ℕ, List, ◌++◌, sym, ap, ◌∙◌, append-nil}
-use Rattle.geo_core.specs.declared.squares.Rect.{Rect}
-use Rattle.geo_core.specs.Areas.{common_rect, has_square}
-use Rattle.rect_trees.specs.Nodes.{hull_of}
+use Rattle.rect_trees.proofs.Common.{◌≡◌, false, ℕ, List, ◌++◌, sym, ap, ◌∙◌, Rect, common_rect, has_square, hull_of}
+use Rattle.std.proofs.Common.{append-nil}
 use Rattle.rect_trees.proofs.HullLaws.{none_meets}
 use Rattle.rect_trees.proofs.nodes.Node.+add_meeting.Goals as goal
 

@@ -1,12 +1,8 @@
-use Rattle.std.proofs.Common.{◌≡◌, ℕ, List, ◌++◌, Some, None, false, find, sym, ap, ◌∙◌}
-use Rattle.std.specs.Prelude.{Option}
+use Rattle.rect_trees.proofs.Common.{◌≡◌, ℕ, List, ◌++◌, Some, None, false, find, sym, ap, ◌∙◌, Option, Rect, common_rect, has_square, meets_at}
+use Rattle.rect_trees.proofs.Common.{positions_of, hull_of}
 use Rattle.std.specs.Option.{option_or}
 use Rattle.std.proofs.lemmas.List.Folds.{find-append}
-use Rattle.geo_core.specs.declared.squares.Rect.{Rect}
-use Rattle.geo_core.specs.Areas.{common_rect, has_square}
 use Rattle.rect_trees.specs.declared.nodes.Sides.{Sides}
-use Rattle.rect_trees.specs.Positions.{meets_at}
-use Rattle.rect_trees.specs.Nodes.{positions_of, hull_of}
 use Rattle.rect_trees.proofs.HullLaws.{none_first}
 use Rattle.rect_trees.proofs.nodes.Node.+first_meeting.Goals as goal
 

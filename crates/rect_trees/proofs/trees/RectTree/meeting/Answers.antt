@@ -1,8 +1,4 @@
-use Rattle.std.proofs.Common.{◌≡◌, List, filter, refl, subst}
-use Rattle.geo_core.specs.declared.squares.Rect.{Rect}
-use Rattle.rect_trees.specs.Positions.{meets_at}
-use Rattle.rect_trees.specs.Nodes.{root_positions}
-use Rattle.rect_trees.specs.Meetings.{AreMeeting}
+use Rattle.rect_trees.proofs.Common.{◌≡◌, List, filter, refl, subst, Rect, meets_at, root_positions, AreMeeting}
 use Rattle.rect_trees.proofs.MeetingLaws.{met_in_order}
 use Rattle.rect_trees.proofs.trees.RectTree.meeting.Goals as goal
 use Rattle.rect_trees.proofs.trees.RectTree.meeting.Goals.{in-Some+in_ok-add_meeting, in_default}

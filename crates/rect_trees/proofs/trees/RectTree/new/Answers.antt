@@ -1,6 +1,5 @@
-use Rattle.std.proofs.Common.{◌≡◌, map, ap, ◌∙◌, rules, arith}
+use Rattle.rect_trees.proofs.Common.{◌≡◌, map, ap, ◌∙◌, rules, arith, position_of}
 use Rattle.std.proofs.lemmas.Bool.Decides.{nat_tests}
-use Rattle.rect_trees.specs.Positions.{position_of}
 use Rattle.rect_trees.proofs.PlaceLaws.{places_within}
 use Rattle.rect_trees.proofs.RootLaws.{no_root, grown_root}
 use Rattle.rect_trees.proofs.trees.RectTree.new.Goals as goal

@@ -1,8 +1,5 @@
-use Rattle.std.proofs.Common.{◌≡◌, List, Some, None, find, length, refl, ap, subst, arith}
+use Rattle.rect_trees.proofs.Common.{◌≡◌, List, Some, None, find, length, refl, ap, subst, arith, Rect, meets_at, root_positions}
 use Rattle.std.proofs.lemmas.Option.{slice_get_read}
-use Rattle.geo_core.specs.declared.squares.Rect.{Rect}
-use Rattle.rect_trees.specs.Positions.{meets_at}
-use Rattle.rect_trees.specs.Nodes.{root_positions}
 use Rattle.rect_trees.specs.Meetings.{IsMeeting, MissesAll}
 use Rattle.rect_trees.proofs.MeetingLaws.{found_within, found_meets_area, none_meets_area}
 use Rattle.rect_trees.proofs.trees.RectTree.some_meeting.Goals as goal

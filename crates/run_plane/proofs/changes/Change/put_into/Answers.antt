@@ -1,4 +1,4 @@
-use Rattle.std.proofs.Common.{◌≡◌, ◌≤◌, ◌+◌, ◌-◌, ℕ, ◌++◌, length, subst, ap, ◌∙◌, arith, rules}
+use Rattle.run_plane.proofs.Common.{◌≡◌, ◌≤◌, ◌+◌, ◌-◌, ℕ, ◌++◌, length, subst, ap, ◌∙◌, arith, rules}
 use Rattle.std.specs.Prelude.{IsOk, vec_len, vec_capacity}
 use Rattle.run_plane.proofs.CommitLaws.{committed}
 use Rattle.run_plane.proofs.changes.Change.put_into.Goals as goal

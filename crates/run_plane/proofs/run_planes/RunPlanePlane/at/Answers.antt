@@ -1,5 +1,4 @@
-use Rattle.std.proofs.Common.{[], sym, subst, rules}
-use Rattle.run_plane.specs.Rows.{edge, AreRuns}
+use Rattle.run_plane.proofs.Common.{[], sym, subst, rules, edge, AreRuns}
 use Rattle.run_plane.proofs.RowLaws.{runs_ordered}
 use Rattle.run_plane.proofs.run_planes.RunPlanePlane.at.Goals as goal
 

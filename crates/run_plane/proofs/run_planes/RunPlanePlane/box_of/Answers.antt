@@ -1,11 +1,5 @@
-use Rattle.std.proofs.Common.{◌≡◌, List, sym, subst, Option, Some, None}
-use Rattle.std.specs.Prelude.{IfSome, MatchOption}
-use Rattle.geo_core.specs.declared.squares.Square.{Square}
-use Rattle.geo_core.specs.declared.squares.Rect.{Rect}
-use Rattle.geo_core.specs.Areas.{IsNear}
-use Rattle.geo_core.specs.Planes.{IsBox}
-use Rattle.run_plane.specs.declared.rows.Row.{Row}
-use Rattle.run_plane.specs.Rows.{number_at, AreRows}
+use Rattle.run_plane.proofs.Common.{◌≡◌, List, sym, subst, Option, Some, None, MatchOption, Square, Rect, IsNear, IsBox, Row, number_at, AreRows}
+use Rattle.std.specs.Prelude.{IfSome}
 use Rattle.run_plane.proofs.BoxLaws.{box_near}
 use Rattle.run_plane.proofs.run_planes.RunPlanePlane.box_of.Goals as goal
 

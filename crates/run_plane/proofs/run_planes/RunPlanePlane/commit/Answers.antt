@@ -1,8 +1,4 @@
-use Rattle.std.proofs.Common.{List, sym, subst, arith}
-use Rattle.geo_core.specs.Planes.{AreSet}
-use Rattle.run_plane.specs.declared.rows.Row.{Row}
-use Rattle.run_plane.specs.Rows.{number_at, AreRows}
-use Rattle.run_plane.specs.Contents.{Contents}
+use Rattle.run_plane.proofs.Common.{List, sym, subst, arith, AreSet, Row, number_at, AreRows, Contents}
 use Rattle.run_plane.proofs.CommitLaws.{unchanged}
 use Rattle.run_plane.proofs.run_planes.RunPlanePlane.commit.Goals as goal
 

@@ -1,13 +1,5 @@
-use Rattle.std.proofs.Common.{◌^◌, pos, List, get_or, subst}
-use Rattle.finite_sets.proofs.Members.{In-get_or}
-use Rattle.geo_core.specs.declared.limits.TheConstants.{PLANE_EDGE}
-use Rattle.geo_core.specs.declared.squares.Piece.{Piece}
-use Rattle.geo_core.specs.Planes.{HasValue}
-use Rattle.geo_core.specs.Strips.{IsStrips}
-use Rattle.run_plane.specs.declared.rows.Row.{Row}
-use Rattle.run_plane.specs.Rows.{edge, number_at}
-use Rattle.run_plane.specs.Contents.{Contents}
-use Rattle.run_plane.specs.steps.Listings.{AreBetween, IsInPieces}
+use Rattle.run_plane.proofs.Common.{◌^◌, pos, List, get_or, subst, In-get_or, PLANE_EDGE, Piece, HasValue, IsStrips, Row, edge, number_at, Contents}
+use Rattle.run_plane.proofs.Common.{AreBetween, IsInPieces}
 use Rattle.run_plane.proofs.BoxLaws.{strip_near}
 use Rattle.run_plane.proofs.PlaneLaws.{strips_of_rows}
 use Rattle.run_plane.proofs.run_planes.RunPlanePlane.strips.Goals as goal

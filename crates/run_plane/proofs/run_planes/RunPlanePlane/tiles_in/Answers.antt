@@ -1,10 +1,4 @@
-use Rattle.std.proofs.Common.{List, subst, rules}
-use Rattle.geo_core.specs.declared.squares.Piece.{Piece}
-use Rattle.geo_core.specs.Planes.{AreTilesIn}
-use Rattle.run_plane.specs.declared.rows.Row.{Row}
-use Rattle.run_plane.specs.Rows.{number_at}
-use Rattle.run_plane.specs.Contents.{Contents}
-use Rattle.run_plane.specs.steps.Listings.{AreBetween, AreTilesFrom}
+use Rattle.run_plane.proofs.Common.{List, subst, rules, Piece, AreTilesIn, Row, number_at, Contents, AreBetween, AreTilesFrom}
 use Rattle.run_plane.proofs.PlaneLaws.{tiles_of_rows}
 use Rattle.run_plane.proofs.run_planes.RunPlanePlane.tiles_in.Goals as goal
 

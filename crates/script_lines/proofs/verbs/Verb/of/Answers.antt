@@ -1,4 +1,4 @@
-use Rattle.std.proofs.Common.{rules}
+use Rattle.script_lines.proofs.Common.{rules}
 use Rattle.script_lines.specs.Verbs.{verb_of}
 use Rattle.script_lines.proofs.verbs.Verb.of.Goals as goal
 

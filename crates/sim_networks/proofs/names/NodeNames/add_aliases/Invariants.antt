@@ -1,6 +1,4 @@
-use Rattle.std.proofs.Common.{take}
-use Rattle.switch_net.specs.SimRecords.{names_of_aliases}
-use Rattle.sim_networks.specs.steps.Numbering.{AddsNames}
+use Rattle.sim_networks.proofs.Common.{take, names_of_aliases, AddsNames}
 use Rattle.sim_networks.proofs.names.NodeNames.add_aliases.Given as goal
 
 abbrev pub invariant-loop-pair : goal.invariant-loop-pair

@@ -1,5 +1,4 @@
-use Rattle.std.proofs.Common.{map, take}
-use Rattle.sim_networks.specs.steps.Numbering.{AddsNames}
+use Rattle.sim_networks.proofs.Common.{map, take, AddsNames}
 use Rattle.sim_networks.proofs.names.NodeNames.add_caps.Given as goal
 
 abbrev pub invariant-loop-cap : goal.invariant-loop-cap

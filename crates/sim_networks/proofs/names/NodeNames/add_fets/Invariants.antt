@@ -1,7 +1,4 @@
-use Rattle.std.proofs.Common.{map, take}
-use Rattle.switch_net.specs.SimRecords.{names_of_transistors}
-use Rattle.sim_networks.specs.SimNetworks.{transistor_of}
-use Rattle.sim_networks.specs.steps.Numbering.{AddsNames}
+use Rattle.sim_networks.proofs.Common.{map, take, names_of_transistors, transistor_of, AddsNames}
 use Rattle.sim_networks.proofs.names.NodeNames.add_fets.Given as goal
 
 abbrev pub invariant-loop-fet : goal.invariant-loop-fet

@@ -1,4 +1,4 @@
-use Rattle.std.proofs.Common.{◌≡◌, List, ℕ, [], ◌∷◌, ◌++◌, length, get_or, ◌∙◌, sym, ap, subst, arith}
+use Rattle.sim_networks.proofs.Common.{◌≡◌, List, ℕ, [], ◌∷◌, ◌++◌, length, get_or, ◌∙◌, sym, ap, subst, arith}
 use Rattle.sim_networks.proofs.NumberLaws.{named_all, named_more}
 use Rattle.sim_networks.proofs.nodes.NodeTable.listed.Goals as goal
 

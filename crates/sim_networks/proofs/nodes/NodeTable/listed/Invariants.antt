@@ -1,5 +1,4 @@
-use Rattle.std.proofs.Common.{◌≡◌, take}
-use Rattle.sim_networks.specs.steps.Numbering.{names_with_nodes}
+use Rattle.sim_networks.proofs.Common.{◌≡◌, take, names_with_nodes}
 use Rattle.sim_networks.proofs.nodes.NodeTable.listed.Given as goal
 
 abbrev pub invariant-loop-number : goal.invariant-loop-number

@@ -1,7 +1,6 @@
-use Rattle.std.proofs.Common.{sym, ◌∙◌}
+use Rattle.sim_networks.proofs.Common.{sym, ◌∙◌, stands_nowhere}
 use Rattle.sim_networks.proofs.NumberLaws.{found_number, label_read}
 use Rattle.sim_networks.proofs.nodes.NodeTable.node.Goals as goal
-use Rattle.name_index.proofs.Positions.{stands_nowhere}
 
 pub returns-in_err-number : goal.returns-in_err-number
 returns-in_err-number c =

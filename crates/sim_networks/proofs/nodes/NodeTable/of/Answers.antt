@@ -1,4 +1,4 @@
-use Rattle.sim_networks.specs.declared.nodes.NodeTable.{NodeTable}
+use Rattle.sim_networks.proofs.Common.{NodeTable}
 use Rattle.sim_networks.proofs.NodeLaws.{file_aliases_known, table_made}
 use Rattle.sim_networks.proofs.nodes.NodeTable.of.Goals as goal
 

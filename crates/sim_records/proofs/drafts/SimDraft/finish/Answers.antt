@@ -1,8 +1,5 @@
-use Rattle.std.proofs.Common.{◌≤◌, ◌<◌, length, refl, inr, arith, rules}
-use Rattle.sim_text.specs.declared.limits.TheConstants.{LONGEST_TEXT}
-use Rattle.sim_text.specs.WrittenTexts.{sim_text}
-use Rattle.sim_records.specs.declared.limits.TheConstants.{MOST_SWITCHES}
-use Rattle.sim_records.specs.SimRecords.{sim_of}
+use Rattle.sim_records.proofs.Common.{◌≤◌, ◌<◌, length, arith, rules, LONGEST_TEXT, sim_text, MOST_SWITCHES, sim_of}
+use Rattle.std.proofs.Common.{refl, inr}
 use Rattle.sim_records.proofs.DraftLaws.{draft_is_as_far, long_is_long, short_is_whole, few_are_counted}
 use Rattle.sim_records.proofs.drafts.SimDraft.finish.Goals as goal
 

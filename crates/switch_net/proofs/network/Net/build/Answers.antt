@@ -1,4 +1,5 @@
-use Rattle.std.proofs.Common.{◌≡◌, ◌∙◌, arith, replicate}
+use Rattle.switch_net.proofs.Common.{◌≡◌, ◌∙◌, arith}
+use Rattle.std.proofs.Common.{replicate}
 use Rattle.std.proofs.lemmas.List.Elements.{All-replicate}
 use Rattle.switch_net.specs.Network.{IsSize}
 use Rattle.switch_net.proofs.network.Net.build.Goals as goal

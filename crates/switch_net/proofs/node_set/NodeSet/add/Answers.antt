@@ -1,7 +1,7 @@
 use Rattle.switch_net.proofs.Lent.{refill-set}
 use Rattle.switch_net.proofs.Listing.{has_room, added}
 use Rattle.switch_net.proofs.node_set.NodeSet.add.Goals as goal
-use Rattle.std.proofs.Common.{true}
+use Rattle.switch_net.proofs.Common.{true}
 
 pub bounds-items_mut-self : goal.bounds-items_mut-self
 bounds-items_mut-self c =

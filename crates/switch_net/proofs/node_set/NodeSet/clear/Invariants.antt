@@ -1,4 +1,4 @@
-use Rattle.std.proofs.Common.{◌≡◌, length}
+use Rattle.switch_net.proofs.Common.{◌≡◌, length}
 use Rattle.switch_net.proofs.node_set.NodeSet.clear.Given as goal
 
 abbrev pub invariant-loop-self : goal.invariant-loop-self

@@ -1,4 +1,4 @@
-use Rattle.std.proofs.Common.{◌-◌, false, refl, slice_index_or}
+use Rattle.switch_net.proofs.Common.{◌-◌, false, refl, slice_index_or}
 use Rattle.switch_net.proofs.Lent.{refill-set}
 use Rattle.switch_net.proofs.Listing.{taken_from}
 use Rattle.switch_net.proofs.node_set.NodeSet.take_last.Goals as goal

@@ -1,12 +1,7 @@
 -- The index has the new names, and the lists keep their limits.
-use Rattle.std.proofs.Common.{◌≡◌, ◌<◌, ℕ, length, arith, refl, ap, ◌∙◌}
-use Rattle.std.specs.Prelude.{Some, if◌then◌else◌}
-use Rattle.std.specs.List.{list_any}
-use Rattle.std.specs.Str.{bytes_eq}
-use Rattle.tech_model.specs.LayerWords.{layer_in}
-use Rattle.tech_model.specs.declared.limits.TheConstants.{MOST_TYPES}
+use Rattle.tech_draft.proofs.Common.{◌≡◌, ◌<◌, ℕ, length, arith, refl, ap, ◌∙◌, Some, if◌then◌else◌, list_any, bytes_eq, layer_in, MOST_TYPES}
+use Rattle.tech_draft.proofs.Common.{pieces_of}
 use Rattle.tech_draft.specs.Kept.{draft_of}
-use Rattle.tech_draft.specs.Words.{pieces_of}
 use Rattle.tech_draft.proofs.IndexLaws.{atom-kept}
 use Rattle.tech_draft.proofs.draft.Draft.add_atom.Goals as goal
 

@@ -1,11 +1,5 @@
 -- The layers of the residues are in range.
-use Rattle.std.proofs.Common.{◌≡◌, ◌<◌, ◌++◌, ◌∙◌, List, ap, sym, subst, rules}
-use Rattle.std.specs.Prelude.{All}
-use Rattle.text_scan.specs.Words.{words_of}
-use Rattle.tech_model.specs.declared.raw.LayerId.{LayerId}
-use Rattle.tech_model.specs.declared.raw.TypeId.{TypeId}
-use Rattle.tech_model.specs.declared.limits.TheConstants.{MOST_TYPES}
-use Rattle.tech_draft.specs.SetLines.{residues_of_layer}
+use Rattle.tech_draft.proofs.Common.{◌≡◌, ◌<◌, ◌++◌, ◌∙◌, List, ap, sym, subst, rules, All, words_of, LayerId, TypeId, MOST_TYPES, residues_of_layer}
 use Rattle.tech_draft.proofs.IndexLaws.{noted-kept}
 use Rattle.tech_draft.proofs.draft.Draft.add_contact.Goals as goal
 

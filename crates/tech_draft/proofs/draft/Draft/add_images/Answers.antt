@@ -1,6 +1,5 @@
 -- The index keeps the names of layers, and the lists keep their limits.
-use Rattle.std.proofs.Common.{length, refl, ap, arith, rules}
-use Rattle.tech_draft.specs.Drafts.{Drafted}
+use Rattle.tech_draft.proofs.Common.{length, refl, ap, arith, rules, Drafted}
 use Rattle.tech_draft.proofs.IndexLaws.{images-kept}
 use Rattle.tech_draft.proofs.draft.Draft.add_images.Goals as goal
 

@@ -1,6 +1,4 @@
-use Rattle.std.proofs.Common.{◌≡◌, drop}
-use Rattle.std.specs.Prelude.{fold}
-use Rattle.tech_draft.specs.ListLines.{with_pair, with_partners, with_pair_list}
+use Rattle.tech_draft.proofs.Common.{◌≡◌, drop, fold, with_pair, with_partners, with_pair_list}
 use Rattle.tech_draft.proofs.draft.Draft.add_partners.Given as goal
 
 -- what is left gives what all give

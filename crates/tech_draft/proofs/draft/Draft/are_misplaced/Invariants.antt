@@ -1,7 +1,4 @@
-use Rattle.std.proofs.Common.{◌≡◌, ◌++◌, [], map}
-use Rattle.text_scan.specs.Words.{words_of}
-use Rattle.tech_draft.specs.Lookups.{plane_of_word}
-use Rattle.tech_draft.specs.SetLines.{has_repeat}
+use Rattle.tech_draft.proofs.Common.{◌≡◌, ◌++◌, [], map, words_of, plane_of_word, has_repeat}
 use Rattle.tech_draft.proofs.draft.Draft.are_misplaced.Given as goal
 
 -- the planes so far, and what is left answers what all answer

@@ -1,5 +1,4 @@
-use Rattle.std.proofs.Common.{◌≡◌, length}
-use Rattle.tech_draft.specs.Lookups.{first_on}
+use Rattle.tech_draft.proofs.Common.{◌≡◌, length, first_on}
 use Rattle.tech_draft.proofs.draft.Draft.first_on.Given as goal
 
 -- what is left answers what all answer

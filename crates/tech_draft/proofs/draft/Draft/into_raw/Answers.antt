@@ -1,7 +1,6 @@
 -- What a sound draft is finished to fits together.
-use Rattle.std.proofs.Common.{subst, sym}
+use Rattle.tech_draft.proofs.Common.{subst, sym, IsWellFormed}
 use Rattle.std.proofs.lemmas.Result.{IfOk-weaker}
-use Rattle.tech_model.specs.WellFormed.{IsWellFormed}
 use Rattle.tech_draft.proofs.FinishedDrafts.{finished-well_formed}
 use Rattle.tech_draft.proofs.draft.Draft.into_raw.Goals as goal
 

@@ -1,8 +1,6 @@
-use Rattle.std.proofs.Common.{◌≡◌, ◌≤◌, length, arith, rules}
-use Rattle.tech_draft.specs.Lookups.{layer_of_word}
+use Rattle.tech_draft.proofs.Common.{◌≡◌, ◌≤◌, length, arith, rules, layer_of_word, MOST_TYPES}
 use Rattle.tech_draft.proofs.IndexLaws.{layer_of_word-bound}
 use Rattle.tech_draft.proofs.draft.Draft.layer_of_word.Goals as goal
-use Rattle.tech_model.specs.declared.limits.TheConstants.{MOST_TYPES}
 
 pub returns-clause-in_range : goal.returns-clause-in_range
 returns-clause-in_range c =

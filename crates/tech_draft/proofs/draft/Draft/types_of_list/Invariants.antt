@@ -1,6 +1,4 @@
-use Rattle.std.proofs.Common.{◌≡◌}
-use Rattle.std.specs.Prelude.{fold}
-use Rattle.tech_draft.specs.Lookups.{with_type_once, entry_types, types_of_list}
+use Rattle.tech_draft.proofs.Common.{◌≡◌, fold, with_type_once, entry_types, types_of_list}
 use Rattle.tech_draft.proofs.draft.Draft.types_of_list.Given as goal
 
 -- what is left gives what all give

@@ -1,6 +1,4 @@
-use Rattle.std.proofs.Common.{◌≡◌, drop}
-use Rattle.std.specs.Prelude.{fold}
-use Rattle.tech_draft.specs.Lookups.{with_type_once}
+use Rattle.tech_draft.proofs.Common.{◌≡◌, drop, fold, with_type_once}
 use Rattle.tech_draft.proofs.draft.lookups.push_each_once.Given as goal
 
 -- what is left gives what all give

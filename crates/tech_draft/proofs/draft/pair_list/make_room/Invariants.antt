@@ -1,4 +1,4 @@
-use Rattle.std.proofs.Common.{◌≡◌, ◌+◌, ◌-◌, ℕ, false, get_or, length}
+use Rattle.tech_draft.proofs.Common.{◌≡◌, ◌+◌, ◌-◌, ℕ, false, get_or, length}
 use Rattle.tech_draft.proofs.draft.pair_list.make_room.Given as goal
 
 -- the flags read as before

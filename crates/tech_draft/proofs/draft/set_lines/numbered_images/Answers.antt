@@ -1,7 +1,7 @@
 -- The first number that is left is that of the next image.
-use Rattle.std.proofs.Common.{◌≡◌, ◌+◌, ◌-◌, ◌++◌, ◌∙◌, ℕ, List, map, ap, sym, arith, append_assoc}
+use Rattle.tech_draft.proofs.Common.{◌≡◌, ◌+◌, ◌-◌, ◌++◌, ◌∙◌, ℕ, List, map, ap, sym, arith, type_number}
+use Rattle.std.proofs.Common.{append_assoc}
 use Rattle.finite_sets.proofs.Searches.{range_split}
-use Rattle.tech_model.specs.Types.{type_number}
 use Rattle.tech_draft.proofs.draft.set_lines.numbered_images.Goals as goal
 
 pub loop-number-preserved : goal.loop-number-preserved

@@ -1,6 +1,4 @@
-use Rattle.std.proofs.Common.{◌≡◌, ◌++◌, ◌∷◌, ◌-◌, ◌+◌, map}
-use Rattle.std.specs.List.{range_with_len}
-use Rattle.tech_model.specs.Types.{type_number}
+use Rattle.tech_draft.proofs.Common.{◌≡◌, ◌++◌, ◌∷◌, ◌-◌, ◌+◌, map, range_with_len, type_number}
 use Rattle.tech_draft.proofs.draft.set_lines.numbered_images.Given as goal
 
 -- what is left gives what all give

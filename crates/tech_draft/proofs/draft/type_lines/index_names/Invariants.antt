@@ -1,12 +1,5 @@
-use Rattle.std.proofs.Common.{◌≡◌, ◌++◌, ℕ, List, [], Some}
-use Rattle.std.specs.Prelude.{if◌then◌else◌}
-use Rattle.std.specs.List.{list_any}
-use Rattle.std.specs.Str.{bytes_eq}
-use Rattle.tech_model.specs.declared.raw.RawTech.{RawTech}
-use Rattle.tech_model.specs.LayerWords.{layer_in}
-use Rattle.tech_model.specs.Types.{layer_named}
-use Rattle.tech_draft.specs.Words.{pieces_of}
-use Rattle.tech_draft.specs.TypeLines.{new_names}
+use Rattle.tech_draft.proofs.Common.{◌≡◌, ◌++◌, ℕ, List, [], if◌then◌else◌, list_any, bytes_eq, RawTech, layer_in, layer_named, pieces_of, new_names}
+use Rattle.std.proofs.Common.{Some}
 use Rattle.tech_draft.proofs.draft.type_lines.index_names.Given as goal
 
 -- the names so far name the layer, and what is left answers as all do

@@ -1,8 +1,5 @@
-use Rattle.std.proofs.Common.{ℕ, List, Vec, Global, ◌∙◌, ap, if◌then◌else◌}
-use Rattle.std.specs.Prelude.{Some}
-use Rattle.std.specs.Str.{bytes_eq}
+use Rattle.tech_model.proofs.Common.{ℕ, List, Vec, Global, ◌∙◌, ap, if◌then◌else◌, Some, bytes_eq, layer_in}
 use Rattle.tech_model.proofs.LayerWordLaws.{layer_entries, layer_in-insert_entry}
-use Rattle.tech_model.specs.LayerWords.{layer_in}
 use Rattle.tech_model.proofs.index.LayerIndex.add.Goals as goal
 
 pub returns-clause-added : goal.returns-clause-added

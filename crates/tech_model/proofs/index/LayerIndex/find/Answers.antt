@@ -1,7 +1,5 @@
-use Rattle.std.proofs.Common.{◌≡◌, ℕ, List, Vec, Global, ◌∙◌, ap, arith}
+use Rattle.tech_model.proofs.Common.{◌≡◌, ℕ, List, Vec, Global, ◌∙◌, ap, arith, common_steps, layer_in}
 use Rattle.std.specs.Option.{option_copied}
-use Rattle.std.proofs.lemmas.Grind.{common_steps}
-use Rattle.tech_model.specs.LayerWords.{layer_in}
 use Rattle.tech_model.proofs.LayerWordLaws.{lookup-is_at}
 use Rattle.tech_model.proofs.index.LayerIndex.find.Goals as goal
 

@@ -1,6 +1,4 @@
-use Rattle.std.proofs.Common.{Bool, sym, ap, ◌∙◌, ◌==◌, ◌&&◌, ◌||◌, get_or}
-use Rattle.std.proofs.lemmas.List.Folds.{list_any_more}
-use Rattle.tech_model.specs.Types.{is_of}
+use Rattle.tech_model.proofs.Common.{Bool, sym, ap, ◌∙◌, ◌==◌, ◌&&◌, ◌||◌, get_or, list_any_more, is_of}
 use Rattle.tech_model.proofs.PairTableLaws.{is_of_more}
 use Rattle.tech_model.proofs.pair_table.PairTable.of.Goals as goal
 

@@ -1,4 +1,4 @@
-use Rattle.std.proofs.Common.{take}
+use Rattle.tech_model.proofs.Common.{take}
 use Rattle.tech_model.specs.PairTables.{HasPairs}
 use Rattle.tech_model.proofs.pair_table.PairTable.of.Given as goal
 

@@ -1,4 +1,4 @@
-use Rattle.std.proofs.Common.{arith}
+use Rattle.tech_model.proofs.Common.{arith}
 use Rattle.tech_model.proofs.PairTableLaws.{row_has-set}
 use Rattle.tech_model.proofs.pair_table.PairTable.put.Goals as goal
 

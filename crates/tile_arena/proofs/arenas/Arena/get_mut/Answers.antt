@@ -1,6 +1,4 @@
-use Rattle.std.proofs.Common.{◌≡◌, refl, ◌∙◌}
-use Rattle.std.proofs.lemmas.Option.{slice_get_within}
-use Rattle.tile_arena.specs.declared.slots.Slot.TheVariants.{Live}
+use Rattle.tile_arena.proofs.Common.{◌≡◌, refl, ◌∙◌, slice_get_within, Live}
 use Rattle.tile_arena.proofs.LiveLaws.{live_slot, get-live_slot, live-set}
 use Rattle.tile_arena.proofs.SlotLaws.{IsSound-rewrite}
 use Rattle.tile_arena.proofs.arenas.Arena.get_mut.Goals as goal

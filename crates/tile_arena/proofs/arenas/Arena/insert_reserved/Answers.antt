@@ -1,4 +1,4 @@
-use Rattle.std.proofs.Common.{◌≡◌, ◌+◌, ◌-◌, Some, length, refl, sym, ap, ◌∙◌, arith}
+use Rattle.tile_arena.proofs.Common.{◌≡◌, ◌+◌, ◌-◌, Some, length, refl, sym, ap, ◌∙◌, arith}
 use Rattle.tile_arena.proofs.LiveLaws.{get-live, live-push, live-set}
 use Rattle.tile_arena.proofs.SlotLaws.{full_at_end, next_within, next_is_free, IsSound-push, IsSound-fill}
 use Rattle.tile_arena.proofs.arenas.Arena.insert_reserved.Goals as goal

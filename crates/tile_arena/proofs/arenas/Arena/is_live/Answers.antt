@@ -1,6 +1,5 @@
-use Rattle.std.proofs.Common.{None, is_some, map, sym, ap, ◌∙◌, arith}
-use Rattle.std.proofs.lemmas.List.{get_or_past, length-map}
-use Rattle.tile_arena.specs.Slots.{value_of}
+use Rattle.tile_arena.proofs.Common.{map, sym, ap, ◌∙◌, arith, get_or_past, length-map, value_of}
+use Rattle.std.proofs.Common.{None, is_some}
 use Rattle.tile_arena.proofs.LiveLaws.{get-live, get-live_slot}
 use Rattle.tile_arena.proofs.arenas.Arena.is_live.Goals as goal
 

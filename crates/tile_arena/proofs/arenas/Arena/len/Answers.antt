@@ -1,4 +1,4 @@
-use Rattle.std.proofs.Common.{sym, ◌∙◌}
+use Rattle.tile_arena.proofs.Common.{sym, ◌∙◌}
 use Rattle.tile_arena.proofs.LiveLaws.{len-live_from}
 use Rattle.tile_arena.proofs.arenas.Arena.len.Goals as goal
 

@@ -1,7 +1,6 @@
-use Rattle.std.proofs.Common.{None, map, refl, ap, ◌∙◌, inl, inr, arith}
+use Rattle.tile_arena.proofs.Common.{map, refl, ap, ◌∙◌, arith, get_or_past, length-map, value_of}
+use Rattle.std.proofs.Common.{None, inl, inr}
 use Rattle.std.proofs.lemmas.Bool.{cases_eq, cases_lt}
-use Rattle.std.proofs.lemmas.List.{get_or_past, length-map}
-use Rattle.tile_arena.specs.Slots.{value_of}
 use Rattle.tile_arena.proofs.LiveLaws.{get-live, get-live_slot}
 use Rattle.tile_arena.proofs.arenas.Arena.next_live.Goals as goal
 

@@ -1,5 +1,4 @@
-use Rattle.std.proofs.Common.{◌≡◌, ◌+◌, ◌-◌, Some, refl, sym, ap, ◌∙◌, arith}
-use Rattle.std.proofs.lemmas.Option.{slice_get_within}
+use Rattle.tile_arena.proofs.Common.{◌≡◌, ◌+◌, ◌-◌, Some, refl, sym, ap, ◌∙◌, arith, slice_get_within}
 use Rattle.tile_arena.proofs.LiveLaws.{live_slot, get-live_slot, live-clear}
 use Rattle.tile_arena.proofs.SlotLaws.{IsSound-vacate, live_positive}
 use Rattle.tile_arena.proofs.arenas.Arena.remove.Goals as goal

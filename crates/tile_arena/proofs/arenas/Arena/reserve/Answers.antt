@@ -1,4 +1,4 @@
-use Rattle.std.proofs.Common.{◌≡◌, refl, sym, ◌∙◌, arith}
+use Rattle.tile_arena.proofs.Common.{◌≡◌, refl, sym, ◌∙◌, arith}
 use Rattle.tile_arena.specs.Arenas.{count_live}
 use Rattle.std.proofs.lemmas.Result.{err_from_is_err_and}
 use Rattle.tile_arena.proofs.LiveLaws.{len-live_from}

@@ -1,5 +1,4 @@
-use Rattle.std.proofs.Common.{[], List, replicate, arith, length-append}
-use Rattle.std.proofs.lemmas.List.{length-replicate}
+use Rattle.tile_arena.proofs.Common.{[], List, replicate, arith, length-append, length-replicate}
 use Rattle.tile_arena.proofs.ListLaws.{more_blocks}
 use Rattle.tile_arena.proofs.block_lists.BlockList.add_blocks.Goals as goal
 

@@ -1,7 +1,6 @@
-use Rattle.std.proofs.Common.{[], ◌%◌, slice_get, ap, sym, ◌∙◌, arith}
+use Rattle.tile_arena.proofs.Common.{[], ◌%◌, slice_get, ap, sym, ◌∙◌, arith, BLOCK_SIZE}
 use Rattle.tile_arena.proofs.ListLaws.{item_place, read_item}
 use Rattle.tile_arena.proofs.block_lists.BlockList.get.Goals as goal
-use Rattle.tile_arena.specs.declared.limits.TheConstants.{BLOCK_SIZE}
 
 pub index-requires : goal.index-requires
 index-requires g c =

@@ -1,7 +1,6 @@
-use Rattle.std.proofs.Common.{◌%◌, [], slice_get, refl, sym, ap, ◌∙◌, length-set, arith}
+use Rattle.tile_arena.proofs.Common.{◌%◌, [], slice_get, refl, sym, ap, ◌∙◌, length-set, arith, BLOCK_SIZE}
 use Rattle.tile_arena.proofs.ListLaws.{item_place, read_item, written}
 use Rattle.tile_arena.proofs.block_lists.BlockList.get_mut.Goals as goal
-use Rattle.tile_arena.specs.declared.limits.TheConstants.{BLOCK_SIZE}
 
 pub index_mut-requires : goal.index_mut-requires
 index_mut-requires g c =

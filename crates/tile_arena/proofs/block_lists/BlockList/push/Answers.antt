@@ -1,4 +1,4 @@
-use Rattle.std.proofs.Common.{[], length, ap, ◌∙◌, length-set, arith}
+use Rattle.tile_arena.proofs.Common.{[], length, ap, ◌∙◌, length-set, arith}
 use Rattle.tile_arena.proofs.ListLaws.{length-items_of, push_place, pushed}
 use Rattle.tile_arena.proofs.block_lists.BlockList.push.Goals as goal
 

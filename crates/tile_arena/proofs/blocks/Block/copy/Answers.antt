@@ -1,4 +1,4 @@
-use Rattle.std.proofs.Common.{◌++◌, ◌∷◌, [], ap, ◌∙◌}
+use Rattle.tile_arena.proofs.Common.{◌++◌, ◌∷◌, [], ap, ◌∙◌}
 use Rattle.tile_arena.proofs.BlockLaws.{take_next}
 use Rattle.tile_arena.proofs.blocks.Block.copy.Goals as goal
 

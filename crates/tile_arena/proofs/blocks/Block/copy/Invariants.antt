@@ -1,4 +1,4 @@
-use Rattle.std.proofs.Common.{◌≡◌, take}
+use Rattle.tile_arena.proofs.Common.{◌≡◌, take}
 use Rattle.tile_arena.proofs.blocks.Block.copy.Given as goal
 
 abbrev pub invariant-loop-at : goal.invariant-loop-at

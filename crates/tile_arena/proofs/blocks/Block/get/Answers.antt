@@ -1,4 +1,4 @@
-use Rattle.std.proofs.Common.{sym, ◌∙◌}
+use Rattle.tile_arena.proofs.Common.{sym, ◌∙◌}
 use Rattle.tile_arena.proofs.BlockLaws.{has_item, held_is_item}
 use Rattle.tile_arena.proofs.blocks.Block.get.Goals as goal
 

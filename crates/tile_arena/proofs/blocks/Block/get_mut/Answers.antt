@@ -1,4 +1,4 @@
-use Rattle.std.proofs.Common.{refl, sym, ◌∙◌}
+use Rattle.tile_arena.proofs.Common.{refl, sym, ◌∙◌}
 use Rattle.tile_arena.proofs.BlockLaws.{has_item, held_is_item, item_written}
 use Rattle.tile_arena.proofs.blocks.Block.get_mut.Goals as goal
 

@@ -1,5 +1,4 @@
-use Rattle.std.proofs.Common.{[], refl, ◌∙◌, arith}
-use Rattle.tile_arena.specs.declared.limits.TheConstants.{BLOCK_SIZE}
+use Rattle.tile_arena.proofs.Common.{[], refl, ◌∙◌, arith, BLOCK_SIZE}
 use Rattle.tile_arena.proofs.BegunLaws.{begun_with-nil}
 use Rattle.tile_arena.proofs.BlockLaws.{block_of}
 use Rattle.tile_arena.proofs.blocks.Block.new.Goals as goal

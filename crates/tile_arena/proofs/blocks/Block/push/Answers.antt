@@ -1,4 +1,4 @@
-use Rattle.std.proofs.Common.{sym, arith}
+use Rattle.tile_arena.proofs.Common.{sym, arith}
 use Rattle.tile_arena.proofs.BlockLaws.{length-held, next_is_empty, item_pushed}
 use Rattle.tile_arena.proofs.blocks.Block.push.Goals as goal
 

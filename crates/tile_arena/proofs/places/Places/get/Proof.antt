@@ -35,18 +35,13 @@ use denote.Triple.Entry.{on_entry}
 use denote.Triple.Spec.{Meets, triple_of}
 use denote.Triple.Table.{entered, run_framed}
 use denote.Triple.Walked.{says, needs, Stays, stay_dropped, walk_of, ends_at, Goes-dropped, walk_Meets}
-use Rattle.std.proofs.VecSteps.Shapes.{after}
-use Rattle.std.proofs.RcSteps.{word, word-Good}
+use Rattle.tile_arena.proofs.Common.{after, word, word-Good, None, El, R, args, el_x, times_below, one_below, HasItem, place_lent, places_lend}
 use lib.ListN.{length, get_or}
 use types.Kit.{flt_l}
 use types.Run.{bin, size_lit}
 use types.ByLocal.{take_at, give_at}
 use denote.Builtin.{usize}
-use Rattle.std.specs.Prelude.{Some, None}
-use Rattle.std.proofs.mem.Param.{El, R, args, el_x}
-use Rattle.std.proofs.ptr.Rows.{times_below, one_below}
-use Rattle.tile_arena.specs.Places.{HasItem}
-use Rattle.tile_arena.specs.PlaceOwnership.{place_lent, places_lend}
+use Rattle.std.specs.Prelude.{Some}
 use Rattle.tile_arena.proofs.PlaceSteps.{PlacesRow, StartRow, size, Held, start_had, item_within, see_place}
 use Rattle.tile_arena.specs.contracts.places.Places.get.Key.{name as #self}
 use Rattle.tile_arena.proofs.places.Places.get.Statement as stated

@@ -36,18 +36,13 @@ use denote.Triple.Entry.{on_entry}
 use denote.Triple.Spec.{Meets, triple_of}
 use denote.Triple.Table.{entered, run_framed}
 use denote.Triple.Walked.{says, needs, Stays, stay_dropped, walk_of, ends_at, Goes-dropped, Goes-spent_ref, walk_Meets}
-use Rattle.std.proofs.VecSteps.Shapes.{after}
-use Rattle.std.proofs.RcSteps.{word, word-Good}
+use Rattle.tile_arena.proofs.Common.{after, word, word-Good, None, El, R, args, el_x, times_below, one_below, HasItem, place, row_of, places_own}
 use lib.ListN.{length, set, get_or, length-set}
 use types.Kit.{flt_l, flt_i}
 use types.Run.{bin, size_lit}
 use types.ByLocal.{take_at, give_at}
 use denote.Builtin.{usize}
-use Rattle.std.specs.Prelude.{Some, None}
-use Rattle.std.proofs.mem.Param.{El, R, args, el_x}
-use Rattle.std.proofs.ptr.Rows.{times_below, one_below}
-use Rattle.tile_arena.specs.Places.{HasItem}
-use Rattle.tile_arena.specs.PlaceOwnership.{place, row_of, places_own}
+use Rattle.std.specs.Prelude.{Some}
 use Rattle.tile_arena.proofs.PlaceSteps.{PlacesRow, StartRow, Mark, size, Held, start_had, item_within, Others, take_place, put_place}
 use denote.Follow.{follows, Part, lends_Part}
 use Rattle.tile_arena.specs.steps.PlaceLending.{with_held}

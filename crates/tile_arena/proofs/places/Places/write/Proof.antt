@@ -36,18 +36,14 @@ use denote.Triple.Entry.{on_entry}
 use denote.Triple.Spec.{Meets, triple_of}
 use denote.Triple.Table.{entered, run_framed}
 use denote.Triple.Walked.{says, needs, Stays, stay_dropped, stay_ref, walk_of, ends_at, Goes-dropped, Goes-ref, walk_Meets}
-use Rattle.std.proofs.VecSteps.Shapes.{after}
-use Rattle.std.proofs.RcSteps.{Good, word, word-Good}
+use Rattle.tile_arena.proofs.Common.{after, Good, word, word-Good, None, El, R, args, elτ, times_below, one_below, place, row_of, places_own}
 use lib.ListN.{length, set, get_or, length-set}
 use types.Kit.{flt_l, flt_i}
 use types.Run.{bin, size_lit}
 use types.ByLocal.{take_at, give_at}
 use denote.Builtin.{usize}
-use Rattle.std.specs.Prelude.{Some, None}
-use Rattle.std.proofs.mem.Param.{El, R, args, elτ}
-use Rattle.std.proofs.ptr.Rows.{times_below, one_below}
+use Rattle.std.specs.Prelude.{Some}
 use Rattle.std.proofs.RawLayout.{as_written}
-use Rattle.tile_arena.specs.PlaceOwnership.{place, row_of, places_own}
 use Rattle.tile_arena.proofs.PlaceSteps.{PlacesRow, StartRow, size, Held, start_had, item_in, item_had, Others, take_place, put_place}
 use Rattle.tile_arena.specs.contracts.places.Places.write.Key.{name as #self}
 use Rattle.tile_arena.proofs.places.Places.write.Statement as stated

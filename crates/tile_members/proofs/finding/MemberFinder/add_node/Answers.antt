@@ -1,9 +1,5 @@
-use Rattle.std.proofs.Common.{List, ℕ, Some, subst, ◌≡◌, ◌∙◌}
-use Rattle.std.specs.Prelude.{slice_get}
-use Rattle.std.proofs.lemmas.Option.{slice_get_within}
-use Rattle.layout_model.specs.CellTrees.{standings}
+use Rattle.tile_members.proofs.Common.{List, ℕ, Some, subst, ◌≡◌, ◌∙◌, slice_get, slice_get_within, standings, seen}
 use Rattle.element_paths.specs.CellLibrary.LayoutTrees.{tree_at}
-use Rattle.element_paths.specs.CellLibrary.Libraries.{seen}
 use Rattle.tile_members.proofs.FoundTiles.{new_member}
 use Rattle.tile_members.proofs.KnownLaws.{added_or_none, known_more}
 use Rattle.tile_members.proofs.NodesFound.{node_below}

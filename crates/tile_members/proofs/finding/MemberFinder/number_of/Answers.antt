@@ -1,10 +1,5 @@
-use Rattle.std.proofs.Common.{sym, subst}
-use Rattle.std.proofs.lemmas.Result.{IfOk-weaker}
-use Rattle.element_paths.specs.CellLibrary.Libraries.{seen}
+use Rattle.tile_members.proofs.Common.{sym, subst, IfOk-weaker, seen, MembersHaveWholeTiles, IsOfMember, HasTile}
 use Rattle.element_paths.specs.LibraryTrees.NamedCells.{named_tree_at}
-use Rattle.tile_members.specs.TileLaws.{MembersHaveWholeTiles}
-use Rattle.tile_members.specs.steps.KnownMembers.{IsOfMember}
-use Rattle.tile_members.specs.TileMembers.{HasTile}
 use Rattle.tile_members.proofs.FinderLaws.{finder_entered}
 use Rattle.tile_members.proofs.FoundTiles.{known_tile}
 use Rattle.tile_members.proofs.TileCorners.{tile_corner}

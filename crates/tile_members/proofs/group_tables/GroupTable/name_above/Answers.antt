@@ -1,4 +1,4 @@
-use Rattle.std.proofs.Common.{sym, ◌∙◌}
+use Rattle.tile_members.proofs.Common.{sym, ◌∙◌}
 use Rattle.tile_members.proofs.GroupPaths.{path_above}
 use Rattle.tile_members.proofs.group_tables.GroupTable.name_above.Goals as goal
 

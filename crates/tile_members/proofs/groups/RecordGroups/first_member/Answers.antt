@@ -1,10 +1,6 @@
-use Rattle.std.proofs.Common.{◌≡◌, ◌<◌, ℕ, List, length, sym, ap, ◌∙◌, arith, get_or}
-use Rattle.std.specs.List.{flat_map}
-use Rattle.std.proofs.lemmas.Option.{slice_get_within, get_or_from_slice_get}
-use Rattle.ext_model.specs.declared.arrays.MergeRow.{MergeRow}
-use Rattle.ext_model.specs.declared.records.MergeRec.{MergeRec}
-use Rattle.ext_model.specs.Plain.{plain_merges}
-use Rattle.tile_members.specs.MergedMembers.{first_member}
+use Rattle.tile_members.proofs.Common.{◌≡◌, ◌<◌, ℕ, List, length, sym, ap, ◌∙◌, arith, get_or, flat_map, slice_get_within, MergeRow, MergeRec}
+use Rattle.tile_members.proofs.Common.{plain_merges, first_member}
+use Rattle.std.proofs.lemmas.Option.{get_or_from_slice_get}
 use Rattle.tile_members.proofs.MergeFinds.{IsFirstRow, found_first, found_none}
 use Rattle.tile_members.proofs.groups.RecordGroups.first_member.Goals as goal
 

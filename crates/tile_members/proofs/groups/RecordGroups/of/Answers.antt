@@ -1,6 +1,5 @@
-use Rattle.std.proofs.Common.{◌≡◌, ◌+◌, ◌-◌, ◌<◌, ℕ, Option, Some, cond, drop, length, sym, ap, ◌∙◌, arith}
-use Rattle.std.specs.List.{position_from}
-use Rattle.tile_members.specs.steps.MergeTables.{has_second}
+use Rattle.tile_members.proofs.Common.{◌≡◌, ◌+◌, ◌-◌, ◌<◌, ℕ, Some, cond, drop, length, sym, ap, ◌∙◌, arith, position_from, has_second}
+use Rattle.std.proofs.Common.{Option}
 use Rattle.tile_members.proofs.MergeFinds.{from_number}
 use Rattle.tile_members.proofs.groups.RecordGroups.of.Goals as goal
 

@@ -1,6 +1,4 @@
-use Rattle.std.proofs.Common.{drop}
-use Rattle.std.specs.HashMap.{get_by}
-use Rattle.std.specs.Str.{bytes_eq}
+use Rattle.tile_members.proofs.Common.{drop, get_by, bytes_eq}
 use Rattle.tile_members.specs.steps.MergeTables.{FindFirst}
 use Rattle.tile_members.proofs.groups.RecordGroups.of.Given as goal
 

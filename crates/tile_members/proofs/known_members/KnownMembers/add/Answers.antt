@@ -1,6 +1,4 @@
-use Rattle.std.proofs.Common.{cond, Some, ap, ◌∙◌}
-use Rattle.std.specs.HashMap.{get}
-use Rattle.tile_members.specs.steps.KnownMembers.{same_key}
+use Rattle.tile_members.proofs.Common.{cond, Some, ap, ◌∙◌, get, same_key}
 use Rattle.tile_members.proofs.known_members.KnownMembers.add.Goals as goal
 
 pub returns-clause-numbers : goal.returns-clause-numbers

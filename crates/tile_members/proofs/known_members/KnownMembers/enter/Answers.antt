@@ -1,8 +1,4 @@
-use Rattle.std.proofs.Common.{◌≡◌, ◌++◌, ◌∷◌, [], ℕ, length, sym, ap, ◌∙◌}
-use Rattle.std.specs.Prelude.{position}
-use Rattle.std.specs.Str.{bytes_eq}
-use Rattle.std.proofs.lemmas.Result.{IfOk-weaker}
-use Rattle.tile_members.specs.steps.KnownMembers.{AddsName}
+use Rattle.tile_members.proofs.Common.{◌≡◌, ◌++◌, ◌∷◌, [], ℕ, length, sym, ap, ◌∙◌, position, bytes_eq, IfOk-weaker, AddsName}
 use Rattle.tile_members.proofs.NewNames.{adds_found, adds_new, not_found}
 use Rattle.tile_members.proofs.known_members.KnownMembers.enter.Goals as goal
 

@@ -1,13 +1,5 @@
-use Rattle.std.proofs.Common.{◌≡◌, ◌-◌, ℕ, suc, List, [], ◌∷◌, drop, length, take, Vec, Global, Some, sym, ap, subst, ◌∙◌, arith}
-use Rattle.std.specs.Prelude.{IsSome}
-use Rattle.std.proofs.lemmas.Result.{IfOk-weaker}
-use Rattle.ext_model.specs.declared.arrays.ArrayExt.{ArrayExt}
-use Rattle.ext_model.specs.Paths.{path_text}
-use Rattle.ext_model.specs.Plain.{plain}
-use Rattle.ext_model.specs.Tables.{Table, ext_of}
-use Rattle.element_paths.specs.declared.steps.Step.{Step}
-use Rattle.tile_members.specs.GroupLaws.{RecordsTellGroups}
-use Rattle.tile_members.specs.MergedMembers.{first_member}
+use Rattle.tile_members.proofs.Common.{◌≡◌, ◌-◌, ℕ, suc, List, [], ◌∷◌, drop, length, take, Vec, Global, Some, sym, ap, subst, ◌∙◌, arith, IsSome}
+use Rattle.tile_members.proofs.Common.{IfOk-weaker, ArrayExt, path_text, plain, Table, ext_of, Step, RecordsTellGroups, first_member}
 use Rattle.tile_members.proofs.Climbs.{Climbs, climbed_more, climbed_none}
 use Rattle.tile_members.proofs.ListPlaces.{all_behind, first_split, none_there}
 use Rattle.tile_members.proofs.member_names.MemberNames.+climb.Goals as goal

@@ -1,9 +1,4 @@
-use Rattle.std.proofs.Common.{List, sym, subst}
-use Rattle.std.specs.Prelude.{All, IsSome}
-use Rattle.ext_model.specs.Tables.{ext_of}
-use Rattle.element_paths.specs.CellLibrary.Libraries.{LibraryParts, seen}
-use Rattle.element_paths.specs.declared.steps.Step.{Step}
-use Rattle.element_paths.specs.ElementPaths.{AreStepsTo}
+use Rattle.tile_members.proofs.Common.{List, sym, subst, All, IsSome, ext_of, LibraryParts, seen, Step, AreStepsTo}
 use Rattle.tile_members.proofs.Climbs.{all_kept}
 use Rattle.tile_members.proofs.member_names.MemberNames.name_of.Goals as goal
 

@@ -1,10 +1,5 @@
-use Rattle.std.proofs.Common.{◌≡◌, ◌<◌, List, length, get_or, sym, subst, arith}
+use Rattle.tile_members.proofs.Common.{◌≡◌, ◌<◌, List, length, get_or, sym, subst, arith, slice_get_within, RegionTile, Rect, AreMeeting, unit_at}
 use Rattle.std.proofs.lemmas.List.{get_or_read}
-use Rattle.std.proofs.lemmas.Option.{slice_get_within}
-use Rattle.layout_model.specs.declared.region_tiles.RegionTile.{RegionTile}
-use Rattle.geo_core.specs.declared.squares.Rect.{Rect}
-use Rattle.rect_trees.specs.Meetings.{AreMeeting}
-use Rattle.tile_members.specs.steps.OpenedCells.{unit_at}
 use Rattle.tile_members.proofs.OpenedLaws.{NoneOfPlane, no_tile, none_more, number_told, region_below, some_of_plane, tile_at_place, tile_in_reach, tile_read}
 use Rattle.tile_members.proofs.opened_cells.OpenedCell.node_at.Goals as goal
 

@@ -1,7 +1,5 @@
-use Rattle.std.proofs.Common.{List, sym, subst}
-use Rattle.std.specs.Prelude.{All}
+use Rattle.tile_members.proofs.Common.{List, sym, subst, All, RawTech}
 use Rattle.tech_model.specs.declared.raw.Label.{Label}
-use Rattle.tech_model.specs.declared.raw.RawTech.{RawTech}
 use Rattle.group_meetings.specs.Names.Labels.{IsLabelOf}
 use Rattle.element_paths.proofs.LibraryTrees.LabelLaws.{labels_may_name}
 use Rattle.tile_members.proofs.opened_cells.OpenedCell.of.Goals as goal

@@ -1,4 +1,4 @@
-use Rattle.element_paths.specs.CellLibrary.Libraries.{seen}
+use Rattle.tile_members.proofs.Common.{seen}
 use Rattle.tile_members.proofs.OpenedLaws.{opened_more, opened_same}
 use Rattle.tile_members.proofs.opened_cells.OpenedCells.enter.Goals as goal
 

@@ -1,5 +1,4 @@
-use Rattle.std.proofs.lemmas.Result.{IfOk-weaker}
-use Rattle.tile_members.specs.steps.OpenedCells.{HasOpenNode, IsNumberAt}
+use Rattle.tile_members.proofs.Common.{IfOk-weaker, HasOpenNode, IsNumberAt}
 use Rattle.tile_members.proofs.NodesFound.{opened_node, opened_there}
 use Rattle.tile_members.proofs.opened_cells.OpenedCells.node_of.Goals as goal
 

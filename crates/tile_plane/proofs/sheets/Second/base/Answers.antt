@@ -1,7 +1,4 @@
-use Rattle.std.proofs.Common.{sym, subst}
-use Rattle.geo_core.specs.Planes.{AreSet}
-use Rattle.tile_plane.specs.Tiles.{value_at}
-use Rattle.tile_plane.specs.Sheets.{IsSecond}
+use Rattle.tile_plane.proofs.Common.{sym, subst, AreSet, value_at, IsSecond}
 use Rattle.tile_plane.proofs.SetLaws.{set_once}
 use Rattle.tile_plane.proofs.sheets.Second.base.Goals as goal
 

@@ -1,5 +1,4 @@
-use Rattle.std.proofs.Common.{sym, ◌∙◌, ap, rules}
-use Rattle.tile_plane.specs.declared.tiles.Tile.{Tile}
+use Rattle.tile_plane.proofs.Common.{sym, ◌∙◌, ap, rules, Tile}
 use Rattle.tile_plane.proofs.TileLaws.{owner_taken}
 use Rattle.tile_plane.proofs.ValueLaws.{value_of_owner, value_off_range}
 use Rattle.tile_plane.proofs.sheets.Sheet.at.Goals as goal

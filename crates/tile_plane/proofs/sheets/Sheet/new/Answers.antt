@@ -1,5 +1,4 @@
-use Rattle.std.proofs.Common.{refl, subst}
-use Rattle.tile_plane.specs.Tiles.{Tiles, IsPut}
+use Rattle.tile_plane.proofs.Common.{refl, subst, Tiles, IsPut}
 use Rattle.tile_plane.proofs.FirstLaws.{first_plane, first_taken, first_values}
 use Rattle.tile_plane.proofs.sheets.Sheet.new.Goals as goal
 

@@ -1,5 +1,4 @@
-use Rattle.std.proofs.lemmas.List.{get_or_default}
-use Rattle.tile_plane.specs.Tiles.{value_at}
+use Rattle.tile_plane.proofs.Common.{get_or_default, value_at}
 use Rattle.tile_plane.proofs.SheetLaws.{plane_after_piece, set_next}
 use Rattle.tile_plane.proofs.sheets.Sheet.with_each.Goals as goal
 

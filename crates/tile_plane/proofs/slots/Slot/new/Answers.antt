@@ -1,5 +1,5 @@
-use Rattle.std.proofs.Common.{◌≡◌, ℤ, neg_ℤ, ◌≤ℤ◌, w32, w64, to_z, of_z, refl, ◌∙◌, ap, arith}
-use Rattle.std.proofs.lemmas.Int.{ints, to_z-of_z}
+use Rattle.tile_plane.proofs.Common.{◌≡◌, ℤ, ◌≤ℤ◌, w64, to_z, of_z, refl, ◌∙◌, ap, arith, ints, to_z-of_z}
+use Rattle.std.proofs.Common.{neg_ℤ, w32}
 use Rattle.geo_core.specs.declared.limits.TheConstants.{PLANE_EDGE}
 use Rattle.tile_plane.proofs.slots.Slot.new.Goals as goal
 

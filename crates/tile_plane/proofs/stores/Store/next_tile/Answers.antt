@@ -1,8 +1,8 @@
-use Rattle.std.proofs.Common.{◌≡◌, ℕ, ◌≤◌, Option, Some, None, MatchOption, is_some, true≢false, sym, ◌∙◌, ap, subst, arith}
+use Rattle.tile_plane.proofs.Common.{◌≡◌, ℕ, ◌≤◌, Option, Some, None, true≢false, sym, ◌∙◌, ap, subst, arith, Slot, IsTaken, AreProper, IsAfter}
+use Rattle.tile_plane.proofs.Common.{IsNextTile}
+use Rattle.std.proofs.Common.{MatchOption, is_some}
 use Rattle.tile_arena.specs.declared.ids.Id.{Id}
 use Rattle.tile_arena.specs.Arenas.{Arena, value_at, number_after, IsLeastLiveFrom}
-use Rattle.tile_plane.specs.declared.slots.Slot.{Slot}
-use Rattle.tile_plane.specs.Tiles.{IsTaken, AreProper, IsAfter, IsNextTile}
 use Rattle.tile_plane.proofs.TileLaws.{taken_live}
 use Rattle.tile_plane.proofs.stores.Store.next_tile.Goals as goal
 

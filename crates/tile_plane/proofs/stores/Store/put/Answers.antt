@@ -1,6 +1,4 @@
-use Rattle.std.proofs.Common.{subst, sym}
-use Rattle.tile_plane.specs.declared.tiles.Tile.{Tile}
-use Rattle.geo_core.specs.Covering.{IsProper}
+use Rattle.tile_plane.proofs.Common.{subst, sym, Tile, IsProper}
 use Rattle.tile_plane.proofs.TileLaws.{AreProper-insert, put_by_insert}
 use Rattle.tile_plane.proofs.stores.Store.put.Goals as goal
 

@@ -1,5 +1,4 @@
-use Rattle.std.proofs.Common.{refl}
-use Rattle.tile_plane.specs.declared.tiles.Tile.{Tile}
+use Rattle.tile_plane.proofs.Common.{refl, Tile}
 use Rattle.tile_plane.proofs.TileLaws.{AreProper-write, put_by_write}
 use Rattle.tile_plane.proofs.stores.Store.set_right.Goals as goal
 

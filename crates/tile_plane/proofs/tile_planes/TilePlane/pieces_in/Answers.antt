@@ -1,6 +1,4 @@
-use Rattle.std.proofs.Common.{subst}
-use Rattle.tile_plane.specs.Contents.{Contents, value_in}
-use Rattle.tile_plane.specs.Listings.{ArePiecesIn}
+use Rattle.tile_plane.proofs.Common.{subst, Contents, value_in, ArePiecesIn}
 use Rattle.tile_plane.proofs.tile_planes.TilePlane.pieces_in.Goals as goal
 
 pub returns-clause-pieces : goal.returns-clause-pieces

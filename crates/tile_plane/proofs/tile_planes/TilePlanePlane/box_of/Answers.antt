@@ -1,10 +1,5 @@
-use Rattle.std.proofs.Common.{◌≡◌, ℕ, Option, Some, None, refl, subst}
-use Rattle.std.specs.Prelude.{◌↔◌, IsNone, IfSome, MatchOption}
-use Rattle.geo_core.specs.declared.squares.Square.{Square}
-use Rattle.geo_core.specs.declared.squares.Rect.{Rect}
-use Rattle.geo_core.specs.Planes.{IsBox}
-use Rattle.tile_plane.specs.Contents.{Contents, value_in}
-use Rattle.tile_plane.specs.Tiles.{value_at}
+use Rattle.tile_plane.proofs.Common.{◌≡◌, ℕ, Option, Some, None, refl, subst, IfSome, MatchOption, Square, Rect, IsBox, Contents, value_in, value_at}
+use Rattle.std.specs.Prelude.{◌↔◌, IsNone}
 use Rattle.tile_plane.proofs.tile_planes.TilePlanePlane.box_of.Goals as goal
 
 none_if_space : (values : Square → ℕ) (found : Option Rect) → MatchOption found ((square : Square) → values square ≡ 0) (IsBox values)

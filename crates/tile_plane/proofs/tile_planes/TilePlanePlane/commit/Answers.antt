@@ -1,8 +1,6 @@
-use Rattle.std.proofs.Common.{sym, subst}
-use Rattle.geo_core.specs.Planes.{AreSet}
-use Rattle.tile_plane.specs.Contents.{Contents, value_in, IsReady}
+use Rattle.tile_plane.proofs.Common.{sym, subst, AreSet, Contents, value_in, value_at}
+use Rattle.tile_plane.specs.Contents.{IsReady}
 use Rattle.tile_plane.specs.Sheets.{next_of}
-use Rattle.tile_plane.specs.Tiles.{value_at}
 use Rattle.tile_plane.proofs.SheetLaws.{change_made}
 use Rattle.tile_plane.proofs.tile_planes.TilePlanePlane.commit.Goals as goal
 

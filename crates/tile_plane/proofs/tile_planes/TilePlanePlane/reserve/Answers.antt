@@ -1,4 +1,4 @@
-use Rattle.tile_plane.specs.Tiles.{value_at}
+use Rattle.tile_plane.proofs.Common.{value_at}
 use Rattle.tile_plane.specs.Sheets.{AreSettable}
 use Rattle.tile_plane.proofs.SetLaws.{set_same}
 use Rattle.tile_plane.proofs.SheetLaws.{change_ready}

@@ -1,7 +1,4 @@
-use Rattle.std.proofs.Common.{subst}
-use Rattle.geo_core.specs.Planes.{HasValue}
-use Rattle.geo_core.specs.Strips.{IsStrips}
-use Rattle.tile_plane.specs.Contents.{Contents, value_in}
+use Rattle.tile_plane.proofs.Common.{subst, HasValue, IsStrips, Contents, value_in}
 use Rattle.tile_plane.proofs.tile_planes.TilePlanePlane.strips.Goals as goal
 
 pub returns-clause-strips : goal.returns-clause-strips

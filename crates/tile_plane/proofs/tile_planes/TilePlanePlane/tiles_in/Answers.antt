@@ -1,7 +1,4 @@
-use Rattle.std.proofs.Common.{subst, rules}
-use Rattle.geo_core.specs.Planes.{AreTilesIn}
-use Rattle.tile_plane.specs.Contents.{Contents, value_in}
-use Rattle.tile_plane.specs.Tiles.{value_at}
+use Rattle.tile_plane.proofs.Common.{subst, rules, AreTilesIn, Contents, value_in, value_at}
 use Rattle.tile_plane.proofs.tile_planes.TilePlanePlane.tiles_in.Goals as goal
 
 pub returns-clause-tiles : goal.returns-clause-tiles

@@ -1,7 +1,5 @@
-use Rattle.std.proofs.Common.{◌∙◌, inl, inr, sym}
-use Rattle.std.proofs.lemmas.Bool.{cases_Bool}
+use Rattle.undo_log.proofs.Common.{◌∙◌, inl, inr, sym, cases_Bool, is_edit}
 use Rattle.std.proofs.lemmas.Result.{on_ok_weaker}
-use Rattle.undo_log.specs.Versions.{is_edit}
 use Rattle.undo_log.proofs.OtherCommands.{none_keeps, other_keeps}
 use Rattle.undo_log.proofs.logs.Log.apply.Goals as goal
 use Rattle.undo_log.proofs.logs.Log.apply.Goals.{in_default-via-in-Some+else-is_edit, in_default-via-in_default}

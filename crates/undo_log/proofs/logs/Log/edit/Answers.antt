@@ -1,15 +1,6 @@
-use Rattle.std.proofs.Common.{◌≡◌, List, ◌∷◌, ap, refl, subst, sym, ◌∙◌}
-use Rattle.std.specs.Prelude.{Option, Some}
+use Rattle.undo_log.proofs.Common.{◌≡◌, List, ◌∷◌, ap, refl, subst, sym, ◌∙◌, Option, Some, CellKey, LibraryParts, seen, LibraryView, Editing}
+use Rattle.undo_log.proofs.Common.{editing_of, applied, Change, Inverse, Inverses, TakesBack, Accepts}
 use Rattle.std.specs.Option.{option_map}
-use Rattle.ext_model.specs.declared.tables.CellKey.{CellKey}
-use Rattle.edit_script.specs.CellLibrary.Libraries.{LibraryParts, seen}
-use Rattle.edit_script.specs.CellLibrary.Views.{LibraryView}
-use Rattle.edit_script.specs.Editing.{Editing, editing_of}
-use Rattle.edit_script.specs.Edits.{applied}
-use Rattle.undo_log.specs.declared.changes.Change.{Change}
-use Rattle.undo_log.specs.declared.changes.Inverse.{Inverse}
-use Rattle.undo_log.specs.Inverses.{Inverses, TakesBack}
-use Rattle.undo_log.specs.steps.Makings.{Accepts}
 use Rattle.undo_log.proofs.LeadLaws.{edit_kept}
 use Rattle.undo_log.proofs.logs.Log.edit.Goals as goal
 

@@ -1,6 +1,4 @@
-use Rattle.std.proofs.Common.{◌∙◌}
-use Rattle.std.specs.Prelude.{reverse}
-use Rattle.use_orders.specs.steps.Walks.{WalkState, walk_state, with_open}
+use Rattle.use_orders.proofs.Common.{◌∙◌, reverse, WalkState, walk_state, with_open}
 use Rattle.use_orders.proofs.Stepping.{later_then, later_popped}
 use Rattle.use_orders.proofs.walk.Walk.finish.Goals as goal
 

@@ -1,5 +1,4 @@
-use Rattle.std.proofs.Common.{◌≡◌}
-use Rattle.use_orders.specs.steps.Walks.{walk_state, IsLater, work_left}
+use Rattle.use_orders.proofs.Common.{◌≡◌, walk_state, IsLater, work_left}
 use Rattle.use_orders.proofs.walk.Walk.finish.Given as goal
 
 abbrev pub invariant-open : goal.invariant-open

@@ -1,4 +1,4 @@
-use Rattle.std.proofs.Common.{arith}
+use Rattle.use_orders.proofs.Common.{arith}
 use Rattle.use_orders.proofs.UnderWay.{next_is_used}
 use Rattle.use_orders.proofs.walk.Walk.follow.Goals as goal
 

@@ -1,4 +1,4 @@
-use Rattle.std.proofs.Common.{refl}
+use Rattle.use_orders.proofs.Common.{refl}
 use Rattle.use_orders.proofs.Starting.{starts_at_rest, starts_thorough}
 use Rattle.use_orders.proofs.walk.Walk.new.Goals as goal
 

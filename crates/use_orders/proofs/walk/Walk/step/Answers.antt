@@ -1,7 +1,4 @@
-use Rattle.std.proofs.Common.{◌<◌, ◌≤◌, arith, inl, refl, length}
-use Rattle.std.proofs.lemmas.Result.{on_ok_weaker}
-use Rattle.use_orders.specs.Uses.{used_by}
-use Rattle.use_orders.specs.steps.Walks.{walk_state}
+use Rattle.use_orders.proofs.Common.{◌<◌, ◌≤◌, arith, inl, refl, length, on_ok_weaker, used_by, walk_state}
 use Rattle.use_orders.proofs.Stepping.{later_listed, later_followed, less_after_listing, less_after_following}
 use Rattle.use_orders.proofs.walk.Walk.step.Goals as goal
 

@@ -1,5 +1,4 @@
-use Rattle.std.proofs.lemmas.Result.{on_ok_weaker}
-use Rattle.use_orders.specs.steps.Walks.{walk_state}
+use Rattle.use_orders.proofs.Common.{on_ok_weaker, walk_state}
 use Rattle.use_orders.proofs.Stepping.{has_visited}
 use Rattle.use_orders.proofs.walk.Walk.visit.Goals as goal
 

@@ -1,7 +1,4 @@
-use Rattle.std.proofs.Common.{◌≡◌, ◌∙◌, sym, ap}
-use Rattle.std.specs.List.{zip}
-use Rattle.vector_files.specs.LineForms.{node_named}
-use Rattle.vector_files.specs.NodeLookup.{power_name, ground_name, is_either_node}
+use Rattle.vector_files.proofs.Common.{◌≡◌, ◌∙◌, sym, ap, zip, node_named, power_name, ground_name, is_either_node}
 use Rattle.vector_files.proofs.Rails.{index_rails, index_like}
 use Rattle.vector_files.proofs.nodes.NodeNames.of.Goals as goal
 

@@ -1,5 +1,4 @@
-use Rattle.std.proofs.Common.{arith, ◌∙◌}
-use Rattle.vector_runs.specs.Running.{standing}
+use Rattle.vector_runs.proofs.Common.{arith, ◌∙◌, standing}
 use Rattle.vector_runs.proofs.RunningLines.{ran_next}
 use Rattle.vector_runs.proofs.progress.Progress.run_lines.Goals as goal
 

@@ -1,5 +1,5 @@
-use Rattle.std.proofs.Common.{◌≡◌, ◌≤◌, length, map, take}
-use Rattle.vector_runs.specs.Running.{IsRested, RanLines, standing}
+use Rattle.vector_runs.proofs.Common.{◌≡◌, ◌≤◌, length, map, take, standing}
+use Rattle.vector_runs.specs.Running.{IsRested, RanLines}
 use Rattle.vector_runs.proofs.progress.Progress.run_lines.Given as goal
 
 abbrev pub invariant-loop-line : goal.invariant-loop-line

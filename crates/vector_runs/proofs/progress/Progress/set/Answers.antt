@@ -1,5 +1,4 @@
-use Rattle.std.proofs.Common.{List, Bool, ap, get_or, sym, subst}
-use Rattle.switch_net.specs.Net.{network_of}
+use Rattle.vector_runs.proofs.Common.{List, Bool, ap, get_or, sym, subst, network_of}
 use Rattle.vector_runs.proofs.RestingRuns.{RestsBut, set_rests}
 use Rattle.vector_runs.proofs.progress.Progress.set.Goals as goal
 

@@ -1,5 +1,4 @@
-use Rattle.std.proofs.Common.{subst}
-use Rattle.switch_net.specs.Net.{network_of}
+use Rattle.vector_runs.proofs.Common.{subst, network_of}
 use Rattle.vector_runs.proofs.RestingRuns.{RestsBut}
 use Rattle.vector_runs.proofs.progress.Progress.settle.Goals as goal
 

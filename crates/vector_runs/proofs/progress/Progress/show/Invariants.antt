@@ -1,5 +1,4 @@
-use Rattle.std.proofs.Common.{◌≡◌, ◌++◌, take}
-use Rattle.vector_runs.specs.Runs.{shown_in}
+use Rattle.vector_runs.proofs.Common.{◌≡◌, ◌++◌, take, shown_in}
 use Rattle.vector_runs.proofs.progress.Progress.show.Given as goal
 
 abbrev pub invariant-loop-name : goal.invariant-loop-name

@@ -1,5 +1,4 @@
-use Rattle.std.proofs.Common.{◌≡◌, ◌++◌, map, take}
-use Rattle.switch_net.specs.Path.{state_of}
+use Rattle.vector_runs.proofs.Common.{◌≡◌, ◌++◌, map, take, state_of}
 use Rattle.vector_runs.proofs.watching.WatchedRun.show.Given as goal
 
 abbrev pub invariant-loop-name : goal.invariant-loop-name

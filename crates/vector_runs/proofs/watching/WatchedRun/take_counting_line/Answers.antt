@@ -1,5 +1,4 @@
-use Rattle.std.proofs.Common.{refl}
-use Rattle.vector_runs.specs.Running.{watched}
+use Rattle.vector_runs.proofs.Common.{refl, watched}
 use Rattle.vector_runs.proofs.WatchedRuns.{phase_taken, show_taken}
 use Rattle.vector_runs.proofs.watching.WatchedRun.take_counting_line.Goals as goal
 

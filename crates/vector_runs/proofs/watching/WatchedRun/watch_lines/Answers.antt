@@ -1,8 +1,5 @@
-use Rattle.std.proofs.Common.{List, Option, ◌+◌, ap, arith, subst, sym, take, ◌∙◌}
-use Rattle.vector_runs.specs.declared.stuck_faults.StuckFault.{StuckFault}
-use Rattle.vector_runs.specs.declared.watching.Seen.{Seen}
-use Rattle.vector_runs.specs.Running.{watched}
-use Rattle.vector_runs.specs.Watching.{LinesShow, counting, is_left_out}
+use Rattle.vector_runs.proofs.Common.{List, ◌+◌, ap, arith, subst, sym, take, ◌∙◌, StuckFault, Seen, watched, LinesShow, counting, is_left_out}
+use Rattle.std.proofs.Common.{Option}
 use Rattle.vector_runs.proofs.WatchedRuns.{next_line}
 use Rattle.vector_runs.proofs.watching.WatchedRun.watch_lines.Goals as goal
 

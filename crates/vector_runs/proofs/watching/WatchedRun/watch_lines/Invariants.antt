@@ -1,6 +1,5 @@
-use Rattle.std.proofs.Common.{◌≡◌, ◌≤◌, take}
-use Rattle.vector_runs.specs.Running.{IsUnderWay, watched}
-use Rattle.vector_runs.specs.Watching.{LinesShow, counting}
+use Rattle.vector_runs.proofs.Common.{◌≡◌, ◌≤◌, take, watched, LinesShow, counting}
+use Rattle.vector_runs.specs.Running.{IsUnderWay}
 use Rattle.vector_runs.proofs.watching.WatchedRun.watch_lines.Given as goal
 
 abbrev pub invariant-loop-number : goal.invariant-loop-number
