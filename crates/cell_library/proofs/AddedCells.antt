@@ -23,7 +23,7 @@ use Rattle.cell_library.proofs.EditLaws.{uses_long}
 use Rattle.cell_library.proofs.FaultLaws.{first_of_or, not_first, not_full}
 use Rattle.cell_library.proofs.LimitLaws.{never_past, states_unique}
 use Rattle.cell_library.proofs.SizeLaws.{HaveChildren, one_size, tree_children}
-use Rattle.cell_library.proofs.UseEdits.{above_seen, seen_above, state_of_view, view_of_state}
+use Rattle.cell_library.proofs.UseEdits.{above_seen, seen_above, state_of_view, view_of_state, used_again}
 use Rattle.cell_library.proofs.ViewLaws.{length-states, names_seen}
 
 -- ---- lists of cells
@@ -76,38 +76,20 @@ children_seen (held ∷ contents) (cell ∷ cells) long =
 -- A cell that is seen to stand below itself does so in the tree.
 below_in_tree : (view : LibraryView) (states : List CellState) → AreStatesOf view.cells states → (cell : ℕ) → IsBelowItself view cell
     → TreeBelowItself states cell
-below_in_tree view states are cell below =
-    let there = state_of_view view.cells states are cell below.used.cell below.used.is in
-    record {
-      child = below.child;
-      used = record {
-        cell = there.0;
-        is = there.1.0;
-        k = below.used.k;
-        entry = below.used.entry;
-        stands = ap (λ (uses : List (List ℕ × UseBody)). slice_get uses below.used.k) there.1.1 ∙ below.used.stands;
-        child = below.used.child;
-      };
-      above = seen_above view states are cell below.child below.above;
-    }
+below_in_tree view states are cell below = record {
+  child = below.child;
+  used = used_again _ _ cell below.child below.used (state_of_view view.cells states are cell below.used.cell below.used.is);
+  above = seen_above view states are cell below.child below.above;
+}
 
 -- and the other way
 below_seen : (view : LibraryView) (states : List CellState) → AreStatesOf view.cells states → (cell : ℕ) → TreeBelowItself states cell
     → IsBelowItself view cell
-below_seen view states are cell below =
-    let there = view_of_state view.cells states are cell below.used.cell below.used.is in
-    record {
-      child = below.child;
-      used = record {
-        cell = there.0;
-        is = there.1.0;
-        k = below.used.k;
-        entry = below.used.entry;
-        stands = ap (λ (uses : List (List ℕ × UseBody)). slice_get uses below.used.k) there.1.1 ∙ below.used.stands;
-        child = below.used.child;
-      };
-      above = above_seen view states are cell below.child below.above;
-    }
+below_seen view states are cell below = record {
+  child = below.child;
+  used = used_again _ _ cell below.child below.used (view_of_state view.cells states are cell below.used.cell below.used.is);
+  above = above_seen view states are cell below.child below.above;
+}
 
 -- where cells have sizes none stands below itself
 none_below_itself : (cells : List CellState) (sizes : List Size) → AreSizes cells sizes → (cell : ℕ) → TreeBelowItself cells cell → ⊥

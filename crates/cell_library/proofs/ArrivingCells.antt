@@ -1,11 +1,11 @@
 -- Steps of the functions that take in cells which come all at once.
 use Rattle.cell_library.proofs.Common.{◌≡◌, ◌+◌, ◌-◌, ◌<◌, ◌≤◌, ℕ, zero, suc, List, [], ◌∷◌, ◌++◌, append_assoc, length, length-append, map, take}
 use Rattle.cell_library.proofs.Common.{drop, get_or, refl, sym, ap, subst, ◌∙◌, arith, inl, inr, true, Some, None, All, cond, nat_lt, position}
-use Rattle.cell_library.proofs.Common.{position_or_len, bytes_eq, cases_Bool, nat_tests, length-map, map-append, take_more, All-push}
-use Rattle.cell_library.proofs.Common.{bytes_eq-Decides, map-map, In, Distinct, CellBody, CellUse, layout_of, NewCell, UseBody, new_state}
-use Rattle.cell_library.proofs.Common.{new_states, CellState, AreFitFor, AreUsesAmong, contents_with, held_from, kept_uses, names_in, new_views}
-use Rattle.cell_library.proofs.Common.{views_from, kept_cell, kept_use, Held, held_at, no_held, position_of, AreStatesOf, OwnBoxIs, cell_view}
-use Rattle.cell_library.proofs.Common.{cell_views, CellView}
+use Rattle.cell_library.proofs.Common.{position_or_len, bytes_eq, cases_Bool, length-map, map-append, take_more, All-push, bytes_eq-Decides, map-map}
+use Rattle.cell_library.proofs.Common.{In, Distinct, CellBody, CellUse, layout_of, NewCell, UseBody, new_state, new_states, CellState, AreFitFor}
+use Rattle.cell_library.proofs.Common.{AreUsesAmong, contents_with, held_from, kept_uses, names_in, new_views, views_from, kept_cell, kept_use, Held}
+use Rattle.cell_library.proofs.Common.{held_at, no_held, position_of, AreStatesOf, OwnBoxIs, cell_view, cell_views, CellView}
+use Rattle.std.proofs.lemmas.Bool.Decides.{nat_tests}
 use Rattle.std.proofs.lemmas.List.{length-take-le, length-drop}
 use Rattle.std.proofs.lemmas.List.{get_or-drop, get_or_default}
 use Rattle.geo_core.proofs.FiniteSets.Distincts.{Distinct-append_apart}
@@ -21,7 +21,8 @@ position_absent name (other ∷ names) absent = elim (cases_Bool (bytes_eq name 
   | inr apart ↦ (let later = position_absent name names (λ there. absent (inr there)) in rw apart (omega arith))
 ]
 
-not_found : (n m : ℕ) → n ≡ m → cond (nat_lt n m) (Some n) None ≡ None
+-- what is looked for past the end is not found
+pub not_found : (n m : ℕ) → n ≡ m → cond (nat_lt n m) (Some n) None ≡ None
 not_found n m same = elim (cases_Bool (nat_lt n m)) [
   | inl below ↦ absurd (below_itself n m same below)
   | inr past ↦ rw past refl

@@ -1,20 +1,21 @@
 -- The uses of a cell that comes, as a library has them.
 use Rattle.cell_library.proofs.Common.{◌≡◌, ◌<◌, ℕ, zero, suc, true, List, [], ◌∷◌, length, map, Option, refl, sym, ap, subst, ◌∙◌, arith, inl, inr}
-use Rattle.cell_library.proofs.Common.{true≢false, Some, None, IfSome, IsTrue, All, slice_get, unwrap_or, position_or_len, option_map, bytes_eq}
-use Rattle.cell_library.proofs.Common.{cases_Bool, and_parts, ints, length-map, bytes_eq-Decides, In, Distinct, All-In, Label, TypeRec, Grid, Orient}
-use Rattle.cell_library.proofs.Common.{Rect, Transform, LiesWithin, identity, Layout, IsSoundPaint, CellUse, has_sides, is_displacement, UseBody}
-use Rattle.cell_library.proofs.Common.{MayCome, IsLawfulBox, CellState, IsLawfulOwn, IsLawfulUse, AreUsesAmong, kept_uses, names_in, kept_use, Held}
-use Rattle.cell_library.proofs.Common.{position_of, OwnBoxIs, HoldsOwn}
+use Rattle.cell_library.proofs.Common.{true≢false, rules, Some, None, IfSome, IsTrue, All, slice_get, unwrap_or, position_or_len, option_map}
+use Rattle.cell_library.proofs.Common.{bytes_eq, cases_Bool, and_parts, ints, length-map, bytes_eq-Decides, In, Distinct, All-In, Label, TypeRec}
+use Rattle.cell_library.proofs.Common.{Grid, Orient, Rect, Transform, LiesWithin, identity, Layout, is_in_range, IsSoundPaint, CellUse, has_sides}
+use Rattle.cell_library.proofs.Common.{is_displacement, UseBody, MayCome, IsLawfulBox, SpansInRange, CellState, IsLawfulOwn, IsLawfulUse}
+use Rattle.cell_library.proofs.Common.{AreUsesAmong, kept_uses, names_in, kept_use, Held, position_of, OwnBoxIs, HoldsOwn}
 use Rattle.std.specs.Prelude.{ℤ}
 use Rattle.std.specs.Option.{is_some}
 use Rattle.geo_core.specs.Orientation.{orient_of, is_orientation}
-use Rattle.cell_bodies.specs.CellPaint.Painting.{is_in_range, paint_range}
+use Rattle.cell_bodies.specs.CellPaint.Painting.{paint_range}
 use Rattle.cell_bodies.specs.Bodies.{IsUse, ids_of}
 use Rattle.cell_bodies.specs.Numbers.{are_displacements, are_elements}
 use Rattle.cell_bodies.specs.Numbers.{is_grid, is_label_area, is_placing}
 use Rattle.cell_bodies.proofs.GridLaws.{IsLawful-is_grid}
 use Rattle.cell_tree.specs.Sizes.{AreUsesBelow}
 use Rattle.cell_library.specs.Edits.{transform_of}
+use Rattle.cell_library.proofs.BoxLaws.{box_within}
 use Rattle.cell_library.proofs.BoxSteps.{own_box_wide}
 use Rattle.cell_library.proofs.NewCells.{name_is_new}
 use Rattle.cell_library.proofs.UseSteps.{shift_of}
@@ -119,26 +120,15 @@ new_box kinds own labels None is sound near other same = absurd (cc)
 new_box kinds own labels (Some box) is sound near other same =
     let upright : All (λ label. IsTrue (has_sides label.area)) labels = λ k d below. (and_parts _ _ (near k d below)).0 in
     let turned = own_box_wide own labels box is upright in
-    let wide = turned.0 in
-    let high = turned.1 in
     let holds : HoldsOwn own labels paint_range = record {
       material = sound.range;
       labels_within = λ label among.
           let right = All-In (λ (l : Label). IsTrue (is_label_area l.area)) labels label near among in
           within label.area (and_parts (has_sides label.area) (is_in_range label.area) right).1;
     } in
-    let within_range : LiesWithin box paint_range = is.least paint_range holds in
     let one : box ≡ other = cc in
-    subst IsLawfulBox one (record {
-      wide = wide;
-      high = high;
-      spans = record {
-        xlo = record { low = omega (arith, ints); high = omega (arith, ints) };
-        ylo = record { low = omega (arith, ints); high = omega (arith, ints) };
-        xhi = record { low = omega (arith, ints); high = omega (arith, ints) };
-        yhi = record { low = omega (arith, ints); high = omega (arith, ints) };
-      };
-    })
+    let near : SpansInRange paint_range = search rules in
+    subst IsLawfulBox one (box_within box paint_range turned.0 turned.1 (is.least paint_range holds) near)
   where
     within : (area : Rect) → is_in_range area ≡ true → LiesWithin area paint_range
     within area inside = record {

@@ -1,11 +1,33 @@
 -- How the box of what a cell has of its own changes with its paint and its labels.
 use Rattle.cell_library.proofs.Common.{◌≡◌, ◌⊎◌, List, [], ◌∷◌, ◌++◌, Option, refl, ap, subst, arith, inl, inr, Some, None, IfSome, ints, In}
 use Rattle.cell_library.proofs.Common.{In-append_left, In-push_cases, Square, Rect, LiesWithin, joined_rect, Covers, IsProper, filled_within, Label}
-use Rattle.cell_library.proofs.Common.{Place, Layout, IsMaterial, IsInside, HoldsOwn, IsOwnBox, OwnBoxIs, box_with}
-use Rattle.std.specs.Prelude.{IsNone, ◌↔◌}
+use Rattle.cell_library.proofs.Common.{Place, Layout, IsMaterial, IsInside, IsLawfulBox, SpansInRange, HoldsOwn, IsOwnBox, OwnBoxIs, box_with}
+use Rattle.std.specs.Prelude.{IsNone, ◌↔◌, ◌≤ℤ◌}
 use Rattle.geo_core.proofs.FiniteSets.Members.{In-push}
 use Rattle.geo_core.proofs.CoveringLaws.{joined_within, within_trans, within_antisym, within_joined_first, within_joined_second, within_covers}
 use Rattle.cell_bodies.specs.CellPaint.Paints.{IsPaintBox}
+
+-- a box that is not turned inside out, within a rectangle that lies in range
+pub box_within : (box outer : Rect) → box.xlo ≤ℤ box.xhi → box.ylo ≤ℤ box.yhi → LiesWithin box outer → SpansInRange outer → IsLawfulBox box
+box_within box outer wide high within spans =
+    let left = within.right_of_xlo in
+    let bottom = within.above_ylo in
+    let right = within.left_of_xhi in
+    let top = within.below_yhi in
+    let low_x = spans.xlo.low in
+    let high_x = spans.xhi.high in
+    let low_y = spans.ylo.low in
+    let high_y = spans.yhi.high in
+    record {
+      wide = wide;
+      high = high;
+      spans = record {
+        xlo = record { low = omega (arith, ints); high = omega (arith, ints) };
+        ylo = record { low = omega (arith, ints); high = omega (arith, ints) };
+        xhi = record { low = omega (arith, ints); high = omega (arith, ints) };
+        yhi = record { low = omega (arith, ints); high = omega (arith, ints) };
+      };
+    }
 
 -- ---- rectangles
 

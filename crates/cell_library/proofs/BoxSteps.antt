@@ -3,15 +3,16 @@ use Rattle.cell_library.proofs.Common.{◌≡◌, ◌<◌, ℕ, List, length, se
 use Rattle.cell_library.proofs.Common.{bytes_eq, ints, clamps, and_parts, In-filter_source, All-from_In, All-In, Rect, LiesWithin, Covers, Label}
 use Rattle.cell_library.proofs.Common.{RawTech, TypeRec, Layout, with_erased, layout_of, KeepsTypes, IsSoundPaint, IsLabel, has_sides, TreeFault}
 use Rattle.cell_library.proofs.Common.{TooManyUses, Passed, Depth, Elements, Hull, IsInside, IsLawfulBox, Tree, IsLawfulTree, IsLawfulOwn, WouldPass}
-use Rattle.cell_library.proofs.Common.{cell_at, with_own, cell_is, Held, held_at, IsRepainted, IsLawfulHeld, OwnBoxIs, IsOwnBox, box_with}
+use Rattle.cell_library.proofs.Common.{WouldKeepWithin, cell_at, with_own, cell_is, Held, held_at, IsRepainted, IsLawfulHeld, OwnBoxIs, IsOwnBox}
+use Rattle.cell_library.proofs.Common.{box_with}
 use Rattle.std.specs.Prelude.{◌≤ℤ◌}
 use Rattle.tech_model.specs.WellFormed.{IsWellFormed}
 use Rattle.cell_tree.specs.declared.faults.TreeFault.TheVariants.{Cycle, Memory}
-use Rattle.cell_tree.specs.Trees.{RefusesBox, WouldKeepWithin}
+use Rattle.cell_tree.specs.Trees.{RefusesBox}
 use Rattle.cell_library.specs.Contents.{without_labels}
-use Rattle.cell_library.proofs.BoxLaws.{fewer_inside}
+use Rattle.cell_library.proofs.BoxLaws.{box_within, fewer_inside}
 use Rattle.cell_library.proofs.MaterialLaws.{erased_only}
-use Rattle.cell_library.proofs.OwnEdits.{put_there}
+use Rattle.cell_library.proofs.PaintEdits.{put_there}
 use Rattle.cell_library.proofs.SizeLaws.{tree_children, children_of_changed, fits_or_passes}
 
 -- a box that takes an area in is lawful
@@ -83,20 +84,8 @@ inner_lawful own labels (Some box) None is inside lawful upright inner same = ab
 inner_lawful own labels (Some box) (Some outer) is inside lawful upright inner same =
     let was : IsLawfulBox outer = lawful outer refl in
     let turned = own_box_wide own labels box is upright in
-    let wide : box.xlo ≤ℤ box.xhi = turned.0 in
-    let high : box.ylo ≤ℤ box.yhi = turned.1 in
     let one : box ≡ inner = cc in
-    let within : LiesWithin box outer = inside in
-    subst IsLawfulBox one (record {
-      wide = wide;
-      high = high;
-      spans = record {
-        xlo = record { low = omega (arith, ints); high = omega (arith, ints) };
-        ylo = record { low = omega (arith, ints); high = omega (arith, ints) };
-        xhi = record { low = omega (arith, ints); high = omega (arith, ints) };
-        yhi = record { low = omega (arith, ints); high = omega (arith, ints) };
-      };
-    })
+    subst IsLawfulBox one (box_within box outer turned.0 turned.1 inside was.spans)
 
 -- labels of a lawful cell are upright
 pub upright_labels : (raw : RawTech) (labels : List Label) → All (IsLabel raw) labels → All (λ label. IsTrue (has_sides label.area)) labels

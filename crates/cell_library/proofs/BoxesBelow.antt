@@ -11,6 +11,7 @@ use Rattle.geo_core.specs.Images.{rect_image}
 use Rattle.cell_tree.specs.Hulls.{round_both}
 use Rattle.cell_tree.specs.Sizes.{size_of}
 use Rattle.cell_library.specs.Limits.{HullIs}
+use Rattle.cell_library.proofs.BoxLaws.{box_within}
 use Rattle.cell_library.proofs.LimitLaws.{states_unique}
 use Rattle.cell_library.proofs.SizeLaws.{hulls_same, one_size, some_depth, tree_children}
 use Rattle.cell_library.proofs.UseEdits.{cell_below, child_below, uses_here}
@@ -89,27 +90,7 @@ hull_is sizes cell = refl
 
 in_range : (box : Rect) (outer : Option Rect) → IsUpright box → IsInside (Some box) outer → IsHullInRange outer → IsLawfulBox box
 in_range box None up inside near = absurd inside
-in_range box (Some outer) up inside near =
-    let wide = up.0 in
-    let high = up.1 in
-    let left = inside.right_of_xlo in
-    let bottom = inside.above_ylo in
-    let right = inside.left_of_xhi in
-    let top = inside.below_yhi in
-    let low_x = near.xlo.low in
-    let high_x = near.xhi.high in
-    let low_y = near.ylo.low in
-    let high_y = near.yhi.high in
-    record {
-      wide = up.0;
-      high = up.1;
-      spans = record {
-        xlo = record { low = omega (arith, ints); high = omega (arith, ints) };
-        ylo = record { low = omega (arith, ints); high = omega (arith, ints) };
-        xhi = record { low = omega (arith, ints); high = omega (arith, ints) };
-        yhi = record { low = omega (arith, ints); high = omega (arith, ints) };
-      };
-    }
+in_range box (Some outer) up inside near = box_within box outer up.0 up.1 inside near
 
 -- ---- lawful trees
 

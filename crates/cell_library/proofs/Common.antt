@@ -1,16 +1,15 @@
 -- What most files of proofs name of what stands below, and of the definitions of this crate.
 pub use Rattle.std.proofs.Common.{◌≡◌, ◌⊎◌, ◌+◌, ◌<◌, ℕ, zero, suc, List, [], ◌∷◌, ◌++◌, length, length-append, map, get_or, Option, refl, sym, ap}
-pub use Rattle.std.proofs.Common.{subst, ◌∙◌, arith, inl, inr, ◌-◌, ◌≤◌, append_assoc, take, drop, true, true≢false, set, ℤ, ◌≤ℤ◌, Bool, ◌*◌, ◌/◌}
-pub use Rattle.std.proofs.Common.{◌%◌, pos, neg_ℤ, ◌+ℤ◌, ◌-ℤ◌, ◌*ℤ◌, ◌<ℤ◌, to_z, of_z, w64, FitsSigned, ◌≢◌, false, ◌&&◌, filter, remove, rules}
-pub use Rattle.std.specs.Prelude.{Some, None, All, IsTrue, slice_get, slice_index_or, cond, nat_lt, IfSome, unwrap_or, not, Vec, OnOk, IfErr}
+pub use Rattle.std.proofs.Common.{subst, ◌∙◌, arith, inl, inr, ◌-◌, ◌≤◌, append_assoc, take, drop, true, true≢false, rules, set, ℤ, ◌≤ℤ◌, Bool, ◌*◌}
+pub use Rattle.std.proofs.Common.{◌/◌, ◌%◌, pos, neg_ℤ, ◌+ℤ◌, ◌-ℤ◌, ◌*ℤ◌, ◌<ℤ◌, to_z, of_z, w64, FitsSigned, ◌≢◌, false, ◌&&◌, filter, remove}
+pub use Rattle.std.specs.Prelude.{Some, None, All, IsTrue, slice_get, slice_index_or, cond, nat_lt, IfSome, unwrap_or, not, Vec, Ok, OnOk, IfErr}
 pub use Rattle.std.specs.Prelude.{slice_set, ◌||◌, if◌then◌else◌, IfOk}
 pub use Rattle.std.proofs.lemmas.List.{length-map, map-append, take_more, append-nil, drop_all, get_or_past, map-set, set-get_or, length-set}
 pub use Rattle.std.proofs.lemmas.List.{take_all, get_or-set_same}
 pub use Rattle.std.proofs.lemmas.Option.{slice_get_within, get_or_from_slice_get, slice_get-map, slice_get-get_or}
 pub use Rattle.std.specs.List.{position, position_or_len, list_any}
 pub use Rattle.std.specs.Str.{bytes_eq}
-pub use Rattle.std.proofs.lemmas.Bool.{cases_Bool, and_parts, ltb-false, cases_lt, cases_eq}
-pub use Rattle.std.proofs.lemmas.Bool.Decides.{nat_tests}
+pub use Rattle.std.proofs.lemmas.Bool.{cases_Bool, and_parts, cases_lt, cases_eq}
 pub use Rattle.std.proofs.lemmas.List.Elements.{All-push, All-set, All-take}
 pub use Rattle.std.proofs.lemmas.Slice.Eq.{bytes_eq-Decides}
 pub use Rattle.std.proofs.lemmas.Simd.{map-map}
@@ -34,8 +33,8 @@ pub use Rattle.cell_tree.specs.declared.sizes.Size.{Size}
 pub use Rattle.cell_tree.specs.declared.use_tables.UseBody.{UseBody}
 pub use Rattle.cell_tree.specs.Additions.{MayCome, children_of, new_state, new_states}
 pub use Rattle.cell_tree.specs.Sizes.{CellState, size_at, AreSizes, IsWithin, IsHullInRange, hulls_below, elements_below}
-pub use Rattle.cell_tree.specs.Trees.{Tree, IsLawfulTree, IsLawfulOwn, WouldPass, cell_at, with_own, IsEdited, empty_cell, RefusesMove, with_moved}
-pub use Rattle.cell_tree.specs.Trees.{empty_cell as empty_state}
+pub use Rattle.cell_tree.specs.Trees.{Tree, IsLawfulTree, IsLawfulOwn, WouldPass, WouldKeepWithin, cell_at, with_own, IsEdited, empty_cell}
+pub use Rattle.cell_tree.specs.Trees.{with_moved, empty_cell as empty_state, RefusesInsertion}
 pub use Rattle.cell_tree.specs.Trials.{ComesBefore}
 pub use Rattle.cell_tree.proofs.SizeLaws.{child_is_lower}
 pub use Rattle.cell_tree.proofs.ArrivalLaws.{above_as_deep}
@@ -52,23 +51,23 @@ pub use Rattle.geo_core.specs.declared.transforms.Transform.{Transform}
 pub use Rattle.geo_core.specs.Areas.{LiesWithin, joined_rect, common_rect, IsNear}
 pub use Rattle.geo_core.specs.Images.{identity, composed, image, inverted}
 pub use Rattle.cell_bodies.specs.LayoutModel.Layouts.{Layout, IsMaterial}
+pub use Rattle.cell_bodies.specs.CellPaint.Painting.{is_in_range, with_erased, with_paint, kinds_on}
 pub use Rattle.cell_bodies.specs.Numbers.{has_sides, is_displacement}
-pub use Rattle.cell_tree.specs.Hulls.{IsLawfulBox, IsInside, displaced, element_hulls, round_all, IsPaintable}
+pub use Rattle.cell_tree.specs.Hulls.{IsLawfulBox, SpansInRange, IsInside, displaced, element_hulls, round_all, IsPaintable}
 pub use Rattle.cell_tree.specs.Uses.{IsLawfulUse, displacements, IsLawfulGrid, IsShift, moved_at, HasIdAt}
 pub use Rattle.geo_core.proofs.FiniteSets.Members.{In-append_left, In-push_cases, In-filter_source, In-append_cases, In-append_right, In-map_source}
 pub use Rattle.geo_core.proofs.FiniteSets.Members.{In-map, In-index, In-get_or}
 pub use Rattle.geo_core.specs.declared.squares.Square.{Square}
 pub use Rattle.geo_core.specs.Covering.{Covers, IsProper, is_covered}
-pub use Rattle.geo_core.proofs.CoveringLaws.{filled_within, Covers-is_covered, is_covered-Covers, covers_both, IsProper-has_square, covers_is_proper}
+pub use Rattle.geo_core.proofs.CoveringLaws.{filled_within, covers_both, IsProper-has_square, covers_is_proper}
 pub use Rattle.cell_bodies.specs.LayoutModel.Places.{Place}
-pub use Rattle.cell_bodies.specs.CellPaint.Painting.{with_erased, with_paint, kinds_on}
 pub use Rattle.cell_bodies.specs.Bodies.{IsLabel}
 pub use Rattle.cell_tree.proofs.WholeLaws.{cell_is}
-pub use Rattle.geo_core.proofs.FiniteSets.Places.{drop-slice_get, In-slice_get, slice_get-set_other, slice_get-set_same}
+pub use Rattle.geo_core.proofs.FiniteSets.Places.{drop-slice_get, In-slice_get, slice_get-set_other}
 pub use Rattle.geo_core.specs.declared.orients.Orient.TheVariants.{R0, R90, R180, R270, Mx, My, Mx90, My90}
 pub use Rattle.geo_core.proofs.ImageLaws.{transform_of, image-back, image-forth, rect_image-covers}
 pub use Rattle.cell_tree.proofs.HullLaws.{inside_all}
-pub use Rattle.indexmap.specs.IndexMap.{set_value_at}
+pub use Rattle.indexmap.specs.IndexMap.{set_value_at, insert_entry}
 pub use Rattle.cell_bodies.specs.LayoutModel.CellTrees.{CellTree, place_back, Standing, standings}
 pub use Rattle.cell_bodies.specs.LayoutModel.FlatSets.{element_parts, parts_in, elements_in, flat_sets, sets_below, IsTyped}
 pub use Rattle.cell_tree.specs.declared.limits.TheConstants.{MOST_ELEMENTS_BELOW, MOST_DEPTH, MOST_USES}
@@ -108,7 +107,7 @@ pub use Rattle.cell_library.specs.declared.limits.TheConstants.{MOST_EDITS}
 pub use Rattle.cell_library.specs.declared.spots.Spot.{Spot}
 pub use Rattle.cell_library.specs.declared.spots.UseSearch.{UseSearch}
 pub use Rattle.cell_library.specs.steps.Spans.{IsGridOf, spot_at, spots_to, seen_by, seen_low_x, seen_high_x, seen_low_y, seen_high_y, CanBeDropped}
-pub use Rattle.cell_library.specs.steps.Spans.{HoldsMultiples, AddsRow, SpansFar}
+pub use Rattle.cell_library.specs.steps.Spans.{HoldsMultiples, AddsRow, SpansFar, HasRoomFor}
 pub use Rattle.cell_library.specs.Spots.{AddsSpots, HasRoomToMove, standing_at, tile_at, AddsOwn, spots_at, spots_from, own_elements, cells_at}
 pub use Rattle.cell_library.specs.Spots.{AreSifted, AreSiftedBy, AreNumbered, AreToldTo, CanBeVisited}
 pub use Rattle.cell_library.specs.steps.MaterialBelow.{HasMaterial, HasMaterialBelow}

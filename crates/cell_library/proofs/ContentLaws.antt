@@ -1,11 +1,11 @@
 -- The contents of cells in a hash table, seen as a list.
 use Rattle.cell_library.proofs.Common.{◌≡◌, ◌+◌, ◌≤◌, ℕ, zero, suc, Bool, List, [], ◌∷◌, ◌++◌, length, map, take, set, refl, sym, ap, ◌∙◌, arith}
 use Rattle.cell_library.proofs.Common.{inl, inr, Some, None, not, slice_get, Vec, cond, nat_lt, position, position_or_len, values_of, bytes_eq}
-use Rattle.cell_library.proofs.Common.{Global, set_value_at, cases_Bool, ltb-false, length-map, map-set, map-append, set-get_or, map-map, Label}
+use Rattle.cell_library.proofs.Common.{Global, set_value_at, cases_Bool, length-map, map-set, map-append, set-get_or, map-map, insert_entry, Label}
 use Rattle.cell_library.proofs.Common.{Place, Layout, Paint, layout_of, Content, Held, held_of, held_in, held_at, no_held, position_of, IsRepainted}
 use Rattle.std.specs.Map.{keys_of}
+use Rattle.std.proofs.lemmas.Bool.{ltb-false}
 use Rattle.std.proofs.lemmas.List.{take-map}
-use Rattle.indexmap.specs.IndexMap.{insert_entry}
 use Rattle.cell_library.specs.Contents.{AreUnderNames}
 
 -- ---- places
@@ -35,6 +35,12 @@ pub held_value : (contents : List Content) (cell : ℕ) (content : Content) → 
 held_value [] cell content is = absurd (cc)
 held_value (first ∷ contents) zero content is = let same : first ≡ content = cc in ap held_of same
 held_value (first ∷ contents) (suc cell) content is = held_value contents cell content is
+
+-- and so in the contents that are seen
+pub content_there : (contents : List Held) (entries : List (Vec ℕ Global × Content)) (cell : ℕ) (content : Content) → held_in entries ≡ contents
+    → slice_get (values_of entries) cell ≡ Some content → held_at contents cell ≡ held_of content
+content_there contents entries cell content seen is =
+    ap (λ (c : List Held). held_at c cell) (sym seen) ∙ held_value (values_of entries) cell content is
 
 -- ---- a change of a content
 
@@ -77,7 +83,7 @@ pub repainted : (contents : List Held) (entries : List (Vec ℕ Global × Conten
     → ((place : Place) → layout_of paint place ≡ change (layout_of old.paint) place)
     → IsRepainted contents (held_in (set_value_at entries cell (record old { paint = paint }))) cell change
 repainted contents entries cell old paint change seen is kinds planes layout =
-    let here : held_at contents cell ≡ held_of old = ap (λ (c : List Held). held_at c cell) (sym seen) ∙ held_value (values_of entries) cell old is in
+    let here = content_there contents entries cell old seen is in
     record {
       paint = paint;
       is = held_set entries cell (record old { paint = paint }) ∙ ap (λ (c : List Held). set c cell (held_of (record old { paint = paint }))) seen
@@ -93,7 +99,7 @@ pub relabelled : (contents : List Held) (entries : List (Vec ℕ Global × Conte
     → held_in (set_value_at entries cell (record old { labels = labels }))
     ≡ set contents cell (record (held_at contents cell) { labels = change (held_at contents cell).labels })
 relabelled contents entries cell old labels change seen is after =
-    let here : held_at contents cell ≡ held_of old = ap (λ (c : List Held). held_at c cell) (sym seen) ∙ held_value (values_of entries) cell old is in
+    let here = content_there contents entries cell old seen is in
     held_set entries cell (record old { labels = labels })
     ∙ ap (λ (c : List Held). set c cell (held_of (record old { labels = labels }))) seen
     ∙ ap (λ (ls : List Label). set contents cell (record (held_of old) { labels = ls })) after

@@ -1,9 +1,9 @@
 -- A library after an edit of one cell: it is lawful, and what is seen of it is what the edit says.
-use Rattle.cell_library.proofs.Common.{◌≡◌, ◌<◌, ℕ, List, length, map, set, refl, sym, ap, subst, ◌∙◌, arith, All, length-set, length-map, map-set}
-use Rattle.cell_library.proofs.Common.{All-set, Distinct, layout_of, RawTech, UseBody, CellState, Tree, IsLawfulTree, IsEdited, cell_at, Held}
-use Rattle.cell_library.proofs.Common.{held_at, no_held, IsRepainted, LibraryParts, IsLawfulLibrary, IsLawfulHeld, HasUseIds, cells_seen, uses_in}
-use Rattle.cell_library.proofs.Common.{seen, AreStatesOf, OwnBoxIs, cell_view, cell_views, CellView, changed_at}
-use Rattle.std.specs.Prelude.{Option}
+use Rattle.cell_library.proofs.Common.{◌≡◌, ◌<◌, ℕ, List, length, map, set, refl, sym, ap, subst, ◌∙◌, arith, All, Ok, OnOk, length-set, length-map}
+use Rattle.cell_library.proofs.Common.{map-set, All-set, Distinct, layout_of, RawTech, UseBody, CellState, Tree, IsLawfulTree, IsEdited, cell_at}
+use Rattle.cell_library.proofs.Common.{Held, held_at, no_held, IsRepainted, LibraryParts, IsLawfulLibrary, IsLawfulHeld, HasUseIds, cells_seen}
+use Rattle.cell_library.proofs.Common.{uses_in, seen, AreStatesOf, OwnBoxIs, cell_view, cell_views, CellView, changed_at}
+use Rattle.std.specs.Prelude.{Option, Result, Err, OnErr}
 use Rattle.std.proofs.Math.Seq.{map-set_same}
 use Rattle.cell_library.specs.Libraries.{IsLawfulScale, IsSame}
 use Rattle.cell_library.proofs.ViewLaws.{cell_changed, states_changed, unchanged_seen, uses_at}
@@ -106,6 +106,23 @@ refused_lawful library contents tree cell lawful below repainted still =
       tree = lawful.tree;
     } in
     kept_lawful (record { tech = library.tech; scale = library.scale; contents = contents; tree = library.tree }) contents tree now refl still
+
+-- so it is lawful after a call that is refused where the parts are the same
+pub lawful_or_kept : {T E P : Type 0} (library : LibraryParts) (contents : List Held) (tree : Tree) (r : Result T E) → IsLawfulLibrary library → OnOk r P
+    → OnErr r (contents ≡ library.contents) → OnErr r (tree ≡ library.tree)
+    → (P → IsLawfulLibrary (record { tech = library.tech; scale = library.scale; contents = contents; tree = tree }))
+    → IsLawfulLibrary (record { tech = library.tech; scale = library.scale; contents = contents; tree = tree })
+lawful_or_kept library contents tree (Ok x) lawful done kept same made = made done
+lawful_or_kept library contents tree (Err e) lawful done kept same made = kept_lawful library contents tree lawful kept same
+
+-- and after one that is refused where paint was made ready
+pub lawful_or_refused : {T E P : Type 0} (library : LibraryParts) (contents : List Held) (tree : Tree) (cell : ℕ) (r : Result T E)
+    → IsLawfulLibrary library → cell < length library.contents → OnOk r P → OnErr r (IsRepainted library.contents contents cell (λ own. own))
+    → OnErr r (tree ≡ library.tree)
+    → (P → IsLawfulLibrary (record { tech = library.tech; scale = library.scale; contents = contents; tree = tree }))
+    → IsLawfulLibrary (record { tech = library.tech; scale = library.scale; contents = contents; tree = tree })
+lawful_or_refused library contents tree cell (Ok x) lawful below done kept same made = made done
+lawful_or_refused library contents tree cell (Err e) lawful below done kept same made = refused_lawful library contents tree cell lawful below kept same
 
 -- a library of which the cells are seen to be these
 pub seen_cells : (tech : RawTech) (scale : Option (ℕ × ℕ)) (contents : List Held) (tree : Tree) (cells : List CellView) → cells_seen contents tree ≡ cells

@@ -1,6 +1,6 @@
 -- Faults in their order.
-use Rattle.cell_library.proofs.Common.{◌≡◌, ◌<◌, ◌⊎◌, ℕ, arith, inl, inr, OnOk, IfErr, LibFault, MOST_EDITS, HasFaultOrLacksMemory}
-use Rattle.std.specs.Prelude.{Result, Ok, Err, OnErr}
+use Rattle.cell_library.proofs.Common.{◌≡◌, ◌<◌, ◌⊎◌, ℕ, arith, inl, inr, Ok, OnOk, IfErr, LibFault, MOST_EDITS, HasFaultOrLacksMemory}
+use Rattle.std.specs.Prelude.{Result, Err, OnErr}
 use Rattle.cell_library.specs.Refusals.{Answers, AnswersOrLacksMemory}
 
 -- where the first condition doesn't hold, what comes later may be told otherwise

@@ -236,26 +236,21 @@ pub record MovesLittle (placed : Transform) : Type 0 where
   pub down : neg_ℤ (pos 281474976710655) ≤ℤ placed.dy
   pub up : placed.dy ≤ℤ pos 281474976710655
 
-element_moves-by_orient : (o : Orient) (dx dy : ℤ) (step : ℤ × ℤ) → IsStepSmall step → IsShift dx → IsShift dy
-    → MovesLittle (element_transform (transform_of o dx dy) step)
-element_moves-by_orient R0 dx dy step small x y =
-    let s0 : neg_ℤ (pos 140737488355328) ≤ℤ step.0 = small.left in let s1 : step.0 ≤ℤ pos 140737488355328 = small.right in
-    let s2 : neg_ℤ (pos 140737488355328) ≤ℤ step.1 = small.down in let s3 : step.1 ≤ℤ pos 140737488355328 = small.up in
-    let x0 : neg_ℤ (pos 134217716) ≤ℤ dx = x.low in let x1 : dx ≤ℤ pos 134217716 = x.high in
-    let y0 : neg_ℤ (pos 134217716) ≤ℤ dy = y.low in let y1 : dy ≤ℤ pos 134217716 = y.high in
+element_moves-by_orient : (o : Orient) (dx dy : ℤ) (step : ℤ × ℤ) → neg_ℤ (pos 140737488355328) ≤ℤ step.0 → step.0 ≤ℤ pos 140737488355328
+    → neg_ℤ (pos 140737488355328) ≤ℤ step.1 → step.1 ≤ℤ pos 140737488355328 → neg_ℤ (pos 134217716) ≤ℤ dx → dx ≤ℤ pos 134217716
+    → neg_ℤ (pos 134217716) ≤ℤ dy → dy ≤ℤ pos 134217716 → MovesLittle (element_transform (transform_of o dx dy) step)
+element_moves-by_orient R0 dx dy step s0 s1 s2 s3 x0 x1 y0 y1 =
     record { left = omega (arith, ints); right = omega (arith, ints); down = omega (arith, ints); up = omega (arith, ints) }
-element_moves-by_orient _ dx dy step small x y =
-    let s0 : neg_ℤ (pos 140737488355328) ≤ℤ step.0 = small.left in let s1 : step.0 ≤ℤ pos 140737488355328 = small.right in
-    let s2 : neg_ℤ (pos 140737488355328) ≤ℤ step.1 = small.down in let s3 : step.1 ≤ℤ pos 140737488355328 = small.up in
-    let x0 : neg_ℤ (pos 134217716) ≤ℤ dx = x.low in let x1 : dx ≤ℤ pos 134217716 = x.high in
-    let y0 : neg_ℤ (pos 134217716) ≤ℤ dy = y.low in let y1 : dy ≤ℤ pos 134217716 = y.high in
+element_moves-by_orient _ dx dy step s0 s1 s2 s3 x0 x1 y0 y1 =
     record { left = omega (arith, ints); right = omega (arith, ints); down = omega (arith, ints); up = omega (arith, ints) }
 
 -- an element of a lawful use moves little
 pub element_moves : (used : UseBody) (k : ℕ) (step : ℤ × ℤ) → IsLawfulUse used → slice_get (displacements used.grid) k ≡ Some step
     → MovesLittle (element_transform used.placed step)
 element_moves used k step lawful is =
-    element_moves-by_orient used.placed.orient used.placed.dx used.placed.dy step (step_small used.grid k step lawful.grid is) lawful.dx lawful.dy
+    let small = step_small used.grid k step lawful.grid is in
+    element_moves-by_orient used.placed.orient used.placed.dx used.placed.dy step small.left small.right small.down small.up lawful.dx.low lawful.dx.high
+    lawful.dy.low lawful.dy.high
 
 -- what moves little moves in reach
 pub little_in_reach : (placed : Transform) → MovesLittle placed → MovesInReach placed
@@ -271,30 +266,21 @@ step_in_reach step small =
     let r : neg_ℤ (pos 140737488355328) ≤ℤ step.1 = small.down in let s : step.1 ≤ℤ pos 140737488355328 = small.up in
     record { dx = (omega (arith, ints), omega (arith, ints)); dy = (omega (arith, ints), omega (arith, ints)) }
 
-room_below-by_orient : (levels : ℕ) (o : Orient) (dx dy : ℤ) (inner : Transform) → MovesLittle inner
-    → HasRoomToMove (suc levels) (transform_of o dx dy)
+room_below-by_orient : (levels : ℕ) (o : Orient) (dx dy : ℤ) (inner : Transform) → neg_ℤ (pos 281474976710655) ≤ℤ inner.dx
+    → inner.dx ≤ℤ pos 281474976710655 → neg_ℤ (pos 281474976710655) ≤ℤ inner.dy → inner.dy ≤ℤ pos 281474976710655
+    → (dx +ℤ pos (suc levels * 281474976710656)) ≤ℤ pos 18014398509481984 → pos (suc levels * 281474976710656) ≤ℤ (dx +ℤ pos 18014398509481984)
+    → (dy +ℤ pos (suc levels * 281474976710656)) ≤ℤ pos 18014398509481984 → pos (suc levels * 281474976710656) ≤ℤ (dy +ℤ pos 18014398509481984)
     → HasRoomToMove levels (composed inner (transform_of o dx dy))
-room_below-by_orient levels R0 dx dy inner little room =
-    let p0 : neg_ℤ (pos 281474976710655) ≤ℤ inner.dx = little.left in let p1 : inner.dx ≤ℤ pos 281474976710655 = little.right in
-    let p2 : neg_ℤ (pos 281474976710655) ≤ℤ inner.dy = little.down in let p3 : inner.dy ≤ℤ pos 281474976710655 = little.up in
-    let r0 : (dx +ℤ pos (suc levels * 281474976710656)) ≤ℤ pos 18014398509481984 = room.right in
-    let r1 : pos (suc levels * 281474976710656) ≤ℤ (dx +ℤ pos 18014398509481984) = room.left in
-    let r2 : (dy +ℤ pos (suc levels * 281474976710656)) ≤ℤ pos 18014398509481984 = room.up in
-    let r3 : pos (suc levels * 281474976710656) ≤ℤ (dy +ℤ pos 18014398509481984) = room.down in
+room_below-by_orient levels R0 dx dy inner p0 p1 p2 p3 r0 r1 r2 r3 =
     record { right = omega (arith, ints); left = omega (arith, ints); up = omega (arith, ints); down = omega (arith, ints) }
-room_below-by_orient levels _ dx dy inner little room =
-    let p0 : neg_ℤ (pos 281474976710655) ≤ℤ inner.dx = little.left in let p1 : inner.dx ≤ℤ pos 281474976710655 = little.right in
-    let p2 : neg_ℤ (pos 281474976710655) ≤ℤ inner.dy = little.down in let p3 : inner.dy ≤ℤ pos 281474976710655 = little.up in
-    let r0 : (dx +ℤ pos (suc levels * 281474976710656)) ≤ℤ pos 18014398509481984 = room.right in
-    let r1 : pos (suc levels * 281474976710656) ≤ℤ (dx +ℤ pos 18014398509481984) = room.left in
-    let r2 : (dy +ℤ pos (suc levels * 281474976710656)) ≤ℤ pos 18014398509481984 = room.up in
-    let r3 : pos (suc levels * 281474976710656) ≤ℤ (dy +ℤ pos 18014398509481984) = room.down in
+room_below-by_orient levels _ dx dy inner p0 p1 p2 p3 r0 r1 r2 r3 =
     record { right = omega (arith, ints); left = omega (arith, ints); up = omega (arith, ints); down = omega (arith, ints) }
 
 -- an element leaves room for one level less
 pub room_below : (levels : ℕ) (inner outer : Transform) → MovesLittle inner → HasRoomToMove (suc levels) outer
     → HasRoomToMove levels (composed inner outer)
-room_below levels inner outer little room = room_below-by_orient levels outer.orient outer.dx outer.dy inner little room
+room_below levels inner outer little room =
+    room_below-by_orient levels outer.orient outer.dx outer.dy inner little.left little.right little.down little.up room.right room.left room.up room.down
 
 -- what has room moves in reach
 pub room_in_reach : (levels : ℕ) (placed : Transform) → HasRoomToMove levels placed → MovesInReach placed

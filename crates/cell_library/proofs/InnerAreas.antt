@@ -1,13 +1,13 @@
 -- An area inside the box of what a cell has of its own that touches none of its sides: what changes in the area alone leaves the box.
 use Rattle.cell_library.proofs.Common.{◌≡◌, ◌⊎◌, inl, inr, ℕ, ◌<◌, ◌≤◌, ℤ, ◌≤ℤ◌, ◌<ℤ◌, true, false, Bool, List, [], ◌∷◌, refl, sym, ◌∙◌, arith}
-use Rattle.cell_library.proofs.Common.{nat_lt, list_any, cases_Bool, cases_lt, ltb-false, ints, clamps, In, Rect, joined_rect, LiesWithin}
-use Rattle.cell_library.proofs.Common.{is_covered, Covers, Covers-is_covered, Label, Layout, IsMaterial, Place, HoldsOwn, IsOwnBox}
+use Rattle.cell_library.proofs.Common.{nat_lt, list_any, cases_Bool, cases_lt, ints, clamps, In, Rect, joined_rect, LiesWithin, is_covered, Covers}
+use Rattle.cell_library.proofs.Common.{Label, Layout, IsMaterial, Place, HoldsOwn, IsOwnBox}
 use Rattle.std.specs.List.{range_with_len}
-use Rattle.std.proofs.lemmas.Bool.{ltb-true}
+use Rattle.std.proofs.lemmas.Bool.{ltb-true, ltb-false}
 use Rattle.geo_core.specs.FiniteSets.Range.{integer_range, pairs_of}
 use Rattle.geo_core.proofs.FiniteSets.Ranges.{In-pairs_of, Lists-rectangle}
 use Rattle.geo_core.proofs.FiniteSets.Searches.{list_any-In, list_any-source}
-use Rattle.geo_core.proofs.CoveringLaws.{covers_joined_left, covers_joined_right, within_covers, within_joined_first, within_joined_second, within_trans}
+use Rattle.geo_core.proofs.CoveringLaws.{covers_joined_left, covers_joined_right, within_covers, within_joined_first, within_joined_second, within_trans, Covers-is_covered}
 use Rattle.tech_model.proofs.WellFormedLaws.{In-range_with_len}
 use Rattle.cell_library.specs.OwnBoxes.{HasOwn}
 use Rattle.cell_library.specs.steps.OwnRestorations.{is_inside}

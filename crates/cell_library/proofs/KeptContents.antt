@@ -1,6 +1,6 @@
 -- Contents as they are kept, when they change.
 use Rattle.cell_library.proofs.Common.{◌≡◌, ◌<◌, ℕ, List, [], ◌∷◌, ◌++◌, length, take, refl, sym, ap, subst, ◌∙◌, arith, Some, All, slice_get, Vec}
-use Rattle.cell_library.proofs.Common.{values_of, Global, length-map, All-push, All-set, All-take, slice_get_within, set_value_at, layout_of}
+use Rattle.cell_library.proofs.Common.{values_of, Global, length-map, All-push, All-set, All-take, slice_get_within, set_value_at, Label, layout_of}
 use Rattle.cell_library.proofs.Common.{IsSoundPaint, Content, held_of, held_in, no_held, IsSoundHeld, AreKept}
 use Rattle.std.proofs.lemmas.List.{take_at}
 use Rattle.cell_library.proofs.ContentLaws.{held_value, held_set, still_under_names, held_more, under_names_more, held_first, under_names_first}
@@ -23,6 +23,12 @@ still_kept entries cell old new is same sound kept = record {
   names = still_under_names entries cell old new is same kept.names;
   sound = subst (All IsSoundHeld) (sym (held_set entries cell new)) (All-set IsSoundHeld (held_in entries) cell (held_of new) sound kept.sound);
 }
+
+-- a content with other labels
+pub kept_relabelled : (entries : List (Vec ℕ Global × Content)) (cell : ℕ) (old : Content) (labels : Vec Label Global)
+    → slice_get (values_of entries) cell ≡ Some old → AreKept entries → AreKept (set_value_at entries cell (record old { labels = labels }))
+kept_relabelled entries cell old labels is kept =
+    still_kept entries cell old (record old { labels = labels }) is refl (sound_at entries cell old is kept) kept
 
 -- one more content whose paint is sound
 pub kept_more : (entries : List (Vec ℕ Global × Content)) (key : Vec ℕ Global) (content : Content) → key.items ≡ content.name

@@ -1,13 +1,13 @@
 -- Painting takes no material away and leaves none of the area without; erasing makes none.
 use Rattle.cell_library.proofs.Common.{◌≡◌, ◌≢◌, ◌⊎◌, ◌+◌, ◌<◌, ℕ, zero, suc, Option, List, [], ◌∷◌, length, refl, sym, ap, get_or, subst, ◌∙◌}
 use Rattle.cell_library.proofs.Common.{arith, inl, inr, Some, None, IsTrue, unwrap_or, bit_at, cases_Bool, cases_lt, In, In-index, In-get_or, All-In}
-use Rattle.cell_library.proofs.Common.{Square, Rect, Covers, is_covered, Covers-is_covered, is_covered-Covers, MOST_PLANES, TypeId, RawTech}
-use Rattle.cell_library.proofs.Common.{plane_of, parts_of, type_on, painted_column, erased_column, Place, Layout, IsMaterial, with_paint}
-use Rattle.cell_library.proofs.Common.{with_erased, KeepsTypes}
+use Rattle.cell_library.proofs.Common.{Square, Rect, Covers, is_covered, MOST_PLANES, TypeId, RawTech, plane_of, parts_of, type_on, painted_column}
+use Rattle.cell_library.proofs.Common.{erased_column, Place, Layout, IsMaterial, with_paint, with_erased, KeepsTypes}
 use Rattle.std.proofs.Common.{◌^◌, fold, bit_and, bit_or}
 use Rattle.std.proofs.lemmas.Bool.{true≢false, eq-eqb, eqb-true}
 use Rattle.std.proofs.lemmas.Nat.Bits.{bit_at-zero, bit_at_and, same_from_bits}
 use Rattle.geo_core.proofs.FiniteSets.Searches.{find-In, find-none}
+use Rattle.geo_core.proofs.CoveringLaws.{Covers-is_covered, is_covered-Covers}
 use Rattle.tech_model.specs.declared.raw.LayerRec.{LayerRec}
 use Rattle.tech_model.specs.Types.{is_type, type_number, no_layer, layer_at, images_of, is_on, image_on, joined, is_subset, without}
 use Rattle.tech_model.specs.WellFormed.{IsWellFormed, IsContact, IsMarked}

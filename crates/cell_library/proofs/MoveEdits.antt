@@ -4,12 +4,13 @@ use Rattle.cell_library.proofs.Common.{ap, subst, ◌∙◌, arith, inl, inr, tr
 use Rattle.cell_library.proofs.Common.{bytes_eq, cases_Bool, cases_eq, cases_lt, length-set, get_or-set_same, slice_get-get_or, bytes_eq-Decides, In}
 use Rattle.cell_library.proofs.Common.{Distinct, All-from_In, All-In, slice_get-set_other, Grid, Transform, is_use_id, TreeFault, Crossing}
 use Rattle.cell_library.proofs.Common.{TooManyUses, Passed, NoMemory, Depth, Elements, Hull, Size, UseBody, moved_at, displacements, CellState}
-use Rattle.cell_library.proofs.Common.{AreSizes, size_at, elements_below, IsWithin, Tree, IsLawfulTree, RefusesMove, WouldPass, cell_at, with_moved}
+use Rattle.cell_library.proofs.Common.{AreSizes, size_at, elements_below, IsWithin, Tree, IsLawfulTree, WouldPass, cell_at, with_moved}
 use Rattle.cell_library.proofs.Common.{child_is_lower, cell_is, LibFault, OutOfRange, NoUse, TooMany, MOST_EDITS, of_tree, HasUseAt, moved_use}
 use Rattle.cell_library.proofs.Common.{with_use_changed, LibraryParts, IsLawfulLibrary, HasUseIds, cells_seen, seen, edits_of, AreStatesOf, GoesPast}
 use Rattle.cell_library.proofs.Common.{FirstOf, NothingElse, EditIsRefused, has_id, stands_in_range, CellView, view_at}
 use Rattle.std.specs.Prelude.{ℤ}
 use Rattle.cell_tree.specs.Sizes.{size_of}
+use Rattle.cell_tree.specs.Trees.{RefusesMove}
 use Rattle.cell_tree.proofs.SizeLaws.{elements_below-alike}
 use Rattle.cell_library.specs.declared.limits.LibraryLimit.TheVariants.{Elements as ElementsLimit, Edits}
 use Rattle.cell_library.specs.steps.CellEdits.{IsArrayedIn, GridIsRefused, IsMovedIn, ShiftIsRefused}

@@ -1,12 +1,11 @@
 -- Erasing, and labels of one cell: what becomes of the library, and what it is refused for.
-use Rattle.cell_library.proofs.Common.{◌≡◌, ◌<◌, ℕ, false, Bool, List, [], ◌∷◌, ◌++◌, length, set, filter, refl, sym, ap, subst, ◌∙◌, arith, inl}
-use Rattle.cell_library.proofs.Common.{inr, true≢false, IfSome, not, IsTrue, bytes_eq, get_or-set_same, All-push, In-filter_source, All-from_In}
-use Rattle.cell_library.proofs.Common.{All-In, Rect, Label, Layout, with_erased, layout_of, IsLabel, has_sides, Hull, Tree, IsLawfulTree, cell_at}
-use Rattle.cell_library.proofs.Common.{with_own, empty_state, LibFault, Held, held_at, no_held, erased, LibraryParts, IsLawfulLibrary, cells_seen}
-use Rattle.cell_library.proofs.Common.{uses_in, seen, edits_of, AreStatesOf, OwnBoxIs, FirstOf, NothingElse, EditIsRefused, HasFaultOrLacksMemory}
-use Rattle.cell_library.proofs.Common.{cell_view, CellView, changed_at, view_at}
+use Rattle.cell_library.proofs.Common.{◌≡◌, ◌<◌, ℕ, false, Bool, List, [], ◌∷◌, ◌++◌, length, filter, refl, sym, ap, subst, ◌∙◌, arith, inl, inr}
+use Rattle.cell_library.proofs.Common.{true≢false, IfSome, not, IsTrue, bytes_eq, All-push, In-filter_source, All-from_In, All-In, Rect, Label}
+use Rattle.cell_library.proofs.Common.{with_erased, is_in_range, layout_of, IsLabel, has_sides, Hull, Tree, IsLawfulTree, cell_at, with_own}
+use Rattle.cell_library.proofs.Common.{empty_state, LibFault, Held, held_at, erased, LibraryParts, IsLawfulLibrary, cells_seen, uses_in, seen}
+use Rattle.cell_library.proofs.Common.{edits_of, AreStatesOf, OwnBoxIs, FirstOf, NothingElse, EditIsRefused, HasFaultOrLacksMemory, CellView}
+use Rattle.cell_library.proofs.Common.{changed_at, view_at}
 use Rattle.std.proofs.lemmas.Bool.{and_from}
-use Rattle.cell_bodies.specs.CellPaint.Painting.{is_in_range}
 use Rattle.cell_bodies.specs.Numbers.{is_position}
 use Rattle.cell_bodies.specs.Words.{is_label_text}
 use Rattle.cell_library.specs.declared.faults.LibFault.TheVariants.{NoLabel}
@@ -19,12 +18,8 @@ use Rattle.cell_library.proofs.BoxLaws.{labelled_box}
 use Rattle.cell_library.proofs.EditLaws.{edit_seen, edit_lawful}
 use Rattle.cell_library.proofs.FaultLaws.{first_of_map, not_first, or_memory_map, not_full}
 use Rattle.cell_library.proofs.LimitLaws.{never_past, would_go_past}
-use Rattle.cell_library.proofs.PaintEdits.{held_lawful, own_is, states_after}
+use Rattle.cell_library.proofs.PaintEdits.{area_unrefused, held_lawful, own_is, put_there, repainted_seen, repainted_there, states_after}
 use Rattle.cell_library.proofs.ViewLaws.{cell_viewed}
-
--- the content that was put at a place stands there
-pub put_there : (contents new : List Held) (cell : ℕ) (held : Held) → cell < length contents → new ≡ set contents cell held → held_at new cell ≡ held
-put_there contents new cell held below is = ap (λ (c : List Held). held_at c cell) is ∙ get_or-set_same contents cell held no_held below
 
 module _ (library : LibraryParts) (lawful : IsLawfulLibrary library) (cell : ℕ) (below : cell < length library.contents) where
   -- the labels that are seen are those that are kept
@@ -41,46 +36,19 @@ module _ (library : LibraryParts) (lawful : IsLawfulLibrary library) (cell : ℕ
   module _ (layer : ℕ) (area : Rect) (contents : List Held) (tree : Tree)
       (done : IsErasedIn library.tech layer area cell library.contents contents library.tree tree)
       (tree_lawful : IsLawfulTree tree) where
-    erased_held : Held
-    erased_held = record (held_at library.contents cell) { paint = done.erased.paint }
-
-    erased_layout : layout_of done.erased.paint ≡ with_erased library.tech layer area (layout_of (held_at library.contents cell).paint)
-    erased_layout = λ i place. done.erased.layout place i
-
     pub erased_seen : cells_seen contents tree
         ≡ changed_at (cells_seen library.contents library.tree) cell (λ body. record body { own = with_erased library.tech layer area body.own })
-    unfolding erased_held
-    erased_seen =
-        edit_seen library contents tree cell erased_held (with_own (cell_at library.tree.cells cell) done.box)
-        (λ body. record body { own = with_erased library.tech layer area body.own }) lawful below done.erased.is done.edited
-        (ap (λ (own : Layout). record (cell_view (held_at library.contents cell) (cell_at library.tree.cells cell).uses) { own = own }) erased_layout)
+    erased_seen = repainted_seen library lawful cell below (with_erased library.tech layer area) contents tree done.box done.erased done.edited
 
     pub erased_lawful : IsLawfulLibrary (record { tech = library.tech; scale = library.scale; contents = contents; tree = tree })
-    unfolding erased_held
     erased_lawful =
-        let held = held_lawful library lawful cell below in
-        let many = lawful.so_many in
-        edit_lawful library contents tree cell erased_held (with_own (cell_at library.tree.cells cell) done.box) lawful below done.erased.is done.edited
-        tree_lawful refl
-        (record {
-          name = held.name;
-          kinds = done.erased.kinds ∙ held.kinds;
-          planes = done.erased.planes ∙ held.planes;
-          labels = held.labels;
-        })
-        (lawful.ids cell empty_state (omega arith))
-        (subst (λ (h : Held). OwnBoxIs (layout_of h.paint) h.labels done.box) (put_there library.contents contents cell erased_held below done.erased.is)
-        done.own)
+        repainted_there library lawful cell below (with_erased library.tech layer area) contents tree done.box done.erased done.edited tree_lawful done.own
 
     pub erased_unrefused : (fault : LibFault) → EditIsRefused (edits_of library) (EraseIsRefused (seen library) cell layer area) fault → ⊥
     erased_unrefused fault =
-        not_first (not_full _ done.edits)
-        (not_first (λ none. true≢false (sym done.proper ∙ none))
-        (not_first (λ far. true≢false (sym done.near ∙ far))
-        (not_first
+        area_unrefused (edits_of library) area (erased (seen library) cell layer area) fault done.edits done.proper done.near
         (never_past (erased (seen library) cell layer area) tree Hull tree_lawful
         (subst (λ (cells : List CellView). AreStatesOf cells tree.cells) erased_seen erased_lawful.boxes))
-        (λ none. none))))
 
   -- ---- a label
 

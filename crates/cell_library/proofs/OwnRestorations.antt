@@ -18,8 +18,8 @@ use Rattle.cell_library.proofs.BoxSteps.{own_lawful}
 use Rattle.cell_library.proofs.EditLaws.{edit_seen, edit_lawful}
 use Rattle.cell_library.proofs.FaultLaws.{not_first, not_full}
 use Rattle.cell_library.proofs.LimitLaws.{never_past, states_unique, would_go_past}
-use Rattle.cell_library.proofs.OwnEdits.{labels_here, put_there}
-use Rattle.cell_library.proofs.PaintEdits.{held_lawful, states_after}
+use Rattle.cell_library.proofs.OwnEdits.{labels_here}
+use Rattle.cell_library.proofs.PaintEdits.{held_lawful, put_there, repainted_seen, repainted_there, states_after}
 use Rattle.cell_library.proofs.UndoneEdits.{changed_there}
 use Rattle.cell_library.proofs.ViewLaws.{cell_viewed, count_seen, length-changed_at}
 
@@ -205,31 +205,13 @@ module _ (library : LibraryParts) (lawful : IsLawfulLibrary library) (cell : ℕ
 
   module _ (area : Rect) (pieces : List (ℕ × Piece)) (contents : List Held) (tree : Tree)
       (done : IsPutBackIn area pieces cell library.contents contents library.tree tree) (tree_lawful : IsLawfulTree tree) where
-    put_held : Held
-    put_held = record (held_at library.contents cell) { paint = done.put.paint }
-
-    put_layout : layout_of done.put.paint ≡ with_pieces area pieces (layout_of (held_at library.contents cell).paint)
-    put_layout = λ i place. done.put.layout place i
-
     pub put_seen : cells_seen contents tree
         ≡ changed_at (cells_seen library.contents library.tree) cell (λ b. record b { own = with_pieces area pieces b.own })
-    unfolding put_held
-    put_seen =
-        edit_seen library contents tree cell put_held (with_own (cell_at library.tree.cells cell) done.box)
-        (λ b. record b { own = with_pieces area pieces b.own }) lawful below done.put.is done.edited
-        (ap (λ (own : Layout). record body { own = own }) put_layout)
+    put_seen = repainted_seen library lawful cell below (with_pieces area pieces) contents tree done.box done.put done.edited
 
     pub put_lawful : IsLawfulLibrary (record { tech = library.tech; scale = library.scale; contents = contents; tree = tree })
-    unfolding put_held
     put_lawful =
-        let held = held_lawful library lawful cell below in
-        let many = lawful.so_many in
-        edit_lawful library contents tree cell put_held (with_own (cell_at library.tree.cells cell) done.box) lawful below done.put.is
-        done.edited tree_lawful refl
-        (record { name = held.name; kinds = done.put.kinds ∙ held.kinds; planes = done.put.planes ∙ held.planes; labels = held.labels })
-        (lawful.ids cell empty_state (omega arith))
-        (subst (λ (h : Held). OwnBoxIs (layout_of h.paint) h.labels done.box) (put_there library.contents contents cell put_held below done.put.is)
-        done.own)
+        repainted_there library lawful cell below (with_pieces area pieces) contents tree done.box done.put done.edited tree_lawful done.own
 
   -- ---- labels
 

@@ -1,10 +1,12 @@
 -- Paint and labels of one cell: what becomes of the library, and what it is refused for.
-use Rattle.cell_library.proofs.Common.{◌≡◌, ◌<◌, ◌≤◌, ℕ, true, false, Bool, List, [], length, Option, refl, sym, ap, subst, ◌∙◌, arith, inl, inr}
-use Rattle.cell_library.proofs.Common.{true≢false, Some, slice_get, slice_set, slice_index_or, cases_lt, Rect, IsProper-has_square, MOST_PLANES}
-use Rattle.cell_library.proofs.Common.{TypeRec, RawTech, plane_of, Place, Layout, IsMaterial, with_paint, Paint, layout_of, KeepsTypes, IsSoundPaint}
-use Rattle.cell_library.proofs.Common.{space_past, Hull, CellState, Tree, IsLawfulTree, cell_at, empty_state, LibFault, Held, held_at, no_held}
-use Rattle.cell_library.proofs.Common.{painted, LibraryParts, IsLawfulLibrary, IsLawfulHeld, cells_seen, uses_in, seen, edits_of, AreStatesOf}
-use Rattle.cell_library.proofs.Common.{GoesPast, OwnBoxIs, IsOwnBox, box_with, EditIsRefused, HasFaultOrLacksMemory, cell_view, CellView, changed_at}
+use Rattle.cell_library.proofs.Common.{◌≡◌, ◌<◌, ◌≤◌, ℕ, true, false, Bool, List, [], length, set, Option, refl, sym, ap, subst, ◌∙◌, arith, inl}
+use Rattle.cell_library.proofs.Common.{inr, true≢false, Some, slice_get, slice_set, slice_index_or, cases_lt, get_or-set_same, Rect}
+use Rattle.cell_library.proofs.Common.{IsProper-has_square, MOST_PLANES, TypeRec, RawTech, plane_of, Place, Layout, IsMaterial, with_paint}
+use Rattle.cell_library.proofs.Common.{is_in_range, Paint, layout_of, KeepsTypes, IsSoundPaint, space_past, Hull, CellState, Tree, IsLawfulTree}
+use Rattle.cell_library.proofs.Common.{IsEdited, cell_at, with_own, empty_state, LibFault, OutOfRange, MOST_EDITS, Held, held_at, no_held}
+use Rattle.cell_library.proofs.Common.{IsRepainted, painted, LibraryParts, IsLawfulLibrary, IsLawfulHeld, cells_seen, uses_in, seen, edits_of}
+use Rattle.cell_library.proofs.Common.{AreStatesOf, GoesPast, OwnBoxIs, IsOwnBox, box_with, FirstOf, NothingElse, EditIsRefused}
+use Rattle.cell_library.proofs.Common.{HasFaultOrLacksMemory, cell_view, CellView, LibraryView, changed_at}
 use Rattle.geo_core.specs.Areas.{has_square}
 use Rattle.tech_model.specs.WellFormed.{IsWellFormed}
 use Rattle.tech_model.specs.Rules.{KeepsRules}
@@ -17,6 +19,10 @@ use Rattle.cell_library.proofs.FaultLaws.{first_of_map, not_first, or_memory_map
 use Rattle.cell_library.proofs.LimitLaws.{never_past, would_go_past}
 use Rattle.cell_library.proofs.MaterialLaws.{painted_keeps, painted_fills, painted_only, some_image}
 use Rattle.cell_library.proofs.ViewLaws.{cell_seen, cell_viewed, uses_at, state_there, states_changed}
+
+-- the content that was put at a place stands there
+pub put_there : (contents new : List Held) (cell : ℕ) (held : Held) → cell < length contents → new ≡ set contents cell held → held_at new cell ≡ held
+put_there contents new cell held below is = ap (λ (c : List Held). held_at c cell) is ∙ get_or-set_same contents cell held no_held below
 
 -- ---- the cell that is edited
 
@@ -53,6 +59,52 @@ module _ (library : LibraryParts) (lawful : IsLawfulLibrary library) (cell : ℕ
       states_changed (cells_seen library.contents library.tree) library.tree.cells cell change state lawful.boxes (λ body is.
       subst (λ (view : CellView). OwnBoxIs (change view).own (change view).labels state.own × (state.uses ≡ (change view).uses)) (sym (seen_here body is))
       (own, uses))
+
+-- ---- other paint
+
+-- the cell has other paint, and a box that goes round it
+module _ (library : LibraryParts) (lawful : IsLawfulLibrary library) (cell : ℕ) (below : cell < length library.contents) (change : Layout → Layout)
+    (contents : List Held) (tree : Tree) (box : Option Rect) (repainted : IsRepainted library.contents contents cell change)
+    (edited : IsEdited library.tree tree cell (with_own (cell_at library.tree.cells cell) box)) where
+  abbrev repainted_held : Held
+  repainted_held = record (held_at library.contents cell) { paint = repainted.paint }
+
+  pub repainted_layout : layout_of repainted.paint ≡ change (layout_of (held_at library.contents cell).paint)
+  repainted_layout = λ i place. repainted.layout place i
+
+  -- what is seen of the cells is what the change makes of them
+  pub repainted_seen : cells_seen contents tree
+      ≡ changed_at (cells_seen library.contents library.tree) cell (λ body. record body { own = change body.own })
+  repainted_seen =
+      edit_seen library contents tree cell repainted_held (with_own (cell_at library.tree.cells cell) box)
+      (λ body. record body { own = change body.own }) lawful below repainted.is edited
+      (ap (λ (own : Layout). record (cell_view (held_at library.contents cell) (cell_at library.tree.cells cell).uses) { own = own }) repainted_layout)
+
+  -- and the library is lawful
+  pub repainted_lawful : IsLawfulTree tree → OwnBoxIs (layout_of repainted.paint) (held_at library.contents cell).labels box
+      → IsLawfulLibrary (record { tech = library.tech; scale = library.scale; contents = contents; tree = tree })
+  repainted_lawful tree_lawful own =
+      let held = held_lawful library lawful cell below in
+      let many = lawful.so_many in
+      edit_lawful library contents tree cell repainted_held (with_own (cell_at library.tree.cells cell) box) lawful below repainted.is edited
+      tree_lawful refl
+      (record { name = held.name; kinds = repainted.kinds ∙ held.kinds; planes = repainted.planes ∙ held.planes; labels = held.labels })
+      (lawful.ids cell empty_state (omega arith)) own
+
+  -- also where the box is that of what stands there then
+  pub repainted_there : IsLawfulTree tree → OwnBoxIs (layout_of (held_at contents cell).paint) (held_at contents cell).labels box
+      → IsLawfulLibrary (record { tech = library.tech; scale = library.scale; contents = contents; tree = tree })
+  repainted_there tree_lawful own =
+      repainted_lawful tree_lawful (subst (λ (h : Held). OwnBoxIs (layout_of h.paint) h.labels box)
+      (put_there library.contents contents cell repainted_held below repainted.is) own)
+
+-- an edit of an area after which no hull goes past the range is not refused
+pub area_unrefused : (edits : ℕ) (area : Rect) (view : LibraryView) (fault : LibFault) → edits < MOST_EDITS → has_square area ≡ true
+    → is_in_range area ≡ true → (GoesPast Hull view → ⊥)
+    → EditIsRefused edits (AreaIsRefused area (FirstOf (GoesPast Hull view) OutOfRange NothingElse)) fault → ⊥
+area_unrefused edits area view fault few proper near fits =
+    not_first (not_full edits few)
+    (not_first (λ none. true≢false (sym proper ∙ none)) (not_first (λ far. true≢false (sym near ∙ far)) (not_first fits (λ none. none))))
 
 -- ---- paint
 
@@ -116,47 +168,25 @@ module _ (library : LibraryParts) (lawful : IsLawfulLibrary library) (cell : ℕ
 
   module _ (contents : List Held) (tree : Tree) (done : IsPaintedIn library.tech layer area cell library.contents contents library.tree tree)
       (tree_lawful : IsLawfulTree tree) where
-    after_held : Held
-    after_held = record (held_at library.contents cell) { paint = done.painted.paint }
-
-    after_layout : layout_of done.painted.paint ≡ with_paint library.tech layer area (layout_of (held_at library.contents cell).paint)
-    after_layout = λ i place. done.painted.layout place i
-
     -- what is seen of the cells is what paint makes of them
     pub painted_seen : cells_seen contents tree
         ≡ changed_at (cells_seen library.contents library.tree) cell (λ body. record body { own = with_paint library.tech layer area body.own })
-    unfolding after_held
-    painted_seen =
-        edit_seen library contents tree cell after_held (with_area library.tree cell area)
-        (λ body. record body { own = with_paint library.tech layer area body.own })
-        lawful below done.painted.is done.edited
-        (ap (λ (own : Layout). record (cell_view (held_at library.contents cell) (cell_at library.tree.cells cell).uses) { own = own }) after_layout)
+    painted_seen = repainted_seen library lawful cell below (with_paint library.tech layer area) contents tree _ done.painted done.edited
 
     -- and the library is lawful
     pub painted_lawful : IsLawfulLibrary (record { tech = library.tech; scale = library.scale; contents = contents; tree = tree })
-    unfolding after_held
     painted_lawful =
-        let held = held_lawful library lawful cell below in
-        let many = lawful.so_many in
-        edit_lawful library contents tree cell after_held (with_area library.tree cell area) lawful below done.painted.is done.edited tree_lawful refl
-        (record {
-          name = held.name;
-          kinds = done.painted.kinds ∙ held.kinds;
-          planes = done.painted.planes ∙ held.planes;
-          labels = held.labels;
-        })
-        (lawful.ids cell empty_state (omega arith))
-        (subst (λ (own : Layout). IsOwnBox own (held_at library.contents cell).labels (box_with (cell_at library.tree.cells cell).own area)) (sym after_layout)
+        let change = with_paint library.tech layer area in
+        let box = box_with (cell_at library.tree.cells cell).own area in
+        repainted_lawful library lawful cell below change contents tree (Some box) done.painted done.edited tree_lawful
+        (subst (λ (own : Layout). IsOwnBox own (held_at library.contents cell).labels box)
+        (sym (repainted_layout library lawful cell below change contents tree (Some box) done.painted done.edited))
         (painted_own_box library.tech layer area (held_at library.contents cell) (cell_at library.tree.cells cell).own library lawful refl layer_below
-        held sound (own_is library lawful cell below) done.proper))
+        (held_lawful library lawful cell below) sound (own_is library lawful cell below) done.proper))
 
     -- nothing refused it
     pub painted_unrefused : (fault : LibFault) → EditIsRefused (edits_of library) (PaintIsRefused (seen library) cell layer area) fault → ⊥
     painted_unrefused fault =
-        not_first (not_full _ done.edits)
-        (not_first (λ none. true≢false (sym done.proper ∙ none))
-        (not_first (λ far. true≢false (sym done.near ∙ far))
-        (not_first
+        area_unrefused (edits_of library) area (painted (seen library) cell layer area) fault done.edits done.proper done.near
         (never_past (painted (seen library) cell layer area) tree Hull tree_lawful
         (subst (λ (cells : List CellView). AreStatesOf cells tree.cells) painted_seen painted_lawful.boxes))
-        (λ none. none))))

@@ -1,14 +1,15 @@
 -- The tiles of a cell have the sets of its parts.
 use Rattle.cell_library.proofs.Common.{◌≡◌, ◌≢◌, ◌+◌, ◌<◌, ℕ, zero, suc, Bool, true, false, List, [], ◌∷◌, ◌++◌, refl, sym, ap, subst, ◌∙◌, arith}
 use Rattle.cell_library.proofs.Common.{inl, inr, slice_get, slice_index_or, if◌then◌else◌, bit_at, cases_Bool, cases_eq, and_parts, In, Lists}
-use Rattle.cell_library.proofs.Common.{In-slice_get, Rect, Transform, Covers, is_covered, composed, identity, image, inverted, Covers-is_covered}
-use Rattle.cell_library.proofs.Common.{is_covered-Covers, RawTech, parts_of, Place, CellTree, Standing, place_back, cell_tree, no_elements}
-use Rattle.cell_library.proofs.Common.{element_and, flat_sets, sets_below, element_parts, MOST_DEPTH, PartTile, tree_to, LibraryView, set_of_part}
-use Rattle.cell_library.proofs.Common.{set_of_tiles, IsPartTileIn, placed_cells, placed_below, AddsTiles, IsCutOf, HasThere, AreTold}
+use Rattle.cell_library.proofs.Common.{In-slice_get, Rect, Transform, Covers, is_covered, composed, identity, image, inverted, RawTech, parts_of}
+use Rattle.cell_library.proofs.Common.{Place, CellTree, Standing, place_back, cell_tree, no_elements, element_and, flat_sets, sets_below}
+use Rattle.cell_library.proofs.Common.{element_parts, MOST_DEPTH, PartTile, tree_to, LibraryView, set_of_part, set_of_tiles, IsPartTileIn}
+use Rattle.cell_library.proofs.Common.{placed_cells, placed_below, AddsTiles, IsCutOf, HasThere, AreTold}
 use Rattle.std.proofs.Common.{cond, eqb, bit_or, Some}
 use Rattle.std.specs.Prelude.{◌==◌, ◌&&◌}
 use Rattle.std.proofs.lemmas.Bool.{eq-eqb, eqb-true}
 use Rattle.std.proofs.lemmas.Nat.Bits.{bit_at-zero, bit_at_or, bit_at-lt, same_from_bits}
+use Rattle.geo_core.proofs.CoveringLaws.{Covers-is_covered, is_covered-Covers}
 use Rattle.cell_bodies.specs.LayoutModel.CellTrees.{Elements}
 use Rattle.cell_library.specs.LayoutTrees.{tree_at}
 use Rattle.cell_library.specs.PartTiles.{set_from}
@@ -61,14 +62,18 @@ told_parts tree area tiles told = (
 
 -- ---- sets of standing cells
 
+-- the union of the sets of all
+abbrev union_of : {X : Type 0} → (X → ℕ) → List X → ℕ
+union_of set_of [] = 0
+union_of set_of (x ∷ xs) = bit_or (set_of x) (union_of set_of xs)
+
 -- the set that a standing cell has at a place, if it stands in the part
 abbrev set_there : RawTech → ℕ → Standing → Place → ℕ
 set_there raw part standing place = if standing.part == part then parts_of raw (standing.own.layout (place_back standing.placed place)) else 0
 
 -- the union of those of standing cells
 abbrev sets_at : RawTech → List Standing → ℕ → Place → ℕ
-sets_at raw [] part place = 0
-sets_at raw (standing ∷ rest) part place = bit_or (set_there raw part standing place) (sets_at raw rest part place)
+sets_at raw cells part place = union_of (λ standing. set_there raw part standing place) cells
 
 sets_at-append : (raw : RawTech) (xs ys : List Standing) (part : ℕ) (place : Place)
     → sets_at raw (xs ++ ys) part place ≡ bit_or (sets_at raw xs part place) (sets_at raw ys part place)
@@ -176,65 +181,37 @@ sets_of_tree raw (cell_tree own elements) (suc j) place =
     ∙ none_union (sets_at raw (placed_below 1 1 identity elements) (suc j) place)
     ∙ sets_of_element raw 1 (suc j) j elements place (omega arith)
 
--- ---- sets of tiles
+-- ---- bits of unions
 
--- one of the tiles has the bit
-tiles_bit : (raw : RawTech) (tiles : List PartTile) (part : ℕ) (place : Place) (i : ℕ) → bit_at (set_of_tiles raw tiles part place) i ≡ 1
-    → (tile : PartTile) × In tile tiles × (bit_at (set_from raw part tile place) i ≡ 1)
-tiles_bit raw [] part place i bit = absurd (let none = bit_at-zero i in omega arith)
-tiles_bit raw (tile ∷ tiles) part place i bit =
-    let join = bit_at_or (set_from raw part tile place) (set_of_tiles raw tiles part place) i in
-    let small = bit_at-lt (set_from raw part tile place) i in
-    elim (cases_eq (bit_at (set_from raw part tile place) i) 1) [
-      | inl here ↦ (tile, inl refl, here)
-      | inr none ↦ (
-          let clear : bit_at (set_from raw part tile place) i ≡ 0 = not_one (bit_at (set_from raw part tile place) i) small none in
-          let found = tiles_bit raw tiles part place i (omega (arith, join, clear, bit)) in (found.0, inr found.1, found.2))
-    ]
-  where
-    not_one : (n : ℕ) → n < 2 → n ≢ 1 → n ≡ 0
-    not_one n small none = omega arith
+not_one : (n : ℕ) → n < 2 → n ≢ 1 → n ≡ 0
+not_one n small none = omega arith
 
-bit_in_tiles : (raw : RawTech) (tiles : List PartTile) (part : ℕ) (place : Place) (i : ℕ) (tile : PartTile) → In tile tiles
-    → bit_at (set_from raw part tile place) i ≡ 1 → bit_at (set_of_tiles raw tiles part place) i ≡ 1
-bit_in_tiles raw [] part place i tile none bit = absurd none
-bit_in_tiles raw (first ∷ tiles) part place i tile (inl same) bit =
-    let here : bit_at (set_from raw part first place) i ≡ 1 = subst (λ (t : PartTile). bit_at (set_from raw part t place) i ≡ 1) (sym same) bit in
-    let join = bit_at_or (set_from raw part first place) (set_of_tiles raw tiles part place) i in
-    let small = bit_at-lt (set_of_tiles raw tiles part place) i in omega (arith, join, small, here)
-bit_in_tiles raw (first ∷ tiles) part place i tile (inr later) bit =
-    let there = bit_in_tiles raw tiles part place i tile later bit in
-    let join = bit_at_or (set_from raw part first place) (set_of_tiles raw tiles part place) i in
-    let small = bit_at-lt (set_from raw part first place) i in omega (arith, join, small, there)
+-- one of them has the bit
+bit_found : {X : Type 0} (set_of : X → ℕ) (xs : List X) (i : ℕ) → bit_at (union_of set_of xs) i ≡ 1
+    → (k : ℕ) × (x : X) × (slice_get xs k ≡ Some x) × (bit_at (set_of x) i ≡ 1)
+bit_found set_of [] i bit = absurd (let none = bit_at-zero i in omega arith)
+bit_found set_of (x ∷ xs) i bit = elim (cases_eq (bit_at (set_of x) i) 1) [
+  | inl here ↦ (0, x, refl, here)
+  | inr none ↦ (
+      let join = bit_at_or (set_of x) (union_of set_of xs) i in
+      let clear : bit_at (set_of x) i ≡ 0 = not_one (bit_at (set_of x) i) (bit_at-lt (set_of x) i) none in
+      let found = bit_found set_of xs i (omega (arith, join, clear, bit)) in (suc found.0, found.1, found.2, found.3))
+]
 
--- one of the standing cells has the bit
-cells_bit : (raw : RawTech) (cells : List Standing) (part : ℕ) (place : Place) (i : ℕ) → bit_at (sets_at raw cells part place) i ≡ 1
-    → (k : ℕ) × (standing : Standing) × (slice_get cells k ≡ Some standing) × (bit_at (set_there raw part standing place) i ≡ 1)
-cells_bit raw [] part place i bit = absurd (let none = bit_at-zero i in omega arith)
-cells_bit raw (standing ∷ cells) part place i bit =
-    let join = bit_at_or (set_there raw part standing place) (sets_at raw cells part place) i in
-    let small = bit_at-lt (set_there raw part standing place) i in
-    elim (cases_eq (bit_at (set_there raw part standing place) i) 1) [
-      | inl here ↦ (0, standing, refl, here)
-      | inr none ↦ (
-          let clear : bit_at (set_there raw part standing place) i ≡ 0 = not_one (bit_at (set_there raw part standing place) i) small none in
-          let found = cells_bit raw cells part place i (omega (arith, join, clear, bit)) in (suc found.0, found.1, found.2, found.3))
-    ]
-  where
-    not_one : (n : ℕ) → n < 2 → n ≢ 1 → n ≡ 0
-    not_one n small none = omega arith
+-- and the bit of one is that of all
+bit_kept : {X : Type 0} (set_of : X → ℕ) (xs : List X) (i : ℕ) (x : X) → In x xs → bit_at (set_of x) i ≡ 1 → bit_at (union_of set_of xs) i ≡ 1
+bit_kept set_of [] i x none bit = absurd none
+bit_kept {X} set_of (first ∷ xs) i x (inl same) bit =
+    let here : bit_at (set_of first) i ≡ 1 = subst (λ (y : X). bit_at (set_of y) i ≡ 1) (sym same) bit in
+    omega (arith, bit_at_or (set_of first) (union_of set_of xs) i, bit_at-lt (union_of set_of xs) i, here)
+bit_kept set_of (first ∷ xs) i x (inr later) bit =
+    omega (arith, bit_at_or (set_of first) (union_of set_of xs) i, bit_at-lt (set_of first) i, bit_kept set_of xs i x later bit)
 
-bit_in_cells : (raw : RawTech) (cells : List Standing) (part : ℕ) (place : Place) (i : ℕ) (standing : Standing) → In standing cells
-    → bit_at (set_there raw part standing place) i ≡ 1 → bit_at (sets_at raw cells part place) i ≡ 1
-bit_in_cells raw [] part place i standing none bit = absurd none
-bit_in_cells raw (first ∷ cells) part place i standing (inl same) bit =
-    let here : bit_at (set_there raw part first place) i ≡ 1 = subst (λ (s : Standing). bit_at (set_there raw part s place) i ≡ 1) (sym same) bit in
-    let join = bit_at_or (set_there raw part first place) (sets_at raw cells part place) i in
-    let small = bit_at-lt (sets_at raw cells part place) i in omega (arith, join, small, here)
-bit_in_cells raw (first ∷ cells) part place i standing (inr later) bit =
-    let there = bit_in_cells raw cells part place i standing later bit in
-    let join = bit_at_or (set_there raw part first place) (sets_at raw cells part place) i in
-    let small = bit_at-lt (set_there raw part first place) i in omega (arith, join, small, there)
+-- the set of tiles is the union of theirs
+tiles_union : (raw : RawTech) (tiles : List PartTile) (part : ℕ) (place : Place)
+    → set_of_tiles raw tiles part place ≡ union_of (λ tile. set_from raw part tile place) tiles
+tiles_union raw [] part place = refl
+tiles_union raw (tile ∷ tiles) part place = ap (bit_or (set_from raw part tile place)) (tiles_union raw tiles part place)
 
 -- where a choice has a bit, the test passed
 test_passed : (test : Bool) (set i : ℕ) → bit_at (cond test set 0) i ≡ 1 → (test ≡ true) × (bit_at set i ≡ 1)
@@ -282,11 +259,13 @@ type_there standing area tile place cut covers on =
 tiles_to_cells : (raw : RawTech) (cells : List Standing) (first : ℕ) (area : Rect) (tiles : List PartTile) (part : ℕ) (place : Place) (i : ℕ)
     → AreTold cells first area tiles → bit_at (set_of_tiles raw tiles part place) i ≡ 1 → bit_at (sets_at raw cells part place) i ≡ 1
 tiles_to_cells raw cells first area tiles part place i told bit =
-    let found = tiles_bit raw tiles part place i bit in
-    let has = tile_has raw part found.0 place i found.2 in
-    let is = told.each found.0 found.1 in
-    let type = type_there is.standing area found.0 place is.cut has.covers has.plane_is in
-    bit_in_cells raw cells part place i is.standing (In-slice_get cells is.k is.standing is.there)
+    let found =
+    bit_found (λ tile. set_from raw part tile place) tiles i (ap (λ (set : ℕ). bit_at set i) (sym (tiles_union raw tiles part place)) ∙ bit) in
+    let tile = found.1 in
+    let has = tile_has raw part tile place i found.3 in
+    let is = told.each tile (In-slice_get tiles found.0 tile found.2) in
+    let type = type_there is.standing area tile place is.cut has.covers has.plane_is in
+    bit_kept (λ standing. set_there raw part standing place) cells i is.standing (In-slice_get cells is.k is.standing is.there)
     (ap (λ (n : ℕ). bit_at n i) (chosen_same is.standing.part part (parts_of raw (is.standing.own.layout (place_back is.standing.placed place)))
     (sym is.cut.part ∙ has.part_is))
     ∙ ap (λ (t : ℕ). bit_at (parts_of raw t) i) type ∙ has.bit)
@@ -295,7 +274,7 @@ cells_to_tiles : (raw : RawTech) (cells : List Standing) (first : ℕ) (area : R
     → AreTold cells first area tiles → Covers area place.square → bit_at (sets_at raw cells part place) i ≡ 1
     → bit_at (set_of_tiles raw tiles part place) i ≡ 1
 cells_to_tiles raw cells first area tiles part place i told covers bit =
-    let found = cells_bit raw cells part place i bit in
+    let found = bit_found (λ standing. set_there raw part standing place) cells i bit in
     let standing = found.1 in
     let type = standing.own.layout (place_back standing.placed place) in
     let passed = test_passed (standing.part == part) (parts_of raw type) i found.3 in
@@ -312,7 +291,8 @@ cells_to_tiles raw cells first area tiles part place i told covers bit =
     let same_some : Some is.standing ≡ Some standing = sym is.there ∙ ap (slice_get cells) same_k ∙ found.2 in
     let same : is.standing ≡ standing = cc in
     let cut : IsCutOf standing area tile.tile = subst (λ (s : Standing). IsCutOf s area tile.tile) same is.cut in
-    bit_in_tiles raw tiles part place i tile.tile tile.is_in (has_tile raw part tile.tile place i (record {
+    ap (λ (set : ℕ). bit_at set i) (tiles_union raw tiles part place)
+    ∙ bit_kept (λ tile. set_from raw part tile place) tiles i tile.tile tile.is_in (has_tile raw part tile.tile place i (record {
       part_is = cut.part ∙ eqb-true standing.part part passed.0;
       plane_is = sym tile.plane;
       covers = tile.covers;
@@ -327,9 +307,6 @@ same_bit a b small_a small_b to back = elim (cases_eq a 1) [
     | inr other ↦ (let p = not_one a small_a none in let q = not_one b small_b other in omega arith)
   ]
 ]
-  where
-    not_one : (n : ℕ) → n < 2 → n ≢ 1 → n ≡ 0
-    not_one n small none = omega arith
 
 -- At each place of the area the tiles of a part that were told of a tree together have the part's set.
 pub told_sets : (raw : RawTech) (tree : CellTree) (area : Rect) (tiles : List PartTile) → AreTold (placed_cells 1 0 identity tree) 0 area tiles

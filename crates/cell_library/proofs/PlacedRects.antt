@@ -32,16 +32,10 @@ rect_common t a b = common-by_orient t.orient t.dx t.dy a b
 
 proper-by_orient : (o : Orient) (dx dy : ℤ) (area : Rect) → IsProper area → IsProper (rect_image (transform_of o dx dy) area)
 unfolding rect_image
-proper-by_orient R0 dx dy area proper = record {
-  wide = omega (arith, ints, proper.wide, proper.high);
-  high =
-      omega (arith, ints, proper.wide, proper.high);
-}
-proper-by_orient _ dx dy area proper = record {
-  wide = omega (arith, ints, proper.wide, proper.high);
-  high =
-      omega (arith, ints, proper.wide, proper.high);
-}
+proper-by_orient R0 dx dy area proper =
+    record { wide = omega (arith, ints, proper.wide, proper.high); high = omega (arith, ints, proper.wide, proper.high) }
+proper-by_orient _ dx dy area proper =
+    record { wide = omega (arith, ints, proper.wide, proper.high); high = omega (arith, ints, proper.wide, proper.high) }
 
 -- the image of a rectangle with a square has one
 pub rect_proper : (t : Transform) (area : Rect) → IsProper area → IsProper (rect_image t area)
@@ -49,16 +43,10 @@ rect_proper t area proper = proper-by_orient t.orient t.dx t.dy area proper
 
 unproper-by_orient : (o : Orient) (dx dy : ℤ) (area : Rect) → IsProper (rect_image (transform_of o dx dy) area) → IsProper area
 unfolding rect_image
-unproper-by_orient R0 dx dy area proper = record {
-  wide = omega (arith, ints, proper.wide, proper.high);
-  high =
-      omega (arith, ints, proper.wide, proper.high);
-}
-unproper-by_orient _ dx dy area proper = record {
-  wide = omega (arith, ints, proper.wide, proper.high);
-  high =
-      omega (arith, ints, proper.wide, proper.high);
-}
+unproper-by_orient R0 dx dy area proper =
+    record { wide = omega (arith, ints, proper.wide, proper.high); high = omega (arith, ints, proper.wide, proper.high) }
+unproper-by_orient _ dx dy area proper =
+    record { wide = omega (arith, ints, proper.wide, proper.high); high = omega (arith, ints, proper.wide, proper.high) }
 
 -- and none where it has none
 pub rect_unproper : (t : Transform) (area : Rect) → IsProper (rect_image t area) → IsProper area

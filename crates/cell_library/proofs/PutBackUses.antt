@@ -1,19 +1,22 @@
 -- Uses that are given back to a cell: where a use stands, which states of a cell a lawful library allows, and what becomes of the library.
 use Rattle.cell_library.proofs.Common.{◌≡◌, ◌+◌, ◌<◌, ◌≤◌, ℕ, zero, suc, true, Bool, List, [], ◌∷◌, length, map, Option, refl, sym, ap, subst, ◌∙◌}
 use Rattle.cell_library.proofs.Common.{false, arith, inl, inr, not, slice_get, slice_set, nat_lt, IfSome, position_or_len, bytes_eq, cases_Bool}
-use Rattle.cell_library.proofs.Common.{nat_tests, length-set, get_or-set_same, slice_get_within, bytes_eq-Decides, In, Distinct, slice_get-set_same}
-use Rattle.cell_library.proofs.Common.{Grid, Transform, TreeFault, Crossing, TooManyUses, Passed, NoMemory, MOST_USES, Dimension, Depth, Elements}
-use Rattle.cell_library.proofs.Common.{Hull, UseBody, HasIdAt, IsLawfulGrid, IsLawfulUse, moved_at, CellState, AreSizes, IsAbove, Tree, IsLawfulTree}
-use Rattle.cell_library.proofs.Common.{RefusesMove, WouldPass, cell_at, empty_cell, with_moved, LibFault, MOST_EDITS, TreeRefusesMove, HasUseAt}
-use Rattle.cell_library.proofs.Common.{with_use_changed, LibraryParts, IsLawfulLibrary, HasUseIds, cells_seen, seen, AreStatesOf, EditIsRefused}
-use Rattle.cell_library.proofs.Common.{NothingElse, IsLawfulView, regridded, with_use_at, LibraryView, changed_at, with_cell_changed}
+use Rattle.cell_library.proofs.Common.{length-set, get_or-set_same, slice_get_within, bytes_eq-Decides, In, Distinct, Grid, Transform, TreeFault}
+use Rattle.cell_library.proofs.Common.{Crossing, TooManyUses, Passed, NoMemory, MOST_USES, Dimension, Depth, Elements, Hull, UseBody, HasIdAt}
+use Rattle.cell_library.proofs.Common.{IsLawfulGrid, IsLawfulUse, moved_at, CellState, AreSizes, IsAbove, Tree, IsLawfulTree, RefusesInsertion}
+use Rattle.cell_library.proofs.Common.{WouldPass, cell_at, empty_cell, with_moved, LibFault, MOST_EDITS, TreeRefusesMove, HasUseAt, with_use_changed}
+use Rattle.cell_library.proofs.Common.{LibraryParts, IsLawfulLibrary, HasUseIds, cells_seen, seen, AreStatesOf, EditIsRefused, NothingElse}
+use Rattle.cell_library.proofs.Common.{IsLawfulView, regridded, with_use_at, LibraryView, changed_at, with_cell_changed}
 use Rattle.std.proofs.Common.{cond, Some, None}
 use Rattle.std.specs.Prelude.{insert, IfNone}
+use Rattle.std.proofs.lemmas.Bool.Decides.{nat_tests}
 use Rattle.std.proofs.lemmas.List.Edits.{length-insert}
-use Rattle.cell_tree.specs.Trees.{RefusesInsertion, with_inserted}
+use Rattle.geo_core.proofs.FiniteSets.Places.{slice_get-set_same}
+use Rattle.cell_tree.specs.Trees.{RefusesMove, with_inserted}
 use Rattle.cell_tree.proofs.ShrinkLaws.{AreAmong}
 use Rattle.cell_tree.proofs.StateLaws.{among_get, among_inserted, get_new}
 use Rattle.cell_library.specs.PutBackUses.{place_of, MayTake, MayBeRegridded, IsInsertedIn, IsRegriddedIn}
+use Rattle.cell_library.proofs.ArrivingCells.{not_found}
 use Rattle.cell_library.proofs.EditLaws.{seen_cells}
 use Rattle.cell_library.proofs.FaultLaws.{not_first, not_full}
 use Rattle.cell_library.proofs.LimitLaws.{states_unique}
@@ -60,20 +63,11 @@ found_before n k len is below = elim (cases_Bool (nat_lt n len)) [
     not_past : (a b : ℕ) → a < b → nat_lt a b ≡ false → ⊥
     not_past a b less past = grind (arith, nat_tests)
 
-found_nowhere : (n len : ℕ) → n ≡ len → None ≡ cond (nat_lt n len) (Some n) None
-found_nowhere n len is = elim (cases_Bool (nat_lt n len)) [
-  | inl before ↦ absurd (not_before n len is before)
-  | inr past ↦ rw past refl
-]
-  where
-    not_before : (a b : ℕ) → a ≡ b → nat_lt a b ≡ true → ⊥
-    not_before a b same before = grind (arith, nat_tests)
-
 -- what a search for an id finds is the place of the use with it
 pub found_place : (uses : List (List ℕ × UseBody)) (id : List ℕ) (found : Option ℕ) → Distinct (map (λ e. e.0) uses) → IfSome found (λ k. HasIdAt uses k id)
     → IfNone found ((k : ℕ) → HasIdAt uses k id → ⊥) → found ≡ place_of uses id
 found_place uses id None differ some none =
-    found_nowhere (position_or_len (λ entry. bytes_eq entry.0 id) uses) (length uses) (id_nowhere uses id none)
+    sym (not_found (position_or_len (λ entry. bytes_eq entry.0 id) uses) (length uses) (id_nowhere uses id none))
 found_place uses id (Some k) differ has none =
     found_before (position_or_len (λ entry. bytes_eq entry.0 id) uses) k (length uses) (id_at uses id k differ has)
     (slice_get_within uses k has.entry has.stands)

@@ -141,40 +141,38 @@ pub record SpansFarther (area : Rect) : Type 0 where
   pub xhi : IsFarther area.xhi
   pub yhi : IsFarther area.yhi
 
-seen_far-by_orient : (o : Orient) (dx dy : ℤ) (back : Rect) → IsShift dx → IsShift dy → SpansFar back
+-- a rectangle each of whose sides lies between the bounds
+spans_farther : (area : Rect) → neg_ℤ (pos 432345564227567616) ≤ℤ area.xlo → area.xlo ≤ℤ pos 432345564227567616
+    → neg_ℤ (pos 432345564227567616) ≤ℤ area.ylo → area.ylo ≤ℤ pos 432345564227567616
+    → neg_ℤ (pos 432345564227567616) ≤ℤ area.xhi → area.xhi ≤ℤ pos 432345564227567616
+    → neg_ℤ (pos 432345564227567616) ≤ℤ area.yhi → area.yhi ≤ℤ pos 432345564227567616 → SpansFarther area
+spans_farther area a0 a1 b0 b1 c0 c1 d0 d1 = record {
+  xlo = record { low = a0; high = a1 };
+  ylo = record { low = b0; high = b1 };
+  xhi = record { low = c0; high = c1 };
+  yhi = record { low = d0; high = d1 };
+}
+
+seen_far-by_orient : (o : Orient) (dx dy : ℤ) (back : Rect) → neg_ℤ (pos 134217716) ≤ℤ dx → dx ≤ℤ pos 134217716 → neg_ℤ (pos 134217716) ≤ℤ dy
+    → dy ≤ℤ pos 134217716 → neg_ℤ (pos 288230376151711744) ≤ℤ back.xlo → back.xlo ≤ℤ pos 288230376151711744
+    → neg_ℤ (pos 288230376151711744) ≤ℤ back.ylo → back.ylo ≤ℤ pos 288230376151711744
+    → neg_ℤ (pos 288230376151711744) ≤ℤ back.xhi → back.xhi ≤ℤ pos 288230376151711744
+    → neg_ℤ (pos 288230376151711744) ≤ℤ back.yhi → back.yhi ≤ℤ pos 288230376151711744
     → SpansFarther (rect_image (inverted (transform_of o dx dy)) back)
 unfolding rect_image
-seen_far-by_orient R0 dx dy back x y far =
-    let x0 : neg_ℤ (pos 134217716) ≤ℤ dx = x.low in let x1 : dx ≤ℤ pos 134217716 = x.high in
-    let y0 : neg_ℤ (pos 134217716) ≤ℤ dy = y.low in let y1 : dy ≤ℤ pos 134217716 = y.high in
-    let a0 : neg_ℤ (pos 288230376151711744) ≤ℤ back.xlo = far.xlo.low in let a1 : back.xlo ≤ℤ pos 288230376151711744 = far.xlo.high in
-    let b0 : neg_ℤ (pos 288230376151711744) ≤ℤ back.ylo = far.ylo.low in let b1 : back.ylo ≤ℤ pos 288230376151711744 = far.ylo.high in
-    let c0 : neg_ℤ (pos 288230376151711744) ≤ℤ back.xhi = far.xhi.low in let c1 : back.xhi ≤ℤ pos 288230376151711744 = far.xhi.high in
-    let d0 : neg_ℤ (pos 288230376151711744) ≤ℤ back.yhi = far.yhi.low in let d1 : back.yhi ≤ℤ pos 288230376151711744 = far.yhi.high in
-    record {
-      xlo = record { low = omega (arith, ints); high = omega (arith, ints) };
-      ylo = record { low = omega (arith, ints); high = omega (arith, ints) };
-      xhi = record { low = omega (arith, ints); high = omega (arith, ints) };
-      yhi = record { low = omega (arith, ints); high = omega (arith, ints) };
-    }
-seen_far-by_orient _ dx dy back x y far =
-    let x0 : neg_ℤ (pos 134217716) ≤ℤ dx = x.low in let x1 : dx ≤ℤ pos 134217716 = x.high in
-    let y0 : neg_ℤ (pos 134217716) ≤ℤ dy = y.low in let y1 : dy ≤ℤ pos 134217716 = y.high in
-    let a0 : neg_ℤ (pos 288230376151711744) ≤ℤ back.xlo = far.xlo.low in let a1 : back.xlo ≤ℤ pos 288230376151711744 = far.xlo.high in
-    let b0 : neg_ℤ (pos 288230376151711744) ≤ℤ back.ylo = far.ylo.low in let b1 : back.ylo ≤ℤ pos 288230376151711744 = far.ylo.high in
-    let c0 : neg_ℤ (pos 288230376151711744) ≤ℤ back.xhi = far.xhi.low in let c1 : back.xhi ≤ℤ pos 288230376151711744 = far.xhi.high in
-    let d0 : neg_ℤ (pos 288230376151711744) ≤ℤ back.yhi = far.yhi.low in let d1 : back.yhi ≤ℤ pos 288230376151711744 = far.yhi.high in
-    record {
-      xlo = record { low = omega (arith, ints); high = omega (arith, ints) };
-      ylo = record { low = omega (arith, ints); high = omega (arith, ints) };
-      xhi = record { low = omega (arith, ints); high = omega (arith, ints) };
-      yhi = record { low = omega (arith, ints); high = omega (arith, ints) };
-    }
+seen_far-by_orient R0 dx dy back x0 x1 y0 y1 a0 a1 b0 b1 c0 c1 d0 d1 =
+    spans_farther _ (omega (arith, ints)) (omega (arith, ints)) (omega (arith, ints)) (omega (arith, ints)) (omega (arith, ints)) (omega (arith, ints))
+    (omega (arith, ints)) (omega (arith, ints))
+seen_far-by_orient _ dx dy back x0 x1 y0 y1 a0 a1 b0 b1 c0 c1 d0 d1 =
+    spans_farther _ (omega (arith, ints)) (omega (arith, ints)) (omega (arith, ints)) (omega (arith, ints)) (omega (arith, ints)) (omega (arith, ints))
+    (omega (arith, ints)) (omega (arith, ints))
 
 -- an area that is not too far comes back to a child not too far
 pub seen_far : (placed : Transform) (back : Rect) → IsShift placed.dx → IsShift placed.dy → SpansFar back
     → SpansFarther (rect_image (inverted placed) back)
-seen_far placed back x y far = seen_far-by_orient placed.orient placed.dx placed.dy back x y far
+seen_far placed back x y far =
+    seen_far-by_orient placed.orient placed.dx placed.dy back x.low x.high y.low y.high far.xlo.low far.xlo.high far.ylo.low far.ylo.high far.xhi.low
+    far.xhi.high far.yhi.low far.yhi.high
 
 -- ---- a whole use
 

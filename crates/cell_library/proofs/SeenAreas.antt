@@ -1,9 +1,8 @@
 -- An area as it is seen in the coordinates of a child, and which rows and columns of a grid it bounds.
 use Rattle.cell_library.proofs.Common.{◌≡◌, ℕ, ℤ, pos, neg_ℤ, ◌-ℤ◌, ◌≤ℤ◌, sym, ap, subst, ◌∙◌, arith, ints, Grid, Rect, Transform, indices, inverted}
 use Rattle.cell_library.proofs.Common.{IsInReach, columns, rows, IsPaintable, IsShift, UseSearch, seen_by, seen_low_x, seen_high_x, seen_low_y}
-use Rattle.cell_library.proofs.Common.{seen_high_y, HoldsMultiples, IsGridOf}
+use Rattle.cell_library.proofs.Common.{seen_high_y, HasRoomFor, HoldsMultiples, IsGridOf}
 use Rattle.geo_core.specs.Images.{rect_image}
-use Rattle.cell_library.specs.steps.Spans.{HasRoomFor}
 use Rattle.cell_library.proofs.RowSpots.{holds_same, kept, kept_columns, kept_rows, kept_shift, seen_far, IsFarther, SpansFarther}
 
 -- The rectangle is what is seen of the area, not too far away.

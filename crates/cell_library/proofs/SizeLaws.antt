@@ -3,14 +3,13 @@ use Rattle.cell_library.proofs.Common.{◌≡◌, ◌+◌, ◌<◌, ◌≤◌, �
 use Rattle.cell_library.proofs.Common.{inr, Some, slice_get, slice_set, option_to_list, cases_eq, cases_lt, length-set, get_or_past, get_or-set_same}
 use Rattle.cell_library.proofs.Common.{slice_get-get_or, slice_get_within, get_or_from_slice_get, slice_get-set_other, Dimension, Depth, Elements}
 use Rattle.cell_library.proofs.Common.{Hull, Size, UseBody, displacements, element_hulls, round_all, CellState, size_at, hulls_below, elements_below}
-use Rattle.cell_library.proofs.Common.{AreSizes, IsWithin, IsAbove, cell_at, Tree, IsLawfulTree, WouldPass, child_is_lower, cell_is}
+use Rattle.cell_library.proofs.Common.{AreSizes, IsWithin, IsAbove, cell_at, Tree, IsLawfulTree, WouldPass, WouldKeepWithin, child_is_lower, cell_is}
 use Rattle.std.proofs.Common.{max}
 use Rattle.std.specs.Prelude.{◌*◌}
 use Rattle.std.proofs.lemmas.List.{get_or-set_other}
 use Rattle.geo_core.specs.FiniteSets.Chain.{stay}
 use Rattle.geo_core.proofs.FiniteSets.Chains.{Chain-push}
 use Rattle.cell_tree.specs.Sizes.{no_size, size_of, depth_below}
-use Rattle.cell_tree.specs.Trees.{WouldKeepWithin}
 
 -- ---- what the size of a cell rests on
 

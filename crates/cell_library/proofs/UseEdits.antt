@@ -2,19 +2,19 @@
 use Rattle.cell_library.proofs.Common.{◌≡◌, ◌⊎◌, ◌<◌, ◌≤◌, ℕ, zero, suc, false, Bool, List, [], ◌∷◌, ◌++◌, length, length-append, map, filter}
 use Rattle.cell_library.proofs.Common.{remove, set, Option, refl, sym, ap, subst, ◌∙◌, arith, inl, inr, true≢false, Some, None, not, slice_get}
 use Rattle.cell_library.proofs.Common.{slice_set, All, IsTrue, bytes_eq, cases_eq, set-get_or, All-push, Distinct, In-filter_source, All-from_In}
-use Rattle.cell_library.proofs.Common.{All-In, slice_get-set_other, slice_get-set_same, Transform, layout_of, is_use_id, TreeFault, Crossing}
-use Rattle.cell_library.proofs.Common.{TooManyUses, Passed, NoMemory, MOST_USES, Depth, Elements, Hull, Size, UseBody, IsAbove, CellState, size_at}
-use Rattle.cell_library.proofs.Common.{AreSizes, Tree, IsLawfulTree, IsEdited, cell_at, child_is_lower, above_as_deep, cell_is, LibFault, OutOfRange}
-use Rattle.cell_library.proofs.Common.{NoUse, Cycle, TooMany, Memory, of_tree, held_at, no_held, LibraryParts, IsLawfulLibrary, HasUseIds}
-use Rattle.cell_library.proofs.Common.{cells_seen, uses_in, seen, edits_of, AreStatesOf, GoesPast, OwnBoxIs, FirstOf, NothingElse, EditIsRefused}
+use Rattle.cell_library.proofs.Common.{All-In, slice_get-set_other, Transform, layout_of, is_use_id, TreeFault, Crossing, TooManyUses, Passed}
+use Rattle.cell_library.proofs.Common.{NoMemory, MOST_USES, Dimension, Depth, Elements, Hull, Size, UseBody, IsAbove, CellState, size_at, AreSizes}
+use Rattle.cell_library.proofs.Common.{Tree, IsLawfulTree, IsEdited, cell_at, child_is_lower, above_as_deep, cell_is, LibFault, OutOfRange, NoUse}
+use Rattle.cell_library.proofs.Common.{Cycle, TooMany, Memory, of_tree, held_at, no_held, LibraryParts, IsLawfulLibrary, HasUseIds, cells_seen}
+use Rattle.cell_library.proofs.Common.{uses_in, seen, edits_of, AreStatesOf, GoesPast, OwnBoxIs, FirstOf, NothingElse, EditIsRefused}
 use Rattle.cell_library.proofs.Common.{HasFaultOrLacksMemory, has_id, cell_view, CellView, LibraryView, changed_at, view_at, with_cell_changed}
 use Rattle.std.specs.Prelude.{ℤ}
 use Rattle.std.specs.Option.{option_map_or}
 use Rattle.geo_core.proofs.FiniteSets.Chains.{Chain-weaker}
-use Rattle.geo_core.proofs.FiniteSets.Places.{slice_get-append_left, slice_get-push_new}
+use Rattle.geo_core.proofs.FiniteSets.Places.{slice_get-append_left, slice_get-push_new, slice_get-set_same}
 use Rattle.cell_tree.specs.Cells.{Uses}
 use Rattle.cell_tree.specs.Sizes.{size_of}
-use Rattle.cell_tree.specs.Trees.{RefusesUse, with_placed, without_use}
+use Rattle.cell_tree.specs.Trees.{RefusesGrowth, RefusesUse, with_placed, without_use}
 use Rattle.cell_library.specs.declared.limits.LibraryLimit.TheVariants.{Uses as UsesLimit, Depth as DepthLimit, Elements as ElementsLimit}
 use Rattle.cell_library.specs.steps.CellEdits.{TreeRefusesUse, IsPlacedIn, IsDeletedIn}
 use Rattle.cell_library.specs.Edits.{placed, transform_of, single_use}
@@ -50,33 +50,29 @@ view_of_state (c ∷ cells) (s ∷ states) are zero state is =
     let same : s ≡ state = cc in (uses_of c, (refl, sym are.1 ∙ ap (λ (o : CellState). o.uses) same))
 view_of_state (c ∷ cells) (s ∷ states) are (suc k) state is = view_of_state cells states are.2 k state is
 
+-- a use stands where the user has the same uses
+pub used_again : (cells others : List CellState) (user child : ℕ) (used : Uses cells user child)
+    → (state : CellState) × ((slice_get others user ≡ Some state) × (state.uses ≡ used.cell.uses)) → Uses others user child
+used_again cells others user child used there = record {
+  cell = there.0;
+  is = there.1.0;
+  k = used.k;
+  entry = used.entry;
+  stands = ap (λ (uses : List (List ℕ × UseBody)). slice_get uses used.k) there.1.1 ∙ used.stands;
+  child = used.child;
+}
+
 -- what stands above in the tree is seen to
 pub above_seen : (view : LibraryView) (states : List CellState) → AreStatesOf view.cells states → (lower upper : ℕ) → IsAbove states lower upper
     → StandsAbove view lower upper
-above_seen view states are lower upper above = Chain-weaker (λ a b used.
-    let there = view_of_state view.cells states are b used.cell used.is in
-    record {
-      cell = there.0;
-      is = there.1.0;
-      k = used.k;
-      entry = used.entry;
-      stands = ap (λ (uses : List (List ℕ × UseBody)). slice_get uses used.k) there.1.1 ∙ used.stands;
-      child = used.child;
-    }) above
+above_seen view states are lower upper above =
+    Chain-weaker (λ a b used. used_again states (map uses_of view.cells) b a used (view_of_state view.cells states are b used.cell used.is)) above
 
 -- and the other way
 pub seen_above : (view : LibraryView) (states : List CellState) → AreStatesOf view.cells states → (lower upper : ℕ) → StandsAbove view lower upper
     → IsAbove states lower upper
-seen_above view states are lower upper above = Chain-weaker (λ a b used.
-    let there = state_of_view view.cells states are b used.cell used.is in
-    record {
-      cell = there.0;
-      is = there.1.0;
-      k = used.k;
-      entry = used.entry;
-      stands = ap (λ (uses : List (List ℕ × UseBody)). slice_get uses used.k) there.1.1 ∙ used.stands;
-      child = used.child;
-    }) above
+seen_above view states are lower upper above =
+    Chain-weaker (λ a b used. used_again (map uses_of view.cells) states b a used (state_of_view view.cells states are b used.cell used.is)) above
 
 -- ---- the uses of the cell that is edited
 
@@ -209,6 +205,17 @@ module _ (library : LibraryParts) (lawful : IsLawfulLibrary library) (cell : ℕ
           get-push (z ∷ zs) x zero y is = inl is
           get-push (z ∷ zs) x (suc k) y is = get-push zs x k y is
 
+      -- where a limit would be passed the use makes no cycle and the cell has room for it
+      grown : {Later : Type 0} (transform : Transform) (dimension : Dimension)
+          → RefusesGrowth library.tree cell id (single_use child transform) dimension → (told : LibFault) → Later
+          → (told ≡ Memory)
+          ⊎ FirstOf (StandsAbove (seen library) cell child) (Cycle (view_at (seen library) child).name)
+          (FirstOf (MOST_USES ≤ length (view_at (seen library) cell).uses) (TooMany UsesLimit) (λ _. Later)) told
+      grown transform dimension refuses told later =
+          let few : MOST_USES ≤ length (view_at (seen library) cell).uses
+          → ⊥ = λ many. (let long = ap length uses_here in let at = refuses.few in absurd (omega arith)) in
+          inr (inr (λ above. refuses.free (seen_above (seen library) library.tree.cells lawful.boxes cell child above), inr (few, later)))
+
       -- what the tree refuses the library does
       pub tree_refuses : (transform : Transform) → transform_of six ≡ Some transform → (fault : TreeFault)
           → RefusesUse library.tree cell id (single_use child transform) fault → (told : LibFault) → told ≡ of_tree library.contents fault
@@ -231,48 +238,24 @@ module _ (library : LibraryParts) (lawful : IsLawfulLibrary library) (cell : ℕ
           (let long = ap length uses_here in let at = refuses.1 in omega arith) in
           inr (inr (λ above. refuses.0 (seen_above (seen library) library.tree.cells lawful.boxes cell child above), inl (many, told_is)))
       tree_refuses transform is (Passed Depth) refuses told told_is =
-          let few : MOST_USES ≤ length (view_at (seen library) cell).uses
-          → ⊥ = λ many. (let long = ap length uses_here in let at = refuses.few in absurd (omega arith)) in
-          inr (inr (
-            λ above. refuses.free (seen_above (seen library) library.tree.cells lawful.boxes cell child above),
-            inr (
-              few,
-              inl (
-                would_go_past _ library.tree cell (with_placed (cell_at library.tree.cells cell) id (single_use child transform)) Depth
-                    (with_states transform is) refuses.passes,
-                told_is,
-              ),
-            ),
+          grown transform Depth refuses told (inl (
+            would_go_past _ library.tree cell (with_placed (cell_at library.tree.cells cell) id (single_use child transform)) Depth
+                (with_states transform is) refuses.passes,
+            told_is,
           ))
       tree_refuses transform is (Passed Elements) refuses told told_is =
-          let few : MOST_USES ≤ length (view_at (seen library) cell).uses
-          → ⊥ = λ many. (let long = ap length uses_here in let at = refuses.few in absurd (omega arith)) in
           let state = with_placed (cell_at library.tree.cells cell) id (single_use child transform) in
-          inr (inr (
-            λ above. refuses.free (seen_above (seen library) library.tree.cells lawful.boxes cell child above),
-            inr (
-              few,
-              inr (
-                none_before _ library.tree cell state Elements Depth lawful.tree (with_children transform) (with_states transform is) tt refuses.passes,
-                inl (would_go_past _ library.tree cell state Elements (with_states transform is) refuses.passes, told_is),
-              ),
-            ),
+          grown transform Elements refuses told (inr (
+            none_before _ library.tree cell state Elements Depth lawful.tree (with_children transform) (with_states transform is) tt refuses.passes,
+            inl (would_go_past _ library.tree cell state Elements (with_states transform is) refuses.passes, told_is),
           ))
       tree_refuses transform is (Passed Hull) refuses told told_is =
-          let few : MOST_USES ≤ length (view_at (seen library) cell).uses
-          → ⊥ = λ many. (let long = ap length uses_here in let at = refuses.few in absurd (omega arith)) in
           let state = with_placed (cell_at library.tree.cells cell) id (single_use child transform) in
-          inr (inr (
-            λ above. refuses.free (seen_above (seen library) library.tree.cells lawful.boxes cell child above),
+          grown transform Hull refuses told (inr (
+            none_before _ library.tree cell state Hull Depth lawful.tree (with_children transform) (with_states transform is) tt refuses.passes,
             inr (
-              few,
-              inr (
-                none_before _ library.tree cell state Hull Depth lawful.tree (with_children transform) (with_states transform is) tt refuses.passes,
-                inr (
-                  none_before _ library.tree cell state Hull Elements lawful.tree (with_children transform) (with_states transform is) tt refuses.passes,
-                  inl (would_go_past _ library.tree cell state Hull (with_states transform is) refuses.passes, told_is),
-                ),
-              ),
+              none_before _ library.tree cell state Hull Elements lawful.tree (with_children transform) (with_states transform is) tt refuses.passes,
+              inl (would_go_past _ library.tree cell state Hull (with_states transform is) refuses.passes, told_is),
             ),
           ))
 

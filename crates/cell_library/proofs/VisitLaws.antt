@@ -2,14 +2,13 @@
 use Rattle.cell_library.proofs.Common.{◌≡◌, ◌+◌, ◌*◌, ◌<◌, ℕ, suc, ℤ, pos, neg_ℤ, ◌+ℤ◌, ◌≤ℤ◌, ◌<ℤ◌, List, [], ◌∷◌, length, sym, ap, subst, ◌∙◌}
 use Rattle.cell_library.proofs.Common.{arith, inl, inr, cases_lt, ints, clamps, Orient, R0, Square, Rect, Transform, common_rect, IsNear, Covers}
 use Rattle.cell_library.proofs.Common.{IsProper, identity, image, inverted, covers_both, covers_is_proper, transform_of, image-forth, IsMaterial}
-use Rattle.cell_library.proofs.Common.{Place, Paint, layout_of, space_past, Size, Depth, Elements, Hull, UseBody, IsHullInRange, size_at, Tree}
-use Rattle.cell_library.proofs.Common.{IsLawfulTree, cell_at, child_is_lower, cell_is, Standing, place_back, PartTile, Spot, elements_from, tree_to}
-use Rattle.cell_library.proofs.Common.{LibraryParts, IsLawfulLibrary, seen, SpansFar, cells_at, standing_at, AreNumbered, AreSifted, AreSiftedBy}
-use Rattle.cell_library.proofs.Common.{AreToldTo, CanBeVisited, HasRoomToMove, IsApart, spots_under, view_at, HullIsAt, placed_cells, placed_below}
-use Rattle.cell_library.proofs.Common.{AddsTiles, AreOutside}
+use Rattle.cell_library.proofs.Common.{Place, Paint, layout_of, space_past, Size, Depth, Elements, Hull, UseBody, SpansInRange, IsHullInRange}
+use Rattle.cell_library.proofs.Common.{size_at, Tree, IsLawfulTree, cell_at, child_is_lower, cell_is, Standing, place_back, PartTile, Spot}
+use Rattle.cell_library.proofs.Common.{elements_from, tree_to, LibraryParts, IsLawfulLibrary, seen, SpansFar, cells_at, standing_at, AreNumbered}
+use Rattle.cell_library.proofs.Common.{AreSifted, AreSiftedBy, AreToldTo, CanBeVisited, HasRoomToMove, IsApart, spots_under, view_at, HullIsAt}
+use Rattle.cell_library.proofs.Common.{placed_cells, placed_below, AddsTiles, AreOutside}
 use Rattle.std.proofs.Common.{Some}
 use Rattle.geo_core.specs.Images.{rect_image}
-use Rattle.cell_tree.specs.Hulls.{SpansInRange}
 use Rattle.cell_tree.specs.Sizes.{size_of}
 use Rattle.cell_library.proofs.HullsHoldMaterial.{hull_holds_material, state_uses}
 use Rattle.cell_library.proofs.OwnTiles.{HullHoldsOwn}
@@ -122,44 +121,37 @@ near_hull back hull spans proper =
 pub hull_spans : (tree : Tree) (cell : ℕ) (hull : Rect) → IsLawfulTree tree → HullIsAt tree.sizes cell hull → SpansInRange hull
 hull_spans tree cell hull lawful is = subst IsHullInRange is (lawful.sizes.within Hull cell)
 
-back_far-by_orient : (levels : ℕ) (o : Orient) (dx dy : ℤ) (area : Rect) → HasRoomToMove levels (transform_of o dx dy) → IsNear area
-    → SpansFar (rect_image (inverted (transform_of o dx dy)) area)
+-- a rectangle each of whose sides lies between the bounds
+spans_far : (area : Rect) → neg_ℤ (pos 288230376151711744) ≤ℤ area.xlo → area.xlo ≤ℤ pos 288230376151711744
+    → neg_ℤ (pos 288230376151711744) ≤ℤ area.ylo → area.ylo ≤ℤ pos 288230376151711744
+    → neg_ℤ (pos 288230376151711744) ≤ℤ area.xhi → area.xhi ≤ℤ pos 288230376151711744
+    → neg_ℤ (pos 288230376151711744) ≤ℤ area.yhi → area.yhi ≤ℤ pos 288230376151711744 → SpansFar area
+spans_far area a0 a1 b0 b1 c0 c1 d0 d1 = record {
+  xlo = record { low = a0; high = a1 };
+  ylo = record { low = b0; high = b1 };
+  xhi = record { low = c0; high = c1 };
+  yhi = record { low = d0; high = d1 };
+}
+
+back_far-by_orient : (levels : ℕ) (o : Orient) (dx dy : ℤ) (area : Rect) → (dx +ℤ pos (levels * 281474976710656)) ≤ℤ pos 18014398509481984
+    → pos (levels * 281474976710656) ≤ℤ (dx +ℤ pos 18014398509481984) → (dy +ℤ pos (levels * 281474976710656)) ≤ℤ pos 18014398509481984
+    → pos (levels * 281474976710656) ≤ℤ (dy +ℤ pos 18014398509481984) → neg_ℤ (pos 268435456) <ℤ area.xlo → area.xlo <ℤ pos 268435456
+    → neg_ℤ (pos 268435456) <ℤ area.ylo → area.ylo <ℤ pos 268435456 → neg_ℤ (pos 268435456) <ℤ area.xhi → area.xhi <ℤ pos 268435456
+    → neg_ℤ (pos 268435456) <ℤ area.yhi → area.yhi <ℤ pos 268435456 → SpansFar (rect_image (inverted (transform_of o dx dy)) area)
 unfolding rect_image
-back_far-by_orient levels R0 dx dy area room near =
-    let r0 : (dx +ℤ pos (levels * 281474976710656)) ≤ℤ pos 18014398509481984 = room.right in
-    let r1 : pos (levels * 281474976710656) ≤ℤ (dx +ℤ pos 18014398509481984) = room.left in
-    let r2 : (dy +ℤ pos (levels * 281474976710656)) ≤ℤ pos 18014398509481984 = room.up in
-    let r3 : pos (levels * 281474976710656) ≤ℤ (dy +ℤ pos 18014398509481984) = room.down in
-    let x0 : neg_ℤ (pos 268435456) <ℤ area.xlo = near.xlo.0 in let x1 : area.xlo <ℤ pos 268435456 = near.xlo.1 in
-    let y0 : neg_ℤ (pos 268435456) <ℤ area.ylo = near.ylo.0 in let y1 : area.ylo <ℤ pos 268435456 = near.ylo.1 in
-    let z0 : neg_ℤ (pos 268435456) <ℤ area.xhi = near.xhi.0 in let z1 : area.xhi <ℤ pos 268435456 = near.xhi.1 in
-    let w0 : neg_ℤ (pos 268435456) <ℤ area.yhi = near.yhi.0 in let w1 : area.yhi <ℤ pos 268435456 = near.yhi.1 in
-    record {
-      xlo = record { low = omega (arith, ints); high = omega (arith, ints) };
-      ylo = record { low = omega (arith, ints); high = omega (arith, ints) };
-      xhi = record { low = omega (arith, ints); high = omega (arith, ints) };
-      yhi = record { low = omega (arith, ints); high = omega (arith, ints) };
-    }
-back_far-by_orient levels _ dx dy area room near =
-    let r0 : (dx +ℤ pos (levels * 281474976710656)) ≤ℤ pos 18014398509481984 = room.right in
-    let r1 : pos (levels * 281474976710656) ≤ℤ (dx +ℤ pos 18014398509481984) = room.left in
-    let r2 : (dy +ℤ pos (levels * 281474976710656)) ≤ℤ pos 18014398509481984 = room.up in
-    let r3 : pos (levels * 281474976710656) ≤ℤ (dy +ℤ pos 18014398509481984) = room.down in
-    let x0 : neg_ℤ (pos 268435456) <ℤ area.xlo = near.xlo.0 in let x1 : area.xlo <ℤ pos 268435456 = near.xlo.1 in
-    let y0 : neg_ℤ (pos 268435456) <ℤ area.ylo = near.ylo.0 in let y1 : area.ylo <ℤ pos 268435456 = near.ylo.1 in
-    let z0 : neg_ℤ (pos 268435456) <ℤ area.xhi = near.xhi.0 in let z1 : area.xhi <ℤ pos 268435456 = near.xhi.1 in
-    let w0 : neg_ℤ (pos 268435456) <ℤ area.yhi = near.yhi.0 in let w1 : area.yhi <ℤ pos 268435456 = near.yhi.1 in
-    record {
-      xlo = record { low = omega (arith, ints); high = omega (arith, ints) };
-      ylo = record { low = omega (arith, ints); high = omega (arith, ints) };
-      xhi = record { low = omega (arith, ints); high = omega (arith, ints) };
-      yhi = record { low = omega (arith, ints); high = omega (arith, ints) };
-    }
+back_far-by_orient levels R0 dx dy area r0 r1 r2 r3 x0 x1 y0 y1 z0 z1 w0 w1 =
+    spans_far _ (omega (arith, ints)) (omega (arith, ints)) (omega (arith, ints)) (omega (arith, ints)) (omega (arith, ints)) (omega (arith, ints))
+    (omega (arith, ints)) (omega (arith, ints))
+back_far-by_orient levels _ dx dy area r0 r1 r2 r3 x0 x1 y0 y1 z0 z1 w0 w1 =
+    spans_far _ (omega (arith, ints)) (omega (arith, ints)) (omega (arith, ints)) (omega (arith, ints)) (omega (arith, ints)) (omega (arith, ints))
+    (omega (arith, ints)) (omega (arith, ints))
 
 -- an area that is near comes back to a spot not too far
 pub back_far : (levels : ℕ) (placed : Transform) (area : Rect) → HasRoomToMove levels placed → IsNear area
     → SpansFar (rect_image (inverted placed) area)
-back_far levels placed area room near = back_far-by_orient levels placed.orient placed.dx placed.dy area room near
+back_far levels placed area room near =
+    back_far-by_orient levels placed.orient placed.dx placed.dy area room.right room.left room.up room.down near.xlo.0 near.xlo.1 near.ylo.0 near.ylo.1
+    near.xhi.0 near.xhi.1 near.yhi.0 near.yhi.1
 
 -- the cell that is looked at can be visited
 pub top_can_be_visited : (tree : Tree) (cell : ℕ) → IsLawfulTree tree → cell < length tree.cells

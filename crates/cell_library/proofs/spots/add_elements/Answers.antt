@@ -1,5 +1,5 @@
-use Rattle.cell_library.proofs.Common.{◌≡◌, ◌+◌, ◌*◌, ◌≤◌, ℕ, suc, sym, ap, subst, ◌∙◌, arith, MovesInReach, columns, rows, CanBeDropped, spots_to}
-use Rattle.cell_library.proofs.Common.{AddsSpots}
+use Rattle.cell_library.proofs.Common.{◌≡◌, ◌+◌, ◌*◌, ◌≤◌, ℕ, suc, sym, ap, subst, ◌∙◌, arith, rules, MovesInReach, columns, rows, CanBeDropped}
+use Rattle.cell_library.proofs.Common.{spots_to, AddsSpots}
 use Rattle.cell_library.proofs.GridSpots.{length-displacements, spots_to-none}
 use Rattle.cell_library.proofs.RowSpots.{gap_fits, inverted_in_reach, kept_columns, kept_rows, rows_out, shift_in_reach}
 use Rattle.cell_library.proofs.SeenAreas.{columns_seen, gap_in_reach, rows_seen, seen_is}
@@ -11,44 +11,26 @@ rect-seen-requires-clause-moves c =
     (inverted_in_reach c.args.from.now.used.placed (shift_in_reach c.args.from.now.used.placed c.requires.lawful.dx c.requires.lawful.dy))
 
 pub overflow_sub-seen : goal.overflow_sub-seen
-overflow_sub-seen c =
-    let is = seen_is c.args.from.now c.rect-seen.result c.inverse.result c.requires c.inverse.ensures.value c.rect-seen.ensures.value in
-    gap_fits c.rect-seen.result.xlo c.args.from.now.hull.xhi is.far.xlo c.requires.hull.xhi
+overflow_sub-seen c = gap_fits _ _ (seen_is _ _ _ c.requires c.inverse.ensures.value c.rect-seen.ensures.value).far.xlo c.requires.hull.xhi
 
 pub overflow_sub-seen-2 : goal.overflow_sub-seen-2
-overflow_sub-seen-2 c =
-    let is = seen_is c.args.from.now c.rect-seen.result c.inverse.result c.requires c.inverse.ensures.value c.rect-seen.ensures.value in
-    gap_fits c.rect-seen.result.xhi c.args.from.now.hull.xlo is.far.xhi c.requires.hull.xlo
-
-pub multiples_between-across-requires-clause-low : goal.multiples_between-across-requires-clause-low
-multiples_between-across-requires-clause-low c =
-    let is = seen_is c.args.from.now c.rect-seen.result c.inverse.result c.requires c.inverse.ensures.value c.rect-seen.ensures.value in
-    gap_in_reach c.rect-seen.result.xlo c.args.from.now.hull.xhi is.far.xlo c.requires.hull.xhi
-
-pub multiples_between-across-requires-clause-high : goal.multiples_between-across-requires-clause-high
-multiples_between-across-requires-clause-high c =
-    let is = seen_is c.args.from.now c.rect-seen.result c.inverse.result c.requires c.inverse.ensures.value c.rect-seen.ensures.value in
-    gap_in_reach c.rect-seen.result.xhi c.args.from.now.hull.xlo is.far.xhi c.requires.hull.xlo
+overflow_sub-seen-2 c = gap_fits _ _ (seen_is _ _ _ c.requires c.inverse.ensures.value c.rect-seen.ensures.value).far.xhi c.requires.hull.xlo
 
 pub overflow_sub-seen-3 : goal.overflow_sub-seen-3
-overflow_sub-seen-3 c =
-    let is = seen_is c.args.from.now c.rect-seen.result c.inverse.result c.requires c.inverse.ensures.value c.rect-seen.ensures.value in
-    gap_fits c.rect-seen.result.ylo c.args.from.now.hull.yhi is.far.ylo c.requires.hull.yhi
+overflow_sub-seen-3 c = gap_fits _ _ (seen_is _ _ _ c.requires c.inverse.ensures.value c.rect-seen.ensures.value).far.ylo c.requires.hull.yhi
 
 pub overflow_sub-seen-4 : goal.overflow_sub-seen-4
-overflow_sub-seen-4 c =
-    let is = seen_is c.args.from.now c.rect-seen.result c.inverse.result c.requires c.inverse.ensures.value c.rect-seen.ensures.value in
-    gap_fits c.rect-seen.result.yhi c.args.from.now.hull.ylo is.far.yhi c.requires.hull.ylo
+overflow_sub-seen-4 c = gap_fits _ _ (seen_is _ _ _ c.requires c.inverse.ensures.value c.rect-seen.ensures.value).far.yhi c.requires.hull.ylo
 
-pub multiples_between-up-requires-clause-low : goal.multiples_between-up-requires-clause-low
-multiples_between-up-requires-clause-low c =
-    let is = seen_is c.args.from.now c.rect-seen.result c.inverse.result c.requires c.inverse.ensures.value c.rect-seen.ensures.value in
-    gap_in_reach c.rect-seen.result.ylo c.args.from.now.hull.yhi is.far.ylo c.requires.hull.yhi
+pub multiples_between-across-requires : goal.multiples_between-across-requires
+multiples_between-across-requires c =
+    let far = (seen_is _ _ _ c.requires c.inverse.ensures.value c.rect-seen.ensures.value).far in
+    record { step = search rules; low = gap_in_reach _ _ far.xlo c.requires.hull.xhi; high = gap_in_reach _ _ far.xhi c.requires.hull.xlo }
 
-pub multiples_between-up-requires-clause-high : goal.multiples_between-up-requires-clause-high
-multiples_between-up-requires-clause-high c =
-    let is = seen_is c.args.from.now c.rect-seen.result c.inverse.result c.requires c.inverse.ensures.value c.rect-seen.ensures.value in
-    gap_in_reach c.rect-seen.result.yhi c.args.from.now.hull.ylo is.far.yhi c.requires.hull.ylo
+pub multiples_between-up-requires : goal.multiples_between-up-requires
+multiples_between-up-requires c =
+    let far = (seen_is _ _ _ c.requires c.inverse.ensures.value c.rect-seen.ensures.value).far in
+    record { step = search rules; low = gap_in_reach _ _ far.ylo c.requires.hull.yhi; high = gap_in_reach _ _ far.yhi c.requires.hull.ylo }
 
 pub loop-m-init : goal.loop-m-init
 loop-m-init c =

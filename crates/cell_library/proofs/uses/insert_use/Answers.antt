@@ -1,5 +1,4 @@
-use Rattle.cell_library.proofs.Common.{◌≡◌, ℕ, List, subst, ◌∙◌}
-use Rattle.cell_tree.specs.Trees.{RefusesInsertion}
+use Rattle.cell_library.proofs.Common.{◌≡◌, ℕ, List, subst, ◌∙◌, RefusesInsertion}
 use Rattle.cell_library.proofs.PutBackUses.{inserted_new, inserted_use, inserted_free, inserted_few, inserted_lacks_memory}
 use Rattle.cell_library.proofs.uses.insert_use.Goals as goal
 

@@ -1,4 +1,4 @@
-use Rattle.cell_library.proofs.Common.{◌≡◌, ◌+◌, ◌-◌, ℕ, suc, List, sym, subst, ◌∙◌, ap, arith, slice_get-get_or, In-get_or, Rect, Transform}
+use Rattle.cell_library.proofs.Common.{◌≡◌, ◌≢◌, ◌+◌, ◌-◌, ℕ, suc, List, sym, subst, ◌∙◌, ap, arith, slice_get-get_or, In-get_or, Rect, Transform}
 use Rattle.cell_library.proofs.Common.{common_rect, IsProper, inverted, MovesInReach, Tree, Spot, tree_to, seen, SpansFar, standing_at, AreSiftedBy}
 use Rattle.cell_library.proofs.Common.{CanBeVisited, HasRoomBelow, IsApart, spots_under, AreUseTrees, HullIsAt, IsNearSpot}
 use Rattle.geo_core.specs.Images.{rect_image}
@@ -10,6 +10,32 @@ use Rattle.cell_library.proofs.UseSums.{below_can_be_visited, visited_has_room}
 use Rattle.cell_library.proofs.VisitLaws.{back_far, visit_all, visit_none, visit_numbered, visit_own, visit_sifted}
 use Rattle.cell_library.proofs.visiting.+visit_spot.Goals as goal
 
+-- the area in the coordinates of the cell at the spot
+back_is : (spot : Spot) (area back : Rect) (inverse : Transform) → inverse ≡ inverted spot.to_top → back ≡ rect_image inverse area
+    → back ≡ rect_image (inverted spot.to_top) area
+back_is spot area back inverse inverse_is is = is ∙ ap (λ (m : Transform). rect_image m area) inverse_is
+
+-- a part that is near there is near the spot
+near_is : (tree told : Tree) (spot : Spot) (area back near : Rect) → back ≡ rect_image (inverted spot.to_top) area → told ≡ tree
+    → IsNearPart told.sizes spot.cell.0 back near → IsNearSpot tree.sizes spot area near
+near_is tree told spot area back near back_is told_is is =
+    subst (λ (b : Rect). IsNearPart tree.sizes spot.cell.0 b near) back_is
+    (subst (λ (t : Tree). IsNearPart t.sizes spot.cell.0 back near) told_is is)
+
+-- the spots below it that were found
+kept_is : (tree told : Tree) (step : ℕ) (spot : Spot) (back : Rect) (kept found : List Spot) → told ≡ tree → kept ≡ found
+    → AreSiftedBy (IsApart told.sizes spot.to_top back) (spots_under told step spot) found
+    → AreSiftedBy (IsApart tree.sizes spot.to_top back) (spots_under tree step spot) kept
+kept_is tree told step spot back kept found told_is same sifted =
+    subst (λ (items : List Spot). AreSiftedBy (IsApart tree.sizes spot.to_top back) (spots_under tree step spot) items) (sym same)
+    (subst (λ (t : Tree). AreSiftedBy (IsApart t.sizes spot.to_top back) (spots_under t step spot) found) told_is sifted)
+
+-- where there are levels left, there is a last of them
+can_be_visited : (tree : Tree) (levels step : ℕ) (spot : Spot) → levels ≢ 0 → CanBeVisited tree levels step spot
+    → CanBeVisited tree (suc (levels - 1)) step spot
+can_be_visited tree levels step spot some can =
+    subst (λ (n : ℕ). CanBeVisited tree n step spot) (let e : levels ≡ suc (levels - 1) = omega (arith, some) in e) can
+
 pub rect-back-requires-clause-moves : goal.rect-back-requires-clause-moves
 rect-back-requires-clause-moves t c =
     subst MovesInReach (sym c.inverse.ensures.value)
@@ -18,8 +44,7 @@ rect-back-requires-clause-moves t c =
 pub returns-in-None-clause-tiles : goal.returns-in-None-clause-tiles
 returns-in-None-clause-tiles t c =
     let spot = c.args.spot.now in
-    let back : c.rect-back.result ≡ rect_image (inverted spot.to_top) c.args.area =
-    c.rect-back.ensures.value ∙ ap (λ (m : Transform). rect_image m c.args.area) c.inverse.ensures.value in
+    let back = back_is spot c.args.area c.rect-back.result c.inverse.result c.inverse.ensures.value c.rect-back.ensures.value in
     visit_none c.args.library.now c.args.levels c.args.part_step spot c.args.area c.args.tiles.now.items c.lawful.ensures (λ hull is proper.
     c.in-None.ensures.none hull (subst (λ (tree : Tree). HullIsAt tree.sizes spot.cell.0 hull) (sym c.tree.ensures) is)
     (subst (λ (b : Rect). IsProper (common_rect b hull)) (sym back) proper))
@@ -28,11 +53,8 @@ pub returns-then-levels-eq0-clause-tiles : goal.returns-then-levels-eq0-clause-t
 returns-then-levels-eq0-clause-tiles t c =
     let library = c.args.library.now in
     let spot = c.args.spot.now in
-    let back : c.rect-back.result ≡ rect_image (inverted spot.to_top) c.args.area =
-    c.rect-back.ensures.value ∙ ap (λ (m : Transform). rect_image m c.args.area) c.inverse.ensures.value in
-    let near : IsNearSpot library.tree.sizes spot c.args.area c.in-Some.near =
-    subst (λ (b : Rect). IsNearPart library.tree.sizes spot.cell.0 b c.in-Some.near) back
-    (subst (λ (tree : Tree). IsNearPart tree.sizes spot.cell.0 c.rect-back.result c.in-Some.near) c.tree.ensures c.in-Some.ensures.some) in
+    let back = back_is spot c.args.area c.rect-back.result c.inverse.result c.inverse.ensures.value c.rect-back.ensures.value in
+    let near = near_is library.tree c.tree.result.now spot c.args.area c.rect-back.result c.in-Some.near back c.tree.ensures c.in-Some.ensures.some in
     visit_own library c.args.levels c.args.part_step spot c.args.area c.args.tiles.now.items c.add_own.new.tiles.items c.if-levels-eq0.true
     (c.in_ok-add_own.ensures c.args.area near)
 
@@ -50,27 +72,17 @@ spots_below-requires-clause-room t c =
 pub spots_below-requires-clause-back : goal.spots_below-requires-clause-back
 spots_below-requires-clause-back t c =
     let spot = c.args.spot.now in
-    let back : c.rect-back.result ≡ rect_image (inverted spot.to_top) c.args.area =
-    c.rect-back.ensures.value ∙ ap (λ (m : Transform). rect_image m c.args.area) c.inverse.ensures.value in
+    let back = back_is spot c.args.area c.rect-back.result c.inverse.result c.inverse.ensures.value c.rect-back.ensures.value in
     subst SpansFar (sym back) (back_far c.args.levels spot.to_top c.args.area c.requires.spot.moves c.requires.near)
 
 pub loop-next-init : goal.loop-next-init
 loop-next-init t c =
     let library = c.args.library.now in
     let spot = c.args.spot.now in
-    let back : c.rect-back.result ≡ rect_image (inverted spot.to_top) c.args.area =
-    c.rect-back.ensures.value ∙ ap (λ (m : Transform). rect_image m c.args.area) c.inverse.ensures.value in
-    let near : IsNearSpot library.tree.sizes spot c.args.area c.in-Some.near =
-    subst (λ (b : Rect). IsNearPart library.tree.sizes spot.cell.0 b c.in-Some.near) back
-    (subst (λ (tree : Tree). IsNearPart tree.sizes spot.cell.0 c.rect-back.result c.in-Some.near) c.tree.ensures c.in-Some.ensures.some) in
-    let kept : AreSiftedBy (IsApart library.tree.sizes spot.to_top c.rect-back.result)
-    (spots_under library.tree c.args.part_step spot) c.deref-next-items.result.now =
-    subst (λ (items : List Spot). AreSiftedBy (IsApart library.tree.sizes spot.to_top c.rect-back.result)
-    (spots_under library.tree c.args.part_step spot) items)
-    (sym c.deref-next-items.ensures.value)
-    (subst (λ (tree : Tree). AreSiftedBy (IsApart tree.sizes spot.to_top c.rect-back.result)
-    (spots_under tree c.args.part_step spot) c.in_ok-below.below.items)
-    c.tree-2.ensures c.in_ok-below.ensures.found) in (
+    let back = back_is spot c.args.area c.rect-back.result c.inverse.result c.inverse.ensures.value c.rect-back.ensures.value in
+    let near = near_is library.tree c.tree.result.now spot c.args.area c.rect-back.result c.in-Some.near back c.tree.ensures c.in-Some.ensures.some in
+    let kept = kept_is library.tree c.tree-2.result.now c.args.part_step spot c.rect-back.result c.deref-next-items.result.now c.in_ok-below.below.items
+    c.tree-2.ensures c.deref-next-items.ensures.value c.in_ok-below.ensures.found in (
       subst (λ (tree : Tree). AreUseTrees tree c.spots_below.new.self) c.tree-2.ensures c.spots_below.ensures.trees,
       told_start (tree_to (seen library) (c.args.levels - 1)) c.args.area (standing_at (seen library) spot) spot.element
           (spots_under library.tree c.args.part_step spot)
@@ -83,17 +95,9 @@ pub visit_spot-requires : goal.visit_spot-requires
 visit_spot-requires t c =
     let library = c.args.library.now in
     let spot = c.args.spot.now in
-    let deep : c.args.levels ≡ suc (c.args.levels - 1) = omega (arith, c.if-levels-eq0.false) in
-    let can : CanBeVisited library.tree (suc (c.args.levels - 1)) c.args.part_step spot =
-    subst (λ (n : ℕ). CanBeVisited library.tree n c.args.part_step spot) deep c.requires.spot in
-    let kept : AreSiftedBy (IsApart library.tree.sizes spot.to_top c.rect-back.result)
-    (spots_under library.tree c.args.part_step spot) c.deref-next-items.result.now =
-    subst (λ (items : List Spot). AreSiftedBy (IsApart library.tree.sizes spot.to_top c.rect-back.result)
-    (spots_under library.tree c.args.part_step spot) items)
-    (sym c.deref-next-items.ensures.value)
-    (subst (λ (tree : Tree). AreSiftedBy (IsApart tree.sizes spot.to_top c.rect-back.result)
-    (spots_under tree c.args.part_step spot) c.in_ok-below.below.items)
-    c.tree-2.ensures c.in_ok-below.ensures.found) in (
+    let can = can_be_visited library.tree c.args.levels c.args.part_step spot c.if-levels-eq0.false c.requires.spot in
+    let kept = kept_is library.tree c.tree-2.result.now c.args.part_step spot c.rect-back.result c.deref-next-items.result.now c.in_ok-below.below.items
+    c.tree-2.ensures c.deref-next-items.ensures.value c.in_ok-below.ensures.found in (
       omega (arith, c.if-levels-eq0.false),
       (
         c.loop-next.invariant.0,
@@ -111,9 +115,7 @@ pub loop-next-preserved : goal.loop-next-preserved
 loop-next-preserved t c =
     let library = c.args.library.now in
     let spot = c.args.spot.now in
-    let deep : c.args.levels ≡ suc (c.args.levels - 1) = omega (arith, c.if-levels-eq0.false) in
-    let can : CanBeVisited library.tree (suc (c.args.levels - 1)) c.args.part_step spot =
-    subst (λ (n : ℕ). CanBeVisited library.tree n c.args.part_step spot) deep c.requires.spot in (
+    let can = can_be_visited library.tree c.args.levels c.args.part_step spot c.if-levels-eq0.false c.requires.spot in (
       c.visit_spot.ensures.uses,
       told_next (tree_to (seen library) (c.args.levels - 1)) c.args.area (standing_at (seen library) spot) spot.element
           (spots_under library.tree c.args.part_step spot)

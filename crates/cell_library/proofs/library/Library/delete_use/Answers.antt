@@ -1,6 +1,6 @@
-use Rattle.cell_library.proofs.Common.{refl, inl, inr, on_ok_weaker}
-use Rattle.cell_library.proofs.EditLaws.{here, kept_lawful, seen_cells}
-use Rattle.cell_library.proofs.FaultLaws.{ok_or_err, answers_only}
+use Rattle.cell_library.proofs.Common.{refl, on_ok_weaker}
+use Rattle.cell_library.proofs.EditLaws.{here, lawful_or_kept, seen_cells}
+use Rattle.cell_library.proofs.FaultLaws.{answers_only, on_any_err}
 use Rattle.cell_library.proofs.UseEdits.{delete_fault, deleted_seen, deleted_lawful, deleted_unrefused}
 use Rattle.cell_library.proofs.library.Library.delete_use.Goals as goal
 
@@ -8,10 +8,8 @@ pub invariant_of-self : goal.invariant_of-self
 invariant_of-self c =
     let below = here c.self.view_is c.requires in
     let step = c.delete_use-done in
-    elim (ok_or_err _ _ step.result step.ensures.done step.ensures.same) [
-      | inl done ↦ deleted_lawful _ c.self.invariant _ below _ _ done c.lawful.ensures
-      | inr kept ↦ kept_lawful _ _ _ c.self.invariant refl kept
-    ]
+    lawful_or_kept _ _ _ step.result c.self.invariant step.ensures.done (on_any_err _ step.result refl) step.ensures.same
+    (λ done. deleted_lawful _ c.self.invariant _ below _ _ done c.lawful.ensures)
 
 pub returns-clause-answers : goal.returns-clause-answers
 returns-clause-answers c =

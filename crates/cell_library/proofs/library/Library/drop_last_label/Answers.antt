@@ -1,7 +1,7 @@
-use Rattle.cell_library.proofs.Common.{inl, inr, on_ok_weaker, without_last}
+use Rattle.cell_library.proofs.Common.{on_ok_weaker, without_last}
 use Rattle.cell_library.proofs.BoxSteps.{upright_labels}
-use Rattle.cell_library.proofs.EditLaws.{here, kept_lawful, seen_cells}
-use Rattle.cell_library.proofs.FaultLaws.{ok_or_err, both_err, answers_only}
+use Rattle.cell_library.proofs.EditLaws.{here, lawful_or_kept, seen_cells}
+use Rattle.cell_library.proofs.FaultLaws.{answers_only}
 use Rattle.cell_library.proofs.OwnRestorations.{lawful_without_last, nothing_refused, relabelled_seen, relabelled_lawful}
 use Rattle.cell_library.proofs.PaintEdits.{held_lawful, own_is}
 use Rattle.cell_library.proofs.library.Library.drop_last_label.Goals as goal
@@ -17,10 +17,8 @@ pub invariant_of-self : goal.invariant_of-self
 invariant_of-self c =
     let below = here c.self.view_is c.requires.cell in
     let step = c.drop_last_label_of-done in
-    elim (ok_or_err _ _ step.result step.ensures.done (both_err _ _ step.result step.ensures.kept step.ensures.same)) [
-      | inl done ↦ relabelled_lawful _ c.self.invariant _ below without_last (lawful_without_last _ c.self.invariant _ below) _ _ done c.lawful.ensures
-      | inr kept ↦ kept_lawful _ _ _ c.self.invariant kept.0 kept.1
-    ]
+    lawful_or_kept _ _ _ step.result c.self.invariant step.ensures.done step.ensures.kept step.ensures.same
+    (λ done. relabelled_lawful _ c.self.invariant _ below without_last (lawful_without_last _ c.self.invariant _ below) _ _ done c.lawful.ensures)
 
 pub returns-clause-answers : goal.returns-clause-answers
 returns-clause-answers c =

@@ -1,6 +1,6 @@
-use Rattle.cell_library.proofs.Common.{inl, inr, on_ok_weaker, on_err_weaker}
-use Rattle.cell_library.proofs.FaultLaws.{ok_or_err, both_err, answers_memory}
-use Rattle.cell_library.proofs.EditLaws.{here, refused_same, refused_lawful, seen_cells}
+use Rattle.cell_library.proofs.Common.{on_ok_weaker, on_err_weaker}
+use Rattle.cell_library.proofs.FaultLaws.{both_err, answers_memory}
+use Rattle.cell_library.proofs.EditLaws.{here, refused_same, lawful_or_refused, seen_cells}
 use Rattle.cell_library.proofs.PaintEdits.{own_is}
 use Rattle.cell_library.proofs.OwnEdits.{erase_fault, erased_seen, erased_lawful, erased_unrefused}
 use Rattle.cell_library.proofs.library.Library.erase.Goals as goal
@@ -12,10 +12,8 @@ pub invariant_of-self : goal.invariant_of-self
 invariant_of-self c =
     let below = here c.self.view_is c.requires.cell in
     let step = c.erase_cell-done in
-    elim (ok_or_err _ _ step.result step.ensures.done (both_err _ _ step.result step.ensures.kept step.ensures.same)) [
-      | inl done ↦ erased_lawful _ c.self.invariant _ below _ _ _ _ done c.lawful.ensures
-      | inr kept ↦ refused_lawful _ _ _ _ c.self.invariant below kept.0 kept.1
-    ]
+    lawful_or_refused _ _ _ _ step.result c.self.invariant below step.ensures.done step.ensures.kept step.ensures.same
+    (λ done. erased_lawful _ c.self.invariant _ below _ _ _ _ done c.lawful.ensures)
 
 pub returns-clause-answers : goal.returns-clause-answers
 returns-clause-answers c =

@@ -1,7 +1,7 @@
-use Rattle.cell_library.proofs.Common.{◌≤◌, ℕ, List, length, refl, subst, sym, inl, inr, on_ok_weaker, UseBody, IsLawfulView, LibraryParts, seen}
-use Rattle.cell_library.proofs.Common.{with_use_at, view_at}
-use Rattle.cell_library.proofs.EditLaws.{here, kept_lawful}
-use Rattle.cell_library.proofs.FaultLaws.{ok_or_err, answers_memory}
+use Rattle.cell_library.proofs.Common.{◌≤◌, ℕ, List, length, refl, subst, sym, on_ok_weaker, UseBody, IsLawfulView, LibraryParts, seen, with_use_at}
+use Rattle.cell_library.proofs.Common.{view_at}
+use Rattle.cell_library.proofs.EditLaws.{here, lawful_or_kept}
+use Rattle.cell_library.proofs.FaultLaws.{answers_memory, on_any_err}
 use Rattle.cell_library.proofs.PutBackUses.{may_insert, inserted_view, inserted_lawful, made_unrefused}
 use Rattle.cell_library.proofs.UseEdits.{uses_here}
 use Rattle.cell_library.proofs.library.Library.insert_use.Goals as goal
@@ -22,10 +22,8 @@ invariant_of-self c =
     let view = subst (λ (l : LibraryParts). IsLawfulView (with_use_at (seen l) c.args.cell.0 c.args.at c.args.id c.args.used)) (sym c.self.view_is)
     c.requires.lawful in
     let step = c.insert_use-done in
-    elim (ok_or_err _ _ step.result step.ensures.done step.ensures.same) [
-      | inl done ↦ inserted_lawful _ c.self.invariant _ below _ _ _ view _ done c.lawful.ensures
-      | inr kept ↦ kept_lawful _ _ _ c.self.invariant refl kept
-    ]
+    lawful_or_kept _ _ _ step.result c.self.invariant step.ensures.done (on_any_err _ step.result refl) step.ensures.same
+    (λ done. inserted_lawful _ c.self.invariant _ below _ _ _ view _ done c.lawful.ensures)
 
 pub returns-clause-answers : goal.returns-clause-answers
 returns-clause-answers c =

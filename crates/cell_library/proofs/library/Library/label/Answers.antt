@@ -1,6 +1,6 @@
-use Rattle.cell_library.proofs.Common.{◌<◌, length, subst, sym, inl, inr, IfSome, on_ok_weaker, LibraryParts}
-use Rattle.cell_library.proofs.EditLaws.{here, kept_lawful, seen_cells}
-use Rattle.cell_library.proofs.FaultLaws.{ok_or_err, both_err, answers_memory}
+use Rattle.cell_library.proofs.Common.{◌<◌, length, subst, sym, IfSome, on_ok_weaker, LibraryParts}
+use Rattle.cell_library.proofs.EditLaws.{here, lawful_or_kept, seen_cells}
+use Rattle.cell_library.proofs.FaultLaws.{answers_memory}
 use Rattle.cell_library.proofs.OwnEdits.{label_fault, labelled_seen, labelled_lawful, labelled_unrefused}
 use Rattle.cell_library.proofs.library.Library.label.Goals as goal
 
@@ -9,10 +9,8 @@ invariant_of-self c =
     let below = here c.self.view_is c.requires.cell in
     let layer = subst (λ (l : LibraryParts). IfSome c.args.label.layer (λ layer. layer.0 < length l.tech.layers)) (sym c.self.view_is) c.requires.layer in
     let step = c.label_cell-done in
-    elim (ok_or_err _ _ step.result step.ensures.done (both_err _ _ step.result step.ensures.kept step.ensures.same)) [
-      | inl done ↦ labelled_lawful _ c.self.invariant _ below _ _ _ done c.lawful.ensures layer c.requires.position c.requires.text
-      | inr kept ↦ kept_lawful _ _ _ c.self.invariant kept.0 kept.1
-    ]
+    lawful_or_kept _ _ _ step.result c.self.invariant step.ensures.done step.ensures.kept step.ensures.same
+    (λ done. labelled_lawful _ c.self.invariant _ below _ _ _ done c.lawful.ensures layer c.requires.position c.requires.text)
 
 pub returns-clause-answers : goal.returns-clause-answers
 returns-clause-answers c =

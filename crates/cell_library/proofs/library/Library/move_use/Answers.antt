@@ -1,7 +1,7 @@
-use Rattle.cell_library.proofs.Common.{refl, inl, inr, to_z-of_z, on_ok_weaker}
+use Rattle.cell_library.proofs.Common.{refl, to_z-of_z, on_ok_weaker}
 use mir.Syntax.{w64}
-use Rattle.cell_library.proofs.EditLaws.{here, kept_lawful, seen_cells}
-use Rattle.cell_library.proofs.FaultLaws.{ok_or_err, answers_only}
+use Rattle.cell_library.proofs.EditLaws.{here, lawful_or_kept, seen_cells}
+use Rattle.cell_library.proofs.FaultLaws.{answers_only, on_any_err}
 use Rattle.cell_library.proofs.MoveEdits.{move_fault, moved_seen, moved_lawful, moved_unrefused}
 use Rattle.cell_library.proofs.library.Library.move_use.Goals as goal
 
@@ -10,10 +10,8 @@ invariant_of-self c =
     let below = here c.self.view_is c.requires.cell in
     let step = c.move_use-done in
     let did = rw (to_z-of_z w64 c.args.dx c.ranges.dx) at (rw (to_z-of_z w64 c.args.dy c.ranges.dy) at step.ensures.done) in
-    elim (ok_or_err _ _ step.result did step.ensures.same) [
-      | inl done ↦ moved_lawful _ c.self.invariant _ below _ c.args.dx c.args.dy _ done c.lawful.ensures
-      | inr kept ↦ kept_lawful _ _ _ c.self.invariant refl kept
-    ]
+    lawful_or_kept _ _ _ step.result c.self.invariant did (on_any_err _ step.result refl) step.ensures.same
+    (λ done. moved_lawful _ c.self.invariant _ below _ c.args.dx c.args.dy _ done c.lawful.ensures)
 
 pub returns-clause-answers : goal.returns-clause-answers
 returns-clause-answers c =

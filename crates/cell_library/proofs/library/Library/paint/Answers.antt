@@ -1,6 +1,6 @@
-use Rattle.cell_library.proofs.Common.{◌<◌, length, subst, sym, inl, inr, on_ok_weaker, on_err_weaker, LibraryParts}
-use Rattle.cell_library.proofs.EditLaws.{here, refused_same, refused_lawful, seen_cells}
-use Rattle.cell_library.proofs.FaultLaws.{ok_or_err, both_err, answers_memory}
+use Rattle.cell_library.proofs.Common.{◌<◌, length, subst, sym, on_ok_weaker, on_err_weaker, LibraryParts}
+use Rattle.cell_library.proofs.EditLaws.{here, refused_same, lawful_or_refused, seen_cells}
+use Rattle.cell_library.proofs.FaultLaws.{both_err, answers_memory}
 use Rattle.cell_library.proofs.PaintEdits.{paint_fault, painted_seen, painted_lawful, painted_unrefused}
 use Rattle.cell_library.proofs.library.Library.paint.Goals as goal
 
@@ -9,10 +9,8 @@ invariant_of-self c =
     let below = here c.self.view_is c.requires.cell in
     let layer = subst (λ (l : LibraryParts). c.args.layer.0 < length l.tech.layers) (sym c.self.view_is) c.requires.layer in
     let step = c.paint_cell-done in
-    elim (ok_or_err _ _ step.result step.ensures.done (both_err _ _ step.result step.ensures.kept step.ensures.same)) [
-      | inl done ↦ painted_lawful _ c.self.invariant _ below _ layer _ c.sound.ensures _ _ done c.lawful.ensures
-      | inr kept ↦ refused_lawful _ _ _ _ c.self.invariant below kept.0 kept.1
-    ]
+    lawful_or_refused _ _ _ _ step.result c.self.invariant below step.ensures.done step.ensures.kept step.ensures.same
+    (λ done. painted_lawful _ c.self.invariant _ below _ layer _ c.sound.ensures _ _ done c.lawful.ensures)
 
 pub returns-clause-answers : goal.returns-clause-answers
 returns-clause-answers c =

@@ -1,6 +1,6 @@
-use Rattle.cell_library.proofs.Common.{refl, inl, inr, on_ok_weaker}
-use Rattle.cell_library.proofs.EditLaws.{here, kept_lawful}
-use Rattle.cell_library.proofs.FaultLaws.{ok_or_err, answers_memory}
+use Rattle.cell_library.proofs.Common.{refl, on_ok_weaker}
+use Rattle.cell_library.proofs.EditLaws.{here, lawful_or_kept}
+use Rattle.cell_library.proofs.FaultLaws.{answers_memory, on_any_err}
 use Rattle.cell_library.proofs.UseEdits.{place_fault, placed_view, placed_lawful, placed_unrefused}
 use Rattle.cell_library.proofs.library.Library.place.Goals as goal
 
@@ -9,10 +9,8 @@ invariant_of-self c =
     let below = here c.self.view_is c.requires.cell in
     let child = here c.self.view_is c.requires.child in
     let step = c.place_use-done in
-    elim (ok_or_err _ _ step.result step.ensures.done step.ensures.same) [
-      | inl done ↦ placed_lawful _ c.self.invariant _ below _ child _ _ _ done c.lawful.ensures c.requires.id
-      | inr kept ↦ kept_lawful _ _ _ c.self.invariant refl kept
-    ]
+    lawful_or_kept _ _ _ step.result c.self.invariant step.ensures.done (on_any_err _ step.result refl) step.ensures.same
+    (λ done. placed_lawful _ c.self.invariant _ below _ child _ _ _ done c.lawful.ensures c.requires.id)
 
 pub returns-clause-answers : goal.returns-clause-answers
 returns-clause-answers c =

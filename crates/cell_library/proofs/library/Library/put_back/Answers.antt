@@ -1,7 +1,7 @@
-use Rattle.cell_library.proofs.Common.{ℕ, length, refl, subst, sym, inl, inr, on_ok_weaker, on_err_weaker, IsSoundPaint, with_pieces, CanStandIn}
-use Rattle.cell_library.proofs.Common.{IsLawfulView, LibraryParts, seen, repainted, view_at}
-use Rattle.cell_library.proofs.EditLaws.{here, refused_same, refused_lawful, seen_cells}
-use Rattle.cell_library.proofs.FaultLaws.{ok_or_err, both_err, answers_memory}
+use Rattle.cell_library.proofs.Common.{ℕ, length, refl, subst, sym, on_ok_weaker, on_err_weaker, IsSoundPaint, with_pieces, CanStandIn, IsLawfulView}
+use Rattle.cell_library.proofs.Common.{LibraryParts, seen, repainted, view_at}
+use Rattle.cell_library.proofs.EditLaws.{here, refused_same, lawful_or_refused, seen_cells}
+use Rattle.cell_library.proofs.FaultLaws.{both_err, answers_memory}
 use Rattle.cell_library.proofs.OwnRestorations.{has_room, nothing_refused, put_seen, put_lawful, sound_here}
 use Rattle.cell_library.proofs.PaintEdits.{held_lawful, own_is}
 use Rattle.cell_library.proofs.library.Library.put_back.Goals as goal
@@ -31,10 +31,8 @@ pub invariant_of-self : goal.invariant_of-self
 invariant_of-self c =
     let below = here c.self.view_is c.requires.cell in
     let step = c.put_back_cell-done in
-    elim (ok_or_err _ _ step.result step.ensures.done (both_err _ _ step.result step.ensures.kept step.ensures.same)) [
-      | inl done ↦ put_lawful _ c.self.invariant _ below _ _ _ _ done c.lawful.ensures
-      | inr kept ↦ refused_lawful _ _ _ _ c.self.invariant below kept.0 kept.1
-    ]
+    lawful_or_refused _ _ _ _ step.result c.self.invariant below step.ensures.done step.ensures.kept step.ensures.same
+    (λ done. put_lawful _ c.self.invariant _ below _ _ _ _ done c.lawful.ensures)
 
 pub returns-clause-answers : goal.returns-clause-answers
 returns-clause-answers c =

@@ -1,7 +1,7 @@
-use Rattle.cell_library.proofs.Common.{ℕ, List, refl, subst, sym, inl, inr, IsTrue, on_ok_weaker, UseBody, IsLawfulView, LibraryParts, seen, has_id}
-use Rattle.cell_library.proofs.Common.{regridded, view_at}
-use Rattle.cell_library.proofs.EditLaws.{here, kept_lawful}
-use Rattle.cell_library.proofs.FaultLaws.{ok_or_err, answers_only}
+use Rattle.cell_library.proofs.Common.{ℕ, List, refl, subst, sym, IsTrue, on_ok_weaker, UseBody, IsLawfulView, LibraryParts, seen, has_id, regridded}
+use Rattle.cell_library.proofs.Common.{view_at}
+use Rattle.cell_library.proofs.EditLaws.{here, lawful_or_kept}
+use Rattle.cell_library.proofs.FaultLaws.{answers_only, on_any_err}
 use Rattle.cell_library.proofs.PutBackUses.{may_regrid, regridded_view, regridded_library, made_unrefused}
 use Rattle.cell_library.proofs.UseEdits.{uses_here}
 use Rattle.cell_library.proofs.library.Library.set_grid.Goals as goal
@@ -21,10 +21,8 @@ pub invariant_of-self : goal.invariant_of-self
 invariant_of-self c =
     let below = here c.self.view_is c.requires.cell in
     let step = c.regrid-done in
-    elim (ok_or_err _ _ step.result step.ensures.done step.ensures.same) [
-      | inl done ↦ regridded_library _ c.self.invariant _ below _ _ _ done c.lawful.ensures
-      | inr kept ↦ kept_lawful _ _ _ c.self.invariant refl kept
-    ]
+    lawful_or_kept _ _ _ step.result c.self.invariant step.ensures.done (on_any_err _ step.result refl) step.ensures.same
+    (λ done. regridded_library _ c.self.invariant _ below _ _ _ done c.lawful.ensures)
 
 pub returns-clause-answers : goal.returns-clause-answers
 returns-clause-answers c =

@@ -1,6 +1,6 @@
-use Rattle.cell_library.proofs.Common.{List, refl, subst, sym, inl, inr, on_ok_weaker, Label, IsLawfulView, LibraryParts, seen, relabelled}
-use Rattle.cell_library.proofs.EditLaws.{here, kept_lawful, seen_cells}
-use Rattle.cell_library.proofs.FaultLaws.{ok_or_err, both_err, answers_only}
+use Rattle.cell_library.proofs.Common.{List, refl, subst, sym, on_ok_weaker, Label, IsLawfulView, LibraryParts, seen, relabelled}
+use Rattle.cell_library.proofs.EditLaws.{here, lawful_or_kept, seen_cells}
+use Rattle.cell_library.proofs.FaultLaws.{answers_only}
 use Rattle.cell_library.proofs.OwnRestorations.{has_room, lawful_labels, nothing_refused, relabelled_seen, relabelled_lawful}
 use Rattle.cell_library.proofs.library.Library.set_labels.Goals as goal
 
@@ -14,11 +14,9 @@ invariant_of-self c =
     let below = here c.self.view_is c.requires.cell in
     let view = subst (λ (l : LibraryParts). IsLawfulView (relabelled (seen l) c.args.cell.0 c.args.labels.items)) (sym c.self.view_is) c.requires.lawful in
     let step = c.set_labels_of-done in
-    elim (ok_or_err _ _ step.result step.ensures.done (both_err _ _ step.result step.ensures.kept step.ensures.same)) [
-      | inl done ↦ relabelled_lawful _ c.self.invariant _ below (λ (old : List Label). c.args.labels.items)
-          (lawful_labels _ c.self.invariant _ below _ view) _ _ done c.lawful.ensures
-      | inr kept ↦ kept_lawful _ _ _ c.self.invariant kept.0 kept.1
-    ]
+    lawful_or_kept _ _ _ step.result c.self.invariant step.ensures.done step.ensures.kept step.ensures.same
+    (λ done. relabelled_lawful _ c.self.invariant _ below (λ (old : List Label). c.args.labels.items)
+    (lawful_labels _ c.self.invariant _ below _ view) _ _ done c.lawful.ensures)
 
 pub returns-clause-answers : goal.returns-clause-answers
 returns-clause-answers c =

@@ -1,6 +1,6 @@
-use Rattle.cell_library.proofs.Common.{inl, inr, on_ok_weaker}
-use Rattle.cell_library.proofs.EditLaws.{here, kept_lawful, seen_cells}
-use Rattle.cell_library.proofs.FaultLaws.{ok_or_err, both_err, answers_only}
+use Rattle.cell_library.proofs.Common.{on_ok_weaker}
+use Rattle.cell_library.proofs.EditLaws.{here, lawful_or_kept, seen_cells}
+use Rattle.cell_library.proofs.FaultLaws.{answers_only}
 use Rattle.cell_library.proofs.OwnEdits.{unlabel_fault, unlabelled_seen, unlabelled_lawful, unlabelled_unrefused}
 use Rattle.cell_library.proofs.PaintEdits.{own_is}
 use Rattle.cell_library.proofs.library.Library.unlabel.Goals as goal
@@ -12,10 +12,8 @@ pub invariant_of-self : goal.invariant_of-self
 invariant_of-self c =
     let below = here c.self.view_is c.requires in
     let step = c.unlabel_cell-done in
-    elim (ok_or_err _ _ step.result step.ensures.done (both_err _ _ step.result step.ensures.kept step.ensures.same)) [
-      | inl done ↦ unlabelled_lawful _ c.self.invariant _ below _ _ _ done c.lawful.ensures
-      | inr kept ↦ kept_lawful _ _ _ c.self.invariant kept.0 kept.1
-    ]
+    lawful_or_kept _ _ _ step.result c.self.invariant step.ensures.done step.ensures.kept step.ensures.same
+    (λ done. unlabelled_lawful _ c.self.invariant _ below _ _ _ done c.lawful.ensures)
 
 pub returns-clause-answers : goal.returns-clause-answers
 returns-clause-answers c =

@@ -4,38 +4,26 @@ use Rattle.cell_library.proofs.UseSums.{use_ends, use_known}
 use Rattle.cell_library.proofs.UseTreeLaws.{first_more}
 use Rattle.cell_library.proofs.use_trees.UseTree.of.Goals as goal
 
-pub box_of-requires-clause-child : goal.box_of-requires-clause-child
-box_of-requires-clause-child c =
-    (use_known c.args.tree.now c.args.cell.0 c.loop-k.k c.use_of-used.result.now c.requires.lawful c.requires.cell c.use_of-used.ensures).child
+pub box_of-requires : goal.box_of-requires
+box_of-requires c =
+    let at = use_known _ _ c.loop-k.k c.use_of-used.result.now c.requires.lawful c.requires.cell c.use_of-used.ensures in
+    record { lawful = c.requires.lawful; child = at.child; used = at.lawful }
 
-pub box_of-requires-clause-used : goal.box_of-requires-clause-used
-box_of-requires-clause-used c =
-    (use_known c.args.tree.now c.args.cell.0 c.loop-k.k c.use_of-used.result.now c.requires.lawful c.requires.cell c.use_of-used.ensures).lawful
-
-pub behind-start-requires-clause-child : goal.behind-start-requires-clause-child
-behind-start-requires-clause-child c =
-    (use_known c.args.tree.now c.args.cell.0 c.loop-k.k c.use_of-used.result.now c.requires.lawful c.requires.cell c.use_of-used.ensures).child
-
-pub behind-start-requires-clause-used : goal.behind-start-requires-clause-used
-behind-start-requires-clause-used c =
-    (use_known c.args.tree.now c.args.cell.0 c.loop-k.k c.use_of-used.result.now c.requires.lawful c.requires.cell c.use_of-used.ensures).lawful
-
-pub behind-start-requires-clause-elements : goal.behind-start-requires-clause-elements
-behind-start-requires-clause-elements c =
+pub behind-start-requires : goal.behind-start-requires
+behind-start-requires c =
     let tree = c.args.tree.now in
     let used = c.use_of-used.result.now in
     let at = use_known tree c.args.cell.0 c.loop-k.k used c.requires.lawful c.requires.cell c.use_of-used.ensures in
-    subst (λ (start : UseStart). start.elements + length (displacements used.grid) ≤ MOST_ELEMENTS_BELOW) (sym c.loop-k.invariant.start_is)
-    (use_ends tree c.args.cell.0 c.loop-k.k used c.requires.lawful c.requires.cell at).elements
-
-pub behind-start-requires-clause-standing : goal.behind-start-requires-clause-standing
-behind-start-requires-clause-standing c =
-    let tree = c.args.tree.now in
-    let used = c.use_of-used.result.now in
-    let at = use_known tree c.args.cell.0 c.loop-k.k used c.requires.lawful c.requires.cell c.use_of-used.ensures in
-    subst (λ (start : UseStart). start.standing + length (displacements used.grid) * (size_at tree.sizes used.child.0).elements
-    ≤ MOST_ELEMENTS_BELOW) (sym c.loop-k.invariant.start_is)
-    (use_ends tree c.args.cell.0 c.loop-k.k used c.requires.lawful c.requires.cell at).standing
+    let ends = use_ends tree c.args.cell.0 c.loop-k.k used c.requires.lawful c.requires.cell at in
+    record {
+      lawful = c.requires.lawful;
+      child = at.child;
+      used = at.lawful;
+      elements = subst (λ (start : UseStart). start.elements + length (displacements used.grid) ≤ MOST_ELEMENTS_BELOW)
+          (sym c.loop-k.invariant.start_is) ends.elements;
+      standing = subst (λ (start : UseStart). start.standing + length (displacements used.grid) * (size_at tree.sizes used.child.0).elements
+          ≤ MOST_ELEMENTS_BELOW) (sym c.loop-k.invariant.start_is) ends.standing;
+    }
 
 pub loop-k-preserved : goal.loop-k-preserved
 loop-k-preserved c =
